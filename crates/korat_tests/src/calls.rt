@@ -1,7 +1,7 @@
-// What a call answers and writes over files and outputs in memory, in small steps; the words that it is started with.
+// The answer and the output of a call over files and outputs in memory, in small steps; the words that it is started with.
 
 use crate::samples::{CELL, COUNTED, COUNTER, FIN, LISTED};
-use korat_calls::{Call, Ended, Given, Written, ends, started};
+use crate::{Call, Ended, Given, Written, ends, started};
 use kr_base::NoMemory;
 use std::alloc::AllocError;
 use std::test::Fail;

@@ -1,6 +1,6 @@
-// What the demo answers, over files of which no read goes well: it reads none. And its texts.
+// The demo's answers, over files of which every read fails: it reads none. And its texts.
 
-use korat_calls::{Call, ends};
+use crate::{Call, ends};
 use kr_demo::{demo_finitization, demo_source};
 use std::test::Fail;
 

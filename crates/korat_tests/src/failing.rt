@@ -1,7 +1,7 @@
-// Reads and puts that fail, and outputs that are full. One worker or many: what was written is a front of the report.
+// Reads and writes that fail, and outputs that are full. By one worker or many, the output is a front of the report.
 
 use crate::samples::{CELL, FIN, LISTED, NODES, NODES_FIN, NODES_LISTED};
-use korat_calls::{Call, ends};
+use crate::{Call, ends};
 use kr_base::NoMemory;
 use std::alloc::Global;
 use std::sync::Wait;
@@ -10,7 +10,7 @@ use std::thread::Threads;
 
 #[test]
 fn failing_puts(rt: HostRuntime) -> Result<(), Fail> {
-    // The second put of a listing, and the texts of each other status, cut short.
+    // The second write of a listing, and the texts of each other status, cut short.
     let files = [("fin.toml", FIN), ("Cell.java", CELL)];
     for (words, room, step, failing, front) in [
         ("list fin.toml Cell.java", 1024, 4, 2, "0.1 "),
@@ -69,7 +69,7 @@ fn failing_reads(rt: HostRuntime) -> Result<(), Fail> {
     Ok(())
 }
 
-/// Whether a listing of the nodes whose put behind so many fails, each of one byte, has written these, or all there is.
+/// Whether a listing of the nodes whose write after so many fails, each of one byte, has written these, or all there is.
 fn is_cut_off<W: Threads + Wait + Sync>(
     rt: &W,
     alloc: Global,
@@ -90,7 +90,7 @@ fn is_cut_off<W: Threads + Wait + Sync>(
     }
 }
 
-/// Each put in turn where one worker lists, some where many do.
+/// Each write in turn where one worker lists, some where many do.
 #[test]
 fn each_put_fails(rt: HostRuntime) -> Result<(), Fail> {
     for puts in 0..=NODES_LISTED.len() {

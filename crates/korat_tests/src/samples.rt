@@ -8,7 +8,7 @@ pub(crate) const FIN: &str =
 
 pub(crate) const LISTED: &str = "0.1 Cell#0{v=1}\n0.2 Cell#0{v=2}\nvalid 2 tried 3\n";
 
-/// It counts up to 2, and says that it always does.
+/// It counts up to 2, and states that it always does.
 pub(crate) const COUNTER: &str =
     "class Cell { int v; boolean repOk() { return v < 9; }\n//@ ensures v == \\old(v) + 1;\nvoid inc() { if (v < 2) v = v + 1; } }";
 

@@ -1,7 +1,7 @@
-// Windows and pools: whatever is asked of them, the bytes are one worker's.
+// Windows and pools: with any of them, the bytes are one worker's.
 
 use crate::samples::{CELL, COUNTED, COUNTER, FIN, LISTED};
-use korat_calls::{Call, ends};
+use crate::{Call, ends};
 use std::test::Fail;
 
 #[test]
@@ -45,8 +45,8 @@ fn tests_of_a_method(rt: HostRuntime) -> Result<(), Fail> {
     Ok(())
 }
 
-/// Where more rows come than are wanted, they end with `more`, in each pool. Of one worker who tells its steps: one part, and all
-/// its rows are taken out at once.
+/// Where there are more rows than are wanted, they end with `more`, in each pool. One worker that logs its steps: one part, and
+/// all its rows are taken out at once.
 #[test]
 fn limits_and_steps(rt: HostRuntime) -> Result<(), Fail> {
     let files = [("fin.toml", FIN), ("Cell.java", CELL)];

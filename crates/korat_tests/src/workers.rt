@@ -1,7 +1,7 @@
-// A listing by two workers who meet behind their first leases: neither works alone, and the bytes are one worker's.
+// A listing by two workers who meet after their first leases: neither works alone, and the bytes are one worker's.
 
 use crate::samples::{CELL, FIN, LISTED};
-use korat_calls::{Call, Ended, Written, ended};
+use crate::{Call, Ended, Written, ended};
 use kr_base::NoMemory;
 use kr_io::Gate;
 use std::alloc::Global;

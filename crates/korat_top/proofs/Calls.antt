@@ -37,9 +37,6 @@ not_given : (n m : ℕ) → n ≡ m → 6 ≤ m → m ≤ 8 → IsGiven n → �
 not_given n m e low high (inl h) = omega (arith, e, low, h)
 not_given n m e low high (inr h) = omega (arith, e, high, h)
 
-pub low_given : (n : ℕ) → n < 6 → IsGiven n
-low_given n h = inl h
-
 module _ (before after : Outside) (status : ℕ) where
   -- an answer's status
   given_end : (command : Command) (answer : Answer)
@@ -73,7 +70,7 @@ module _ (before after : Outside) (status : ℕ) where
     memory = λ f. absurd (omega (arith, e, f));
   }
 
-  -- want of memory
+  -- out of memory
   memory_end : (asked : Option Command) (rows : List ℕ)
       → (IsTold before.held asked → IsFront before.held asked rows) → after.read_faults ≡ before.read_faults → Wrote before after (rows ++ memory_text) → status ≡ 8
       → EndsFor asked before after status
@@ -135,7 +132,7 @@ module _ (before after : Outside) (status : ℕ) where
   }
   put_read_fault command name (Err v) read named cause x e = fault_end (Some command) (read_fault_text name) (λ _. inr (inl (command, name, refl, read, refl))) x e
 
-  -- want of memory before any row
+  -- out of memory before any row
   pub put_memory : {T E : Type 0} (asked : Option Command) (r : Result T E) → after.read_faults ≡ before.read_faults → Wrotes before after memory_text r → status ≡ (if is_ok r then 8 else 7) → EndsFor asked before after status
   put_memory asked (Ok v) reads x e = memory_end asked [] (λ _. inl refl) reads x e
   put_memory asked (Err v) reads x e = fault_end asked memory_text (λ _. inr (inr ([], inl refl, refl))) x e
@@ -185,7 +182,7 @@ split n h = elim (leb_tells n 5) [
   ]
 ]
 
--- where nothing failed, the answer was given, or memory was wanting
+-- where nothing failed, the answer was given, or memory ran out
 pub complete : (asked : Option Command) (before after : Outside) (status : ℕ) → EndsFor asked before after status → IsComplete asked before after status
 complete asked before after status x told no_read no_write = elim (split status x.known) [
   | inl low ↦ inr (x.given low told)

@@ -1,4 +1,4 @@
--- Words and files have at most one answer, but for the log behind it.
+-- Words and files have at most one answer, but for the log after it.
 use Rattle.std.proofs.Common.{◌≡◌, ◌∙◌, ◌⊎◌, ◌++◌, ℕ, List, [], ◌∷◌, Bool, true, false, ap, inl, inr, refl, subst, sym}
 use Rattle.std.specs.Prelude.{Option, Some, None, Result, Ok, Err}
 use Rattle.kr_args.specs.declared.forms.Ask.{Ask}
@@ -12,11 +12,11 @@ use Rattle.kr_report.specs.Reports.{Answer, line_answer}
 use Rattle.korat_top_files.specs.Refusals.{Refusal, files_of}
 use Rattle.korat_top_files.specs.Steps.{Held}
 use Rattle.korat_top_files.specs.OneOutcome.{HasOne, OneOutcome}
-use Rattle.kr_shard_files.specs.Files.{MergesFiles, OneMerge}
+use Rattle.kr_shard.specs.Files.{MergesFiles, OneMerge}
 use Rattle.korat_top.specs.Answer.{IsAnswer, merged, usage, refused, served, inputs_of, refusal_answer, steps_of}
 use Rattle.korat_top.specs.Ends.{AreOne, OneAnswer, traces}
 use Rattle.kr_report_streaming.specs.Followed.{followed_by}
-use Rattle.kr_report_trace.specs.Traces.{trace_text}
+use Rattle.kr_report_streaming.specs.Traces.{trace_text}
 use Rattle.korat_top_reports.specs.Reports.{Reports, ReportsAsk, is_traced, listing_of, report_of}
 
 one_steps : OneOutcome → (held : Held) (command : Command) → HasOne (steps_of held command)
@@ -60,7 +60,7 @@ nil_append : {A : Type 0} (xs : List A) → xs ≡ xs ++ []
 nil_append [] = refl
 nil_append (x ∷ xs) = ap (λ ys. x ∷ ys) (nil_append xs)
 
--- with nothing behind it an answer is as it is
+-- with nothing after it an answer is as it is
 followed_none : (answer : Answer) → answer ≡ followed_by [] answer
 followed_none answer = ap (λ (last : List ℕ). record answer { last = last }) (nil_append answer.last)
 

@@ -1,9 +1,9 @@
 -- Shards together have an answer's status.
 use Rattle.std.proofs.Common.{◌≡◌, ℕ, List, inl, arith}
 use Rattle.std.specs.Prelude.{Option, Some, None}
-use Rattle.kr_shard_reading.specs.Rows.{RowLines}
+use Rattle.kr_shard.specs.ReadRows.{RowLines}
 use Rattle.kr_shard.specs.declared.merging.Merged.{Merged}
-use Rattle.kr_shard_files.specs.Found.{merged_answer, merged_by}
+use Rattle.kr_shard.specs.Found.{merged_answer, merged_by}
 use Rattle.korat_top.specs.Ends.{IsGiven}
 
 low_by : (rows : List RowLines) (tried : ℕ) (key : Option (List ℕ)) → IsGiven (merged_by rows tried key).status

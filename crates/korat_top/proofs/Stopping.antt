@@ -1,4 +1,4 @@
--- How a call ends whose command comes to no problem.
+-- How a call ends whose command has no problem.
 use Rattle.std.proofs.Common.{◌≡◌, ℕ, List, inl, inr, refl}
 use Rattle.std.specs.Prelude.{Option, Some, None, Result, Ok, Err, is_ok, if◌then◌else◌}
 use Rattle.kr_base.specs.Told.{Writes}

@@ -7,7 +7,7 @@ use Rattle.kr_demo.specs.Texts.{source_text, finitization_text}
 use Rattle.kr_mean.specs.declared.mode.Mode.TheVariants.{List as Listing, Method as Testing}
 use Rattle.kr_mean.specs.Problem.{Problem}
 use Rattle.kr_report.specs.Reports.{Answer, line_answer}
-use Rattle.kr_shard_files.specs.Files.{MergesFiles, ReadsShards}
+use Rattle.kr_shard.specs.Files.{MergesFiles, ReadsShards}
 use Rattle.kr_report.specs.Texts.{usage_text}
 use Rattle.korat_top_files.specs.Refusals.{Inputs, Refusal, files_of, status_of_file, line_of}
 use Rattle.korat_top_files.specs.Steps.{Held, Judges, Checks, Reads}
@@ -65,7 +65,7 @@ pub data IsAnswer (held : Held) : Option Command → Answer → Type 0 where
   served : {command : Command} (problem : Problem) (answer : Answer) → steps_of held command (Ok problem) → Reports command problem answer → IsAnswer held (Some command) answer
   merged : {files : List (List ℕ)} (answer : Answer) → MergesFiles held files answer → IsAnswer held (Some (commands.Merge files)) answer
 
--- the bytes of all files that the command reads are told
+-- the bytes of all files that the command reads are known
 abbrev pub IsTold : Held → Option Command → Type 0
 IsTold held None = Unit {0}
 IsTold held (Some command) = (file : List ℕ) → ReadsFor held command file → IsSome (held file)

@@ -13,8 +13,8 @@ use Rattle.korat_top.specs.Answer.{IsAnswer, IsTold, ReadsFor}
 
 -- ---- what is outside
 
--- What the files and the sink of a call tell at a moment: what each file holds, where that is told; how many reads failed, and
--- the name of the last one; what the sink took, where that is told; and how many writes failed.
+-- State of the files and the sink of a call: what each file holds, where that is known; how many reads failed, and
+-- the name of the last one; what the sink took, where that is known; and how many writes failed.
 pub record Outside : Type 0 where
   pub held : Held
   pub read_faults : ℕ
@@ -48,7 +48,7 @@ pub record Gives (asked : Option Command) (before after : Outside) (status : ℕ
   pub written : Wrote before after (bytes_of answer)
 
 -- A read was counted in this call as failed, of a file that the command reads: no step before that read is broken, as far
--- as bytes are told. That is all that is written.
+-- as bytes are known. That is all that is written.
 pub record TellsReadFault (asked : Option Command) (before after : Outside) : Type 0 where
   pub command : Command
   pub name : List ℕ
@@ -62,7 +62,7 @@ pub record TellsReadFault (asked : Option Command) (before after : Outside) : Ty
 abbrev pub IsFront : Held → Option Command → List ℕ → Type 0
 IsFront held asked rows = (rows ≡ []) ⊎ ((answer : Answer) × IsAnswer held asked answer × (n : ℕ) × (rows ≡ front_of answer n))
 
--- a text that a call may have begun: its answer's, or that of a read fault, or that of want of memory after some rows
+-- a text that a call may have begun: its answer's, or that of a read fault, or that of out of memory after some rows
 abbrev pub MayTell : Held → Option Command → List ℕ → Type 0
 MayTell held asked text = ((answer : Answer) × IsAnswer held asked answer × (text ≡ bytes_of answer))
     ⊎ ((command : Command) × (name : List ℕ) × (asked ≡ Some command) × ReadsFor held command name × (text ≡ read_fault_text name))
@@ -83,9 +83,9 @@ pub record TellsMemory (asked : Option Command) (before after : Outside) : Type 
 -- How a call ends whose words ask for this, by what is outside before and after it.
 pub record EndsFor (asked : Option Command) (before after : Outside) (status : ℕ) : Type 0 where
   pub known : status ≤ 9
-  -- 0 to 5, and 9: where the files' bytes are told, it is the answer's status, with exactly its bytes
+  -- 0 to 5, and 9: where the files' bytes are known, it is the answer's status, with exactly its bytes
   pub given : IsGiven status → IsTold before.held asked → Gives asked before after status
-  -- 2, whatever is told of the files: only the words give no command, and such words end with 2, 7 or 8
+  -- 2, whatever is known of the files: only the words give no command, and such words end with 2, 7 or 8
   pub usage : status ≡ 2 → asked ≡ None
   pub no_command : asked ≡ None → (status ≡ 2) ⊎ (status ≡ 7) ⊎ (status ≡ 8)
   -- 6: a counted read fault, and its name alone
@@ -96,10 +96,10 @@ pub record EndsFor (asked : Option Command) (before after : Outside) (status : �
   pub no_write_fault : (status ≡ 7 → ⊥) → after.write_faults ≡ before.write_faults
   pub no_read_fault : (status ≡ 6 → ⊥) → (status ≡ 7 → ⊥) → after.read_faults ≡ before.read_faults
   pub front : status ≡ 7 → IsTold before.held asked → BeginsText asked before after
-  -- 8: want of memory, after rows
+  -- 8: out of memory, after rows
   pub memory : status ≡ 8 → TellsMemory asked before after
 
--- Where the files' bytes are told and no count rose, the call ends with its answer, or with want of memory.
+-- Where the files' bytes are known and no count rose, the call ends with its answer, or out of memory.
 abbrev pub IsComplete : Option Command → Outside → Outside → ℕ → Type 0
 IsComplete asked before after status =
     IsTold before.held asked → (Rose before.read_faults after.read_faults → ⊥) → (Rose before.write_faults after.write_faults → ⊥)
@@ -110,11 +110,11 @@ abbrev pub traces : Option Command → Bool
 traces None = false
 traces (Some command) = is_traced command
 
--- two answers are one; with `--trace` they are one report, each with what stands behind it
+-- two answers are one; with `--trace` they are one report, each with its log
 abbrev pub AreOne : Bool → Answer → Answer → Type 0
 AreOne false one other = one ≡ other
 AreOne true one other = (report : Answer) × (a : List ℕ) × (b : List ℕ) × (one ≡ followed_by a report) × (other ≡ followed_by b report)
 
--- Words and files have at most one answer, but for the log behind it.
+-- Words and files have at most one answer, but for the log after it.
 abbrev pub OneAnswer : Type 0
 OneAnswer = (held : Held) (asked : Option Command) (one other : Answer) → IsAnswer held asked one → IsAnswer held asked other → AreOne (traces asked) one other

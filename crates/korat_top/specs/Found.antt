@@ -10,7 +10,7 @@ use Rattle.korat_top_files.specs.declared.refusal.Stop.{Stop}
 use Rattle.korat_top_files.specs.declared.refusal.Stop.TheVariants.{Read, Refused, Memory}
 use Rattle.korat_top.specs.Answer.{IsTold, ReadsFor, inputs_of, steps_of}
 
--- what the steps of a command say of what the files hold, where it is told; or a read fault; or want of memory, which is free
+-- what the steps of a command say of what the files hold, where it is known; or a read fault; or out of memory, which is always allowed
 abbrev pub Finds : {F : Type 0} → (F → Held) → (F → ℕ) → (F → Option (List ℕ)) → Command → F → F → Result Problem Stop → Type 0
 Finds held faults last command files files' (Ok f) = IsTold (held files) (Some command) → steps_of (held files) command (Ok (posed f))
 Finds held faults last command files files' (Err (Refused r)) = IsTold (held files) (Some command) → steps_of (held files) command (Err (refusal_of r))

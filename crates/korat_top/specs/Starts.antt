@@ -17,7 +17,7 @@ use Rattle.korat_top.specs.declared.given.NoWords.TheVariants.{NotText, Memory}
 abbrev pub Given : Type 0
 Given = Result (IntoIter (String Global) Global) Error
 
--- the words are those behind the program's own name
+-- the words are those after the program's own name
 abbrev pub IsGiven : Given → List (List ℕ) → Type 0
 IsGiven (Ok all) words = words ≡ drop 1 (map string_bytes (into_iter_items all))
 IsGiven (Err error) words = ⊥
@@ -35,7 +35,7 @@ pub record Serves (asked : Option Command) (before after : Outside) (status : �
   pub headline : EndsFor asked before after status
   pub complete : IsComplete asked before after status
 
--- nothing is read or written, and the status is that of want of memory
+-- nothing is read or written, and the status is that of out of memory
 pub record EndsUnread {F K : Type 0} (files files' : F) (out out' : K) (status : ℕ) : Type 0 where
   pub status_is : status ≡ 8
   pub unread : files' ≡ files

@@ -2,9 +2,9 @@
 ghost use Rattle.korat_top.specs.Ends.{OneAnswer};
 
 use korat_top_files::one_outcome;
-use kr_shard_files::one_merge;
+use kr_shard::one_merge;
 
-/// Words and files have at most one answer, but for the log behind it.
+/// Words and files have at most one answer, but for the log after it.
 pub fn one_answer()
     ensures { OneAnswer }
 {

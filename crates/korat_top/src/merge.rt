@@ -6,7 +6,7 @@ ghost use Rattle.korat_top.specs.Ends.{EndsFor, seen};
 use kr_base::{Sink, Words};
 use kr_io::Files;
 use kr_report::{once_written, put_out_of_memory, put_read_fault};
-use kr_shard_files::{MergeStop, find_merged, name_at, put_fault, put_merged, status_of};
+use kr_shard::{MergeStop, find_merged, name_at, put_fault, put_merged, status_of};
 use std::alloc::Global;
 
 /// Serves `merge`.

@@ -9,7 +9,7 @@ use kr_args::forms::Command;
 use kr_base::Sink;
 use kr_report::{once_written, put_out_of_memory, put_read_fault};
 
-/// Puts why a command has no problem: a refusal, a read fault, or want of memory. Says the status.
+/// Writes why a command has no problem: a refusal, a read fault, or out of memory. Returns the status.
 pub(crate) fn put_stop<K: Sink>(command: &Command, stop: &Stop, out: &mut K) -> u8
     ensures { PutsText K.taken K.faults (stop_text (inputs_of command.now) stop.now) (stop_status stop.now) out.old out.new result }
 {

@@ -150,8 +150,8 @@ fn judge_from_purity(alloc: Global, problem: Problem) -> Result<Accepted, Stop>
     requires small { length (slots (posed problem)) ≤ 4096 }
     ensures judged { Meets (from_problem (posed problem)) posed result }
 {
-    pure(alloc, &problem)?;
-    Ok(Accepted::new(problem))
+    let subject = pure(alloc, &problem)?;
+    Ok(Accepted::new(problem, subject))
 }
 
 fn judge_from_posing(

@@ -11,14 +11,14 @@ use Rattle.kr_report.specs.Reports.{lines}
 use Rattle.kr_shard.specs.Answers.{joined_answer}
 use Rattle.kr_shard.specs.Merging.{in_order, numbered}
 use Rattle.kr_shard.specs.declared.merging.MergeRefusal.{MergeRefusal}
-use Rattle.kr_shard_reading.specs.Shards.{shard_of}
-use Rattle.kr_shard_reading.specs.Texts.{first_text}
-use Rattle.kr_shard_reading.specs.declared.shard.Shard.{Shard}
-use Rattle.kr_shard_back.specs.Listings.{MOST_BYTES, listing_in, shard_text}
-use Rattle.kr_shard_files.specs.Files.{and_later, and_shard, answer_by, judged, refused_as, shards_in, unless_fault}
-use Rattle.kr_shard_files.specs.Texts.{long_text}
-use Rattle.kr_shard_listing.specs.Theorem.{ComesTo}
-use Rattle.kr_shard_problem.proofs.Accepted.{shards}
+use Rattle.kr_shard.specs.Shards.{shard_of}
+use Rattle.kr_shard.specs.Texts.{first_text}
+use Rattle.kr_shard.specs.declared.shard.Shard.{Shard}
+use Rattle.kr_shard_laws.specs.Listings.{MOST_BYTES, listing_in, shard_text}
+use Rattle.kr_shard.specs.Files.{and_later, and_shard, answer_by, judged, refused_as, shards_in, unless_fault}
+use Rattle.kr_shard.specs.Faults.{long_text}
+use Rattle.kr_shard_laws.specs.Theorem.{ComesTo}
+use Rattle.kr_shard_laws.proofs.Accepted.{shards}
 use Rattle.korat_top_files.specs.Steps.{Held}
 use Rattle.korat_top_laws.specs.Laws.{HoldShards, MergedLaw, WrittenLaw}
 use Rattle.korat_top_laws.proofs.Accepted.{checked}

@@ -9,10 +9,10 @@ use Rattle.kr_mean.specs.declared.mode.Mode.{Mode}
 use Rattle.kr_mean.specs.declared.mode.Mode.TheVariants.{List as Listing}
 use Rattle.kr_report.specs.Reports.{Answer, bytes_of}
 use Rattle.kr_laws_never_stuck.specs.NeverStuck.{IsAccepted}
-use Rattle.kr_shard_reading.specs.Texts.{first_text}
-use Rattle.kr_shard_back.specs.Listings.{MOST_BYTES, listing_in, shard_text}
-use Rattle.kr_shard_files.specs.Files.{MergesFiles}
-use Rattle.kr_shard_listing.specs.Spans.{Adjoin, IsInAnyOrder}
+use Rattle.kr_shard.specs.Texts.{first_text}
+use Rattle.kr_shard_laws.specs.Listings.{MOST_BYTES, listing_in, shard_text}
+use Rattle.kr_shard.specs.Files.{MergesFiles}
+use Rattle.kr_shard_laws.specs.Spans.{Adjoin, IsInAnyOrder}
 use Rattle.korat_top_files.specs.Refusals.{Inputs}
 use Rattle.korat_top_files.specs.Steps.{Checks, Held, Judges}
 

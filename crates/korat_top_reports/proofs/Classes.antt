@@ -4,7 +4,7 @@ use Rattle.std.proofs.lemmas.List.{length-map}
 use Rattle.kr_classes_table.specs.Table.{Heading, classes_from, table_of}
 use Rattle.kr_types.specs.declared.program.Program.{Program}
 use Rattle.kr_types.specs.Programs.{IsProgram}
-use Rattle.kr_space_problem.specs.Posed.{table}
+use Rattle.kr_code_members.specs.Nodes.{table}
 
 from_headings : (all : List Heading) (k : ℕ) (hs : List Heading) → length (classes_from all k hs) ≡ length hs
 from_headings all k [] = refl

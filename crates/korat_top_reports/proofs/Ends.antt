@@ -1,8 +1,7 @@
--- How a listing ends that is one line, or whose memory is wanting; and which commands search.
+-- How a listing ends that is one line; and which commands search.
 use Rattle.std.proofs.Common.{◌≡◌, ℕ, List, refl, inl, inr, arith}
 use Rattle.std.specs.Prelude.{Option, Result, Ok, Err, is_ok, if◌then◌else◌}
 use Rattle.kr_base.specs.Told.{Writes}
-use Rattle.kr_report.specs.Texts.{memory_text}
 use Rattle.kr_report.specs.Reports.{Answer, line_answer}
 use Rattle.kr_report.specs.Endings.{EndsListing}
 use Rattle.kr_args.specs.declared.forms.Command.{Command}
@@ -22,22 +21,6 @@ line_listing taken faults a b text status (Err v) x e = record {
   known = inr (inr (inr (inl e)));
   whole = λ f. absurd (omega (arith, e, f));
   fault = λ _. (text, inl refl, x);
-  memory = λ f. absurd (omega (arith, e, f));
-}
-
--- want of memory before the first row
-pub memory_listing : {K T E : Type 0} (taken : K → Option (List ℕ)) (faults : K → ℕ) (a b : K) (answer : Answer) (status : ℕ) (r : Result T E) → Writes taken faults a b memory_text r → status ≡ (if is_ok r then 8 else 7)
-    → EndsListing taken faults answer a b status
-memory_listing taken faults a b answer status (Ok v) x e = record {
-  known = inr (inr (inr (inr e)));
-  whole = λ f. absurd (omega (arith, e, f));
-  fault = λ f. absurd (omega (arith, e, f));
-  memory = λ _. (0, x);
-}
-memory_listing taken faults a b answer status (Err v) x e = record {
-  known = inr (inr (inr (inl e)));
-  whole = λ f. absurd (omega (arith, e, f));
-  fault = λ _. (memory_text, inr (0, refl), x);
   memory = λ f. absurd (omega (arith, e, f));
 }
 

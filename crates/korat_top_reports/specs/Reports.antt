@@ -1,6 +1,7 @@
 -- To be believed: what a command reports of the problem that its files pose.
 use Rattle.std.specs.Prelude.{◌≡◌, ◌≤◌, ℕ, List, [], ◌∷◌, ◌++◌, length, Bool, true, false, ◌&&◌, ◌==◌, not, Option}
 use Rattle.kr_base.specs.declared.span.Bound.TheVariants.{At, End}
+use Rattle.kr_base.specs.declared.span.Span.{Span}
 use Rattle.kr_base.specs.Entries.{entries_in}
 use Rattle.kr_args.specs.declared.forms.Ask.{Ask}
 use Rattle.kr_args.specs.declared.forms.Command.{Command}
@@ -13,9 +14,9 @@ use Rattle.kr_pool_desk.specs.Traces.{IsTrace}
 use Rattle.kr_report.specs.Endings.{EndsListing}
 use Rattle.kr_report.specs.Reports.{Answer, line_answer, listing_answer, rows_in}
 use Rattle.kr_report.specs.Texts.{checked_text}
-use Rattle.kr_report_listing.specs.Tallies.{tally_answer}
-use Rattle.kr_report_trace.specs.Traces.{trace_text}
-use Rattle.kr_shard_reading.specs.Texts.{first_text}
+use Rattle.kr_report_streaming.specs.Tallies.{tally_answer}
+use Rattle.kr_report_streaming.specs.Traces.{trace_text}
+use Rattle.kr_shard.specs.Texts.{first_text}
 
 -- the command poses a problem
 abbrev pub PosesProblem : Command → Type 0
@@ -35,15 +36,19 @@ Searches (commands.Demo n workers) = Unit {0}
 Searches (commands.Shard ask) = Unit {0}
 Searches (commands.Merge files) = ⊥
 
+-- the span that is asked for
+abbrev pub span_in : Ask → Span
+span_in ask = record { after = ask.from; upto = ask.to }
+
 -- the report of the entries above a key and not above a bound, with so many rows at most: of a test, with verdicts
 abbrev pub listing_of : Ask → Problem → Answer
 listing_of ask problem = listing_answer problem ask.limit (entries_in (At ask.from) ask.to (all_entries problem))
 
--- the same as a shard: its first line, and then the listing
+-- that listing as a shard: its first line, and then the listing
 abbrev pub shard_of : Ask → Problem → Answer
 shard_of ask problem =
     let listing = listing_of ask problem in
-    record listing { rows = first_text (record { after = ask.from; upto = ask.to }) ∷ listing.rows }
+    record listing { rows = first_text (span_in ask) ∷ listing.rows }
 
 -- that listing with the text of a log after its last line
 abbrev pub told_of : List Event → Ask → Problem → Answer
@@ -76,7 +81,7 @@ StopsBeyond ask problem log = length (rows_in (entries_in (At ask.from) ask.to (
 abbrev pub ReportsAsk : Bool → Ask → Problem → Answer → Type 0
 ReportsAsk false ask problem answer = answer ≡ listing_of ask problem
 ReportsAsk true ask problem answer =
-    (log : List Event) × IsTrace (all_entries problem) (record { after = ask.from; upto = ask.to }) ask.workers log × StopsBeyond ask problem log × (answer ≡ told_of log ask problem)
+    (log : List Event) × IsTrace (all_entries problem) (span_in ask) ask.workers log × StopsBeyond ask problem log × (answer ≡ told_of log ask problem)
 
 -- what is reported: of a listing or a test, with its trace where it is asked for
 abbrev pub Reports : Command → Problem → Answer → Type 0

@@ -2,7 +2,7 @@
 ghost use Rattle.std.specs.Prelude.{◌≡◌, IfOk};
 
 use kr_base::NoMemory;
-use kr_judge_predicate::problem_code;
+use kr_judge_code::problem_code;
 use kr_judge_prepared::{Accepted, Prepared};
 use std::alloc::Global;
 
@@ -10,6 +10,6 @@ use std::alloc::Global;
 pub fn prepare(alloc: Global, found: Accepted) -> Result<Prepared, NoMemory>
     ensures { IfOk result (λ prepared. prepared.problem ≡ found) }
 {
-    let code = problem_code(alloc, found.problem())?;
+    let code = problem_code(alloc, &found)?;
     Prepared::new(alloc, found, code)
 }

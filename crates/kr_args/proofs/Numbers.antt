@@ -1,4 +1,4 @@
--- Numbers and cuts, as they are read.
+-- Numbers and cuts, as they are parsed.
 use Rattle.std.proofs.Common.{◌≡◌, ◌<◌, ◌≤◌, ◌^◌, ℕ, Bool, true, false, ◌&&◌, List, refl, sym, ap, ◌∙◌, subst, arith, nat_le, Option, Some, None, decimal}
 use Rattle.std.specs.Prelude.{Ok, Err, if◌then◌else◌}
 use Rattle.std.specs.Str.{bytes_eq}
@@ -6,17 +6,14 @@ use Rattle.std.specs.Str.Parse.{digits_value}
 use Rattle.std.proofs.lemmas.Fmt.{decimal_is_IsNumeral}
 use Rattle.std.proofs.lemmas.Slice.Eq.{bytes_eq-Decides}
 use Rattle.std.proofs.lemmas.Bool.Decides.{nat_tests}
+use Rattle.std.proofs.lemmas.Bool.{and_parts}
 use Rattle.kr_base.specs.declared.cut.reading.CutRefusal.{CutRefusal}
 use Rattle.kr_base.specs.Parsing.{LacksNone, Parses, cut_of, OneReading, ReadingLaw}
 use Rattle.kr_args.specs.Reading.{number_in}
 
 -- ---- numbers
 
-both_true : (a b : Bool) → (a && b) ≡ true → (a ≡ true) × (b ≡ true)
-both_true true b h = (refl, h)
-both_true false b h = absurd (cc (h))
-
--- a text that is read as a number within the limits is what is written of it
+-- a text that is parsed as a number within the limits is its decimal text
 pub number_text : (low high : ℕ) (text : List ℕ) (n : ℕ) → number_in low high text ≡ Some n → (text ≡ decimal n) × (low ≤ n) × (n ≤ high)
 number_text low high text n = go (bytes_eq (decimal (digits_value 10 text)) text && (nat_le low (digits_value 10 text) && nat_le (digits_value 10 text) high)) refl
   where
@@ -25,15 +22,15 @@ number_text low high text n = go (bytes_eq (decimal (digits_value 10 text)) text
     go false is e = absurd (cc (e))
     go true is e =
         let same : digits_value 10 text ≡ n = cc (e) in
-        let first = both_true (bytes_eq (decimal (digits_value 10 text)) text) (nat_le low (digits_value 10 text) && nat_le (digits_value 10 text) high) is in
-        let rest = both_true (nat_le low (digits_value 10 text)) (nat_le (digits_value 10 text) high) first.1 in
+        let first = and_parts (bytes_eq (decimal (digits_value 10 text)) text) (nat_le low (digits_value 10 text) && nat_le (digits_value 10 text) high) is in
+        let rest = and_parts (nat_le low (digits_value 10 text)) (nat_le (digits_value 10 text) high) first.1 in
         let at_least : nat_le low (digits_value 10 text) ≡ true = rest.0 in
         let at_most : nat_le (digits_value 10 text) high ≡ true = rest.1 in
         let text_is : decimal (digits_value 10 text) ≡ text = (bytes_eq-Decides (decimal (digits_value 10 text)) text).0 first.0 in
         let own : (text ≡ decimal (digits_value 10 text)) × (low ≤ digits_value 10 text) × (digits_value 10 text ≤ high) = (sym text_is, grind (arith, nat_tests), grind (arith, nat_tests)) in
         subst (λ (k : ℕ). (text ≡ decimal k) × (low ≤ k) × (k ≤ high)) same own
 
--- what is written of a number within the limits is read as it
+-- parsing undoes writing for numbers within the limits
 pub number_read : (low high n : ℕ) (text : List ℕ) → n < 2 ^ 32 → decimal n ≡ text → low ≤ n → n ≤ high → Some n ≡ number_in low high text
 number_read low high n text fits is at_least at_most =
     let value : digits_value 10 text ≡ n = ap (digits_value 10) (sym is) ∙ (decimal_is_IsNumeral n (omega arith)).1 in
@@ -47,14 +44,14 @@ none_unless : (o : Option ℕ) → ((n : ℕ) → o ≡ Some n → ⊥) → None
 none_unless None h = refl
 none_unless (Some n) h = absurd (h n refl)
 
--- a number is read whose text is another one
+-- a parsed number with another text
 pub number_unlike : (low high n : ℕ) (text : List ℕ) → (decimal n ≡ text → ⊥) → ((m : ℕ) → m < 2 ^ 32 → text ≡ decimal m → n ≡ m) → high < 2 ^ 32 → None ≡ number_in low high text
 number_unlike low high n text other only fits = none_unless (number_in low high text) (λ m e.
     let is = number_text low high text m e in
     let small : m < 2 ^ 32 = omega (arith, is.2) in
     other (ap decimal (only m small is.0) ∙ sym is.0))
 
--- a number is read that isn't within the limits
+-- a parsed number beyond the limits
 pub number_past : (low high n : ℕ) (text : List ℕ) → decimal n ≡ text → n < 2 ^ 32 → ((low ≤ n) × (n ≤ high) → ⊥) → high < 2 ^ 32 → None ≡ number_in low high text
 number_past low high n text is fits past high_fits = none_unless (number_in low high text) (λ m e.
     let read = number_text low high text m e in
@@ -62,7 +59,7 @@ number_past low high n text is fits past high_fits = none_unless (number_in low 
     let value : n ≡ m = sym ((decimal_is_IsNumeral n (omega arith)).1) ∙ (ap (digits_value 10) (is ∙ read.0) ∙ (decimal_is_IsNumeral m (omega arith)).1) in
     past (omega (arith, read.1), omega (arith, read.2)))
 
--- no number is read
+-- no parsed number
 pub number_none : (low high : ℕ) (text : List ℕ) → ((m : ℕ) → m < 2 ^ 32 → text ≡ decimal m → ⊥) → high < 2 ^ 32 → None ≡ number_in low high text
 number_none low high text no_number fits = none_unless (number_in low high text) (λ m e.
     let is = number_text low high text m e in

@@ -1,4 +1,4 @@
--- From what clap's parse ensures to the command that the words give.
+-- From the contract of clap's parser to the command of the words.
 use Rattle.std.proofs.Common.{◌≡◌, ◌≢◌, ◌⊎◌, ◌∙◌, true, false, List, [], ◌∷◌, refl, ap, sym, subst, inl, inr, arith, Option, None}
 use Rattle.clap.specs.Words.{App, IsAmong, Kinds, Row, Text, fault_of, is_simple, is_simple_and_free, subcommand_of}
 use Rattle.clap.specs.Walk.{is_empty}
@@ -8,7 +8,7 @@ use Rattle.clap.proofs.OnLiterals.{clap_on_literals}
 use Rattle.kr_args.specs.Definition.{korat_app}
 use Rattle.kr_args.specs.Reading.{command_of, command_in}
 
--- the definition is one whose meaning clap states
+-- clap states the meaning of this definition
 pub korat_is_free : is_simple_and_free korat_app ≡ true
 unfolding clap_on_literals
 korat_is_free = refl
@@ -17,7 +17,7 @@ pub korat_is_simple : is_simple korat_app ≡ true
 unfolding clap_on_literals
 korat_is_simple = refl
 
--- a parse that succeeds gives what its command's matches say
+-- a successful parse gives the matches of the words
 pub command_at_ok : (a : App) (words : List Text) (rows : List Row) (met : Option (Text × List Row)) (own : List Row)
     → a ≡ korat_app → (is_simple_and_free a ≡ true → fault_of a words ≡ [])
     → (is_simple a ≡ true → (rows ≡ own) × (met ≡ subcommand_of a words))
@@ -32,7 +32,7 @@ some_fault : (k : ErrorKind) (ks : Kinds) → IsAmong k ks → is_empty ks ≡ f
 some_fault k [] h = absurd h
 some_fault k (x ∷ xs) h = grind arith
 
--- a parse that fails, and not for memory, is of words that give no command
+-- a failed parse, unless out of memory, is of words without a command
 pub no_command_at_err : (a : App) (words : List Text) (k : ErrorKind) → a ≡ korat_app
     → (is_simple_and_free a ≡ true → (k ≡ OutOfMemory) ⊎ IsAmong k (fault_of a words)) → k ≢ OutOfMemory → command_of words ≡ None
 unfolding command_of

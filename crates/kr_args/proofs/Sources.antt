@@ -1,12 +1,13 @@
--- A command that reads files has from one source to the most: a walk that breaks no rule has no use of their argument with
--- fewer or more, and one use alone.
-use Rattle.std.proofs.Common.{◌≡◌, ◌∙◌, ◌&&◌, ◌||◌, ◌≤◌, ◌++◌, ◌⊎◌, inl, inr, ℕ, Bool, true, false, true≢false, List, [], ◌∷◌, Option, Some, None, arith, eqb, length, nat_lt, refl, subst, sym}
+-- A command that reads files has from one source to the most: a walk that breaks no rule uses their argument once, with
+-- a count in that range.
+use Rattle.std.proofs.Common.{◌≡◌, ◌∙◌, ◌&&◌, ◌||◌, ◌≤◌, ◌++◌, inl, inr, ℕ, Bool, true, false, true≢false, List, [], ◌∷◌, Option, Some, None, arith, eqb, length, nat_lt, refl, subst, sym}
 use Rattle.std.specs.Prelude.{IfSome, codes, find, fold, if◌then◌else◌, not, option_and_then, option_map}
 use Rattle.std.specs.List.{AllByRecursion, list_all}
 use Rattle.std.specs.Option.{option_map_or}
 use Rattle.std.specs.Str.{bytes_eq}
 use Rattle.std.proofs.lemmas.Slice.Eq.{bytes_eq-Decides}
 use Rattle.std.proofs.lemmas.Bool.Decides.{nat_tests}
+use Rattle.std.proofs.lemmas.Bool.{and_parts, or_cases}
 use Rattle.clap.specs.Facts.{unwrap_or_range}
 use Rattle.clap.specs.Kinds.{Kinds, range_kinds}
 use Rattle.clap.specs.Walk.{Row, Rule, Text, action_of, all_of, answers_to, at_row, default_rows, first_of, has_row, is_empty, more_values, most_values, nothing_held, reading_by, rows_after, settled, used, used_as, values_or_missing, walk, walk_from, with_default, with_values, without}
@@ -25,19 +26,15 @@ use Rattle.kr_args.specs.declared.forms.Ask.{Ask}
 use Rattle.kr_args.specs.declared.forms.Command.TheVariants as commands
 use Rattle.kr_args.proofs.Walks.{Keeps, both_none, level_kept}
 
-both_true : (a b : Bool) → (a && b) ≡ true → (a ≡ true) × (b ≡ true)
-both_true true b h = (refl, h)
-both_true false b h = absurd (cc (h))
-
 both_false : (a b : Bool) → (a || b) ≡ false → (a ≡ false) × (b ≡ false)
 both_false true b h = absurd (cc (h))
 both_false false b h = (refl, h)
 
--- what each of a list passes is passed by what a search finds
+-- a search finds an element that passes a test that all pass
 found_passes : {X : Type 0} (test q : X → Bool) (xs : List X) (x : X) → list_all test xs ≡ true → find q xs ≡ Some x → test x ≡ true
 found_passes test q [] x all found = absurd (cc (found))
 found_passes {X} test q (y ∷ ys) x all found =
-    let each = both_true (test y) (list_all test ys) all in
+    let each = and_parts (test y) (list_all test ys) all in
     by_first (q y) (λ later. found_passes test q ys x each.1 later) each.0 found
   where
     by_first : (b : Bool) → (find q ys ≡ Some x → test x ≡ true) → test y ≡ true → (if b then Some y else find q ys) ≡ Some x → test x ≡ true
@@ -59,7 +56,7 @@ both_bounded : (rows more : List Row) → AreBounded rows → AreBounded more �
 both_bounded [] more h m = m
 both_bounded (r ∷ rows) more h m = (h.0, both_bounded rows more h.1 m)
 
--- another argument's row changes
+-- another argument's row is changed
 module _ (id : Text) (change : Row → List Row) (missing : List Row)
     (other : is_source id ≡ false) (changed : (r : Row) → is_source r.id ≡ false → AreBounded (change r)) (new : AreBounded missing) where
   other_bounded : (rows : List Row) → AreBounded rows → AreBounded (at_row id change missing rows)
@@ -72,7 +69,7 @@ module _ (id : Text) (change : Row → List Row) (missing : List Row)
           both_bounded (change r) rows (changed r (subst (λ (text : Text). is_source text ≡ false) same other)) h.1
       by_id false is later = (h.0, later)
 
--- a row comes that was not there
+-- a new row is added
 module _ (id : Text) (change : Row → List Row) (missing : List Row) (new : AreBounded missing) where
   new_bounded : (rows : List Row) → has_row id rows ≡ false → AreBounded rows → AreBounded (at_row id change missing rows)
   new_bounded [] absent h = new
@@ -129,7 +126,8 @@ flag_is actions.Version e = absurd (cc (e))
 abbrev is_ranged : Rule → Bool
 is_ranged a = eqb (unwrap_or_range a.range).start_inclusive 1 && eqb (most_values a) MOST_SOURCES
 
--- it has values, is used once at most, has no default, and if it is that of the sources, from one value to the most
+-- it has values, is used at most once, has no default, and, if it is that of the sources, takes from one value to the
+-- most
 abbrev is_valued : Rule → Bool
 is_valued a = is_set (action_of a) && (is_empty a.defaults && (not (is_source a.id) || is_ranged a))
 
@@ -139,10 +137,6 @@ is_switch a = is_flag (action_of a) && not (is_source a.id)
 
 abbrev is_plain : Rule → Bool
 is_plain a = is_valued a || is_switch a
-
-either : (a b : Bool) → (a || b) ≡ true → (a ≡ true) ⊎ (b ≡ true)
-either true b h = inl refl
-either false b h = inr h
 
 not_true : (a : Bool) → not a ≡ true → a ≡ false
 not_true false h = refl
@@ -188,7 +182,7 @@ set_bounded again a values rows no_more ranged range once h = by_source (is_sour
         (without a.id rows) (other_bounded a.id (λ _. []) [] is none tt rows h)
     by_source true is r =
         let absent = repeat_none (has_row a.id rows) again no_more once in
-        let ends = both_true (eqb (unwrap_or_range a.range).start_inclusive 1) (eqb (most_values a) MOST_SOURCES) r in
+        let ends = and_parts (eqb (unwrap_or_range a.range).start_inclusive 1) (eqb (most_values a) MOST_SOURCES) r in
         let within = in_range (unwrap_or_range a.range).start_inclusive (most_values a) (length values) ends.0 ends.1 range in
         new_bounded a.id (more_values CommandLine (values_or_missing a values)) (row ∷ []) ((λ s. fitting values within), tt)
         (without a.id rows) (absent_without a.id rows absent) (new_bounded a.id (λ _. []) [] tt rows absent h)
@@ -196,8 +190,8 @@ set_bounded again a values rows no_more ranged range once h = by_source (is_sour
 use_kept : (s : Shape) → not s.args_override_self ≡ true → (a : Rule) (values : List Text) (rows : List Row) → is_valued a ≡ true → use_fault s.args_override_self a values rows ≡ []
     → AreBounded rows → AreBounded (used a values rows)
 use_kept s over a values rows rule none h =
-    let first = both_true (is_set (action_of a)) (is_empty a.defaults && (not (is_source a.id) || is_ranged a)) rule in
-    let second = both_true (is_empty a.defaults) (not (is_source a.id) || is_ranged a) first.1 in
+    let first = and_parts (is_set (action_of a)) (is_empty a.defaults && (not (is_source a.id) || is_ranged a)) rule in
+    let second = and_parts (is_empty a.defaults) (not (is_source a.id) || is_ranged a) first.1 in
     let action = set_is (action_of a) first.0 in
     let once = once_only s.args_override_self over in
     let each = both_none (range_kinds (unwrap_or_range a.range).start_inclusive (most_values a) (length values)) _ none in
@@ -210,7 +204,7 @@ use_kept s over a values rows rule none h =
     once_only false e = refl
     once_only true e = absurd (true≢false (sym e))
 
--- rows of another argument come in
+-- rows of another argument are added
 other_values : (source : ValueSource) (a : Rule) (values : List Text) (rows : List Row) → is_source a.id ≡ false → AreBounded rows
     → AreBounded (with_values a.id (reading_by a) source values rows)
 other_values source a values rows is h =
@@ -222,7 +216,7 @@ other_values source a values rows is h =
 flag_bounded : (a : Rule) (values : List Text) (rows : List Row) → is_switch a ≡ true → AreBounded rows
     → AreBounded (used_as (action_of a) a.id (reading_by a) (values_or_missing a values) rows)
 flag_bounded a values rows switch h =
-    let both = both_true (is_flag (action_of a)) (not (is_source a.id)) switch in
+    let both = and_parts (is_flag (action_of a)) (not (is_source a.id)) switch in
     let is = not_true (is_source a.id) both.1 in
     let none : (t : Row) → is_source t.id ≡ false → AreBounded [] = λ t e. tt in
     subst (λ (act : ArgAction). AreBounded (used_as act a.id (reading_by a) (values_or_missing a values) rows)) (sym (flag_is (action_of a) both.0))
@@ -231,8 +225,8 @@ flag_bounded a values rows switch h =
 -- a use that breaks no rule
 uses_kept : (s : Shape) → are_plain s ≡ true → Keeps s.rules s.args_override_self AreBounded
 uses_kept s plain a values rows of none h =
-    let shape = both_true (not s.args_override_self) (list_all is_plain s.rules) plain in
-    elim (either (is_valued a) (is_switch a) (found_passes is_plain of.0 s.rules a shape.1 of.1)) [
+    let shape = and_parts (not s.args_override_self) (list_all is_plain s.rules) plain in
+    elim (or_cases (is_valued a) (is_switch a) (found_passes is_plain of.0 s.rules a shape.1 of.1)) [
       | inl valued ↦ use_kept s shape.0 a values rows valued none h
       | inr switch ↦ flag_bounded a values rows switch h
     ]
@@ -262,22 +256,22 @@ switch_default a rows other h = by_row (has_row a.id rows)
     by_row false = by_defaults a.defaults
 
 default_bounded : (a : Rule) (rows : List Row) → is_plain a ≡ true → AreBounded rows → AreBounded (with_default rows a)
-default_bounded a rows plain h = elim (either (is_valued a) (is_switch a) plain) [
+default_bounded a rows plain h = elim (or_cases (is_valued a) (is_switch a) plain) [
   | inl valued ↦
-      let first = both_true (is_set (action_of a)) (is_empty a.defaults && (not (is_source a.id) || is_ranged a)) valued in
-      valued_default a rows (both_true (is_empty a.defaults) (not (is_source a.id) || is_ranged a) first.1).0 h
-  | inr switch ↦ switch_default a rows (not_true (is_source a.id) (both_true (is_flag (action_of a)) (not (is_source a.id)) switch).1) h
+      let first = and_parts (is_set (action_of a)) (is_empty a.defaults && (not (is_source a.id) || is_ranged a)) valued in
+      valued_default a rows (and_parts (is_empty a.defaults) (not (is_source a.id) || is_ranged a) first.1).0 h
+  | inr switch ↦ switch_default a rows (not_true (is_source a.id) (and_parts (is_flag (action_of a)) (not (is_source a.id)) switch).1) h
 ]
 
 defaults_bounded : (c : List Rule) (rows : List Row) → list_all is_plain c ≡ true → AreBounded rows → AreBounded (fold with_default rows c)
 defaults_bounded [] rows plain h = h
 defaults_bounded (a ∷ c) rows plain h =
-    let each = both_true (is_plain a) (list_all is_plain c) plain in
+    let each = and_parts (is_plain a) (list_all is_plain c) plain in
     defaults_bounded c (with_default rows a) each.1 (default_bounded a rows each.0 h)
 
 level_bounded : (s : Shape) (words : List Text) → are_plain s ≡ true → level_fault s [] nothing_held words false [] ≡ [] → AreBounded (rows_after s.rules [] words)
 level_bounded s words plain none =
-    let shape = both_true (not s.args_override_self) (list_all is_plain s.rules) plain in
+    let shape = and_parts (not s.args_override_self) (list_all is_plain s.rules) plain in
     defaults_bounded s.rules (settled s.rules (walk s.rules [] nothing_held words).held).rows shape.1
     (level_kept s [] AreBounded (uses_kept s plain) nothing_held words false [] none tt)
 

@@ -1,4 +1,4 @@
--- What a walk over words that breaks no rule keeps: whatever each use of an argument keeps that breaks none.
+-- An invariant of a walk over words that breaks no rule, kept by each use of an argument.
 use Rattle.std.proofs.Common.{◌≡◌, ◌&&◌, ℕ, zero, suc, Bool, true, false, List, [], ◌∷◌, Option, Some, None, length, refl}
 use Rattle.std.specs.Prelude.{drop, encode_utf8, find, fold, if◌then◌else◌, is_some, not, slice_get}
 use Rattle.std.specs.Option.{option_map_or}
@@ -14,11 +14,11 @@ pub both_none : (xs ys : Kinds) → or_else xs ys ≡ [] → (xs ≡ []) × (ys 
 both_none [] ys e = (refl, e)
 both_none (k ∷ ks) ys e = absurd (cc (e))
 
--- the argument is the one that a search among these finds
+-- a search among these finds the argument
 abbrev pub IsOf : List Rule → Rule → Type 0
 IsOf c a = (q : Rule → Bool) × (find q c ≡ Some a)
 
--- a use of an argument that breaks no rule keeps what holds of the rows
+-- a use of an argument that breaks no rule keeps the invariant of the rows
 abbrev pub Keeps : List Rule → Bool → (List Row → Type 0) → Type 0
 Keeps c again P = (a : Rule) (values : List Text) (rows : List Row) → IsOf c a → use_fault again a values rows ≡ [] → P rows → P (used a values rows)
 

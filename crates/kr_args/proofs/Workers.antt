@@ -1,4 +1,4 @@
--- A command that searches has from one worker to the most, and one that lists a window within its limits: they are read so.
+-- A search has from one worker to the most, and a listing a window within its limits, since they are parsed so.
 use Rattle.std.proofs.Common.{◌≡◌, ◌<◌, ◌≤◌, ℕ, Bool, true, false, List, refl, arith, Option, Some, None}
 use Rattle.std.specs.Prelude.{IfSome, codes, if◌then◌else◌, option_and_then, option_map}
 use Rattle.std.specs.Str.{bytes_eq}
@@ -8,13 +8,12 @@ use Rattle.kr_args.specs.Definition.{korat_app}
 use Rattle.kr_args.specs.Reading.{Files, Range, Sharing, ask_in, ask_with, check_in, command_in, command_of, demo_in, demo_with, files_in, flag_in, list_in, merge_in, named_in, number_in, plain_sharing_in, pool_in, range_in, shard_in, sharing_in, sharing_with, span_in, test_in, test_with, window_in, workers_in}
 use Rattle.kr_args.specs.Workers.{AreWorkers, HasWorkers, IsShared, IsWindow}
 use Rattle.kr_args.specs.declared.forms.Ask.{Ask}
-use Rattle.kr_args.specs.declared.forms.Command.{Command}
 use Rattle.kr_args.specs.declared.forms.Command.TheVariants as commands
 use Rattle.kr_args.specs.declared.forms.Pool.{Pool}
 use Rattle.kr_args.specs.declared.forms.Pool.TheVariants.{Board}
 use Rattle.kr_args.proofs.Numbers.{number_text}
 
--- a number that is read is within its limits
+-- a parsed number is within its limits
 within : (low high : ℕ) (text : Text) → IfSome (number_in low high text) (λ n. (low ≤ n) × (n ≤ high))
 within low high text = by_number (number_in low high text) refl
   where

@@ -1,10 +1,10 @@
--- To be believed: the definition of the command line, in clap's words.
+-- To be believed: the definition of the command line, in clap's terms.
 use Rattle.std.specs.Prelude.{ℕ, true, Some, codes}
 use Rattle.clap.specs.Words.{App, Rule, Text, new_app, new_rule, with_rule, with_subcommand}
 use Rattle.clap.specs.Simple.{on_top}
 use Rattle.clap.specs.declared.builder.action.ArgAction.TheVariants.{SetTrue}
 
--- one word that has to be there
+-- one required word
 abbrev pub word_rule : Text → Rule
 word_rule name = record (new_rule name) { required = true }
 
@@ -23,11 +23,11 @@ sources_rule = record (new_rule (codes "source")) {
 abbrev pub option_rule : Text → Rule
 option_rule name = record (new_rule name) { long = Some name }
 
--- `--name`, which is there or isn't
+-- `--name`, an optional flag
 abbrev pub flag_rule : Text → Rule
 flag_rule name = record (option_rule name) { action = Some SetTrue }
 
--- the most shards that are put together
+-- the most shards of a merge
 abbrev pub MOST_SHARDS : ℕ
 MOST_SHARDS = 64
 
@@ -38,19 +38,19 @@ shards_rule = record (new_rule (codes "file")) {
   range = Some (record { start_inclusive = 1; end_inclusive = MOST_SHARDS });
 }
 
--- `[--from CUT] [--to CUT]`, the span whose entries are wanted
+-- `[--from CUT] [--to CUT]`, the span of the listing
 abbrev pub with_span : App → App
 with_span command = with_rule (with_rule command (option_rule (codes "from"))) (option_rule (codes "to"))
 
--- `[--from CUT] [--to CUT] [--limit N]`, which entries are wanted
+-- `[--from CUT] [--to CUT] [--limit N]`, the range of the listing
 abbrev pub with_range : App → App
 with_range command = with_rule (with_span command) (option_rule (codes "limit"))
 
--- `[--workers N]`, how many search at once
+-- `[--workers N]`, the number of workers
 abbrev pub with_workers : App → App
 with_workers command = with_rule command (option_rule (codes "workers"))
 
--- `[--workers N] [--window N] [--pool NAME] [--trace]`, how the search is shared out
+-- `[--workers N] [--window N] [--pool NAME] [--trace]`, how the search is shared
 abbrev pub with_sharing : App → App
 with_sharing command = with_rule (with_rule (with_rule (with_workers command) (option_rule (codes "window"))) (option_rule (codes "pool"))) (flag_rule (codes "trace"))
 
@@ -82,7 +82,7 @@ shard_app = with_workers (with_span (with_rule (with_rule (new_app (codes "shard
 abbrev pub merge_app : App
 merge_app = with_rule (new_app (codes "merge")) shards_rule
 
--- no help, no version, and a command has to be there
+-- no help, no version, and a required command
 abbrev pub bare_app : App
 bare_app = on_top (λ s. record s {
   no_binary_name = true;
@@ -96,6 +96,6 @@ bare_app = on_top (λ s. record s {
 abbrev pub main_app : App
 main_app = with_subcommand (with_subcommand (with_subcommand (with_subcommand bare_app list_app.top) test_app.top) check_app.top) demo_app.top
 
--- and those on shards
+-- the commands on shards
 abbrev pub korat_app : App
 korat_app = with_subcommand (with_subcommand main_app shard_app.top) merge_app.top

@@ -1,4 +1,4 @@
--- To be believed: what words mean: clap's matches of them, read as a command.
+-- To be believed: the meaning of words: clap's matches, read as a command.
 use Rattle.std.specs.Prelude.{◌&&◌, ℕ, Bool, false, List, [], map, Option, Some, None, codes, decimal, if◌then◌else◌, option_map, option_and_then, nat_le}
 use Rattle.std.specs.Borrow.{Bor}
 use Rattle.std.specs.Str.{bytes_eq}
@@ -18,33 +18,33 @@ use Rattle.kr_args.specs.declared.forms.Command.TheVariants as commands
 
 -- ---- values
 
--- the number from low to high whose decimal text this is
+-- the number from low to high with this decimal text
 abbrev pub number_in : ℕ → ℕ → Text → Option ℕ
 number_in low high text =
     let n = digits_value 10 text in
     if bytes_eq (decimal n) text && (nat_le low n && nat_le n high) then Some n else None
 
--- the empty cut where none is given
+-- the empty cut by default
 abbrev pub from_in : Option Text → Option (List ℕ)
 from_in None = Some []
 from_in (Some text) = cut_of text
 
--- the end where none is given
+-- the end by default
 abbrev pub to_in : Option Text → Option Bound
 to_in None = Some End
 to_in (Some text) = option_map At (cut_of text)
 
--- the greatest where none is given
+-- the greatest number by default
 abbrev pub limit_in : Option Text → Option ℕ
 limit_in None = Some 4294967295
 limit_in (Some text) = number_in 1 4294967295 text
 
--- one where none is given
+-- one by default
 abbrev pub workers_in : Option Text → Option ℕ
 workers_in None = Some 1
 workers_in (Some text) = number_in 1 64 text
 
--- 4,096 where none is given
+-- 4,096 by default
 abbrev pub window_in : Option Text → Option ℕ
 window_in None = Some 4096
 window_in (Some text) = number_in 1 65536 text
@@ -52,20 +52,20 @@ window_in (Some text) = number_in 1 65536 text
 abbrev pub pool_named : Text → Option Pool
 pool_named name = if bytes_eq name (codes "deque") then Some Deque else None
 
--- the board where none is named; one that is named has no window and tells no steps
+-- the board by default; a named pool excludes a window and the list of steps
 abbrev pub pool_in : Option Text → Bool → Option Text → Option Pool
 pool_in window trace None = Some Board
 pool_in None false (Some name) = pool_named name
 pool_in _ _ (Some name) = None
 
--- whether a flag is there: clap gives it a value in any case
+-- whether a flag was given; clap gives it a value in any case
 abbrev pub flag_in : Option Text → Bool
 flag_in None = false
 flag_in (Some text) = bytes_eq text (codes "true")
 
 -- ---- matches
 
--- the files that a command reads: the finitization, and the sources
+-- the files of a command: the finitization and the sources
 abbrev pub Files : Type 0
 Files = Text × List Text
 
@@ -76,7 +76,7 @@ files_with _ _ = None
 abbrev pub files_in : List Row → Option Files
 files_in rows = files_with (first_of (codes "fin") rows) (all_of (codes "source") rows)
 
--- what is listed: the keys above the first and not above the second, and at most so many valid entries
+-- the keys above the first and not above the second, and a limit on valid entries
 abbrev pub Range : Type 0
 Range = List ℕ × Bound × ℕ
 
@@ -87,7 +87,7 @@ range_with _ _ _ = None
 abbrev pub range_in : List Row → Option Range
 range_in rows = range_with (from_in (first_of (codes "from") rows)) (to_in (first_of (codes "to") rows)) (limit_in (first_of (codes "limit") rows))
 
--- how it is shared out: how many search, how many rows they keep, by what they share, and whether it says how they did
+-- the number of workers, the window, the pool, and whether the steps of sharing are listed
 abbrev pub Sharing : Type 0
 Sharing = ℕ × ℕ × Pool × Bool
 
@@ -101,7 +101,7 @@ sharing_in rows =
     let trace = flag_in (first_of (codes "trace") rows) in
     sharing_with (workers_in (first_of (codes "workers") rows)) (window_in window) (pool_in window trace (first_of (codes "pool") rows)) trace
 
--- with nothing said but how many search
+-- the defaults with this number of workers
 abbrev pub plain_sharing_in : List Row → Option Sharing
 plain_sharing_in rows = sharing_with (workers_in (first_of (codes "workers") rows)) (window_in None) (Some Board) false
 
@@ -125,7 +125,7 @@ ask_in rows = ask_with (files_in rows) (range_in rows) (sharing_in rows)
 abbrev pub list_in : List Row → Option Command
 list_in rows = option_map commands.List (ask_in rows)
 
--- the same of the valid structures on which a method is tested
+-- a listing of the valid structures on which a method is tested
 abbrev pub test_with : Option Text → Option Ask → Option Command
 test_with (Some method) (Some ask) = Some (commands.Test method ask)
 test_with _ _ = None
@@ -143,7 +143,8 @@ demo_with _ _ = None
 abbrev pub demo_in : List Row → Option Command
 demo_in rows = demo_with (option_and_then (number_in 1 12) (first_of (codes "nodes") rows)) (workers_in (first_of (codes "workers") rows))
 
--- the keys of a span, above the first and not above the second, without a limit; none where the first isn't below the second
+-- the keys of a span, above the first and not above the second, without a limit; none unless the first is below the
+-- second
 abbrev pub span_with : Option (List ℕ) → Option Bound → Option Range
 span_with (Some from) (Some to) = if less (At from) to then Some (from, to, 4294967295) else None
 span_with _ _ = None
@@ -168,12 +169,12 @@ named_in name rows = if bytes_eq name (codes "list") then list_in rows
 abbrev pub command_in : Option (Text × List Row) → Option Command
 command_in = option_and_then (λ p. named_in p.0 p.1)
 
--- The command, files and options that the stated meaning of clap gives these words for the definition, each number and
--- cut read; none where it refuses them, or one of these isn't well formed or is past its limit.
+-- The command, files and options that clap's stated meaning of the definition gives these words, with each number and
+-- cut parsed; none if clap refuses them, or if one of these is malformed or beyond its limit.
 unfoldable pub command_of : List Text → Option Command
 command_of words = if is_empty (fault_of korat_app words) then command_in (subcommand_of korat_app words) else None
 
--- ---- the texts behind references
+-- ---- texts from references
 
 abbrev pub text_in : Option (Bor Text) → Option Text
 text_in = option_map (λ t. t.now)

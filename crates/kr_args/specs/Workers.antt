@@ -1,4 +1,4 @@
--- Between crates: how many workers a command has, and how many rows they keep.
+-- Between crates: the limits on workers and windows.
 use Rattle.std.specs.Prelude.{ℕ, ◌<◌, ◌≤◌}
 use Rattle.kr_args.specs.declared.forms.Ask.{Ask}
 use Rattle.kr_args.specs.declared.forms.Command.{Command}
@@ -13,7 +13,7 @@ IsWindow window = (0 < window) × (window ≤ 65536)
 abbrev pub IsShared : Ask → Type 0
 IsShared ask = AreWorkers ask.workers × IsWindow ask.window
 
--- where it searches, it has from one worker to the most; and where it lists, a window from one row to the most
+-- a search has from one worker to the most, and a listing a window from one row to the most
 abbrev pub HasWorkers : Command → Type 0
 HasWorkers (commands.List ask) = IsShared ask
 HasWorkers (commands.Test method ask) = IsShared ask

@@ -1,10 +1,8 @@
-// What clap makes of the words, read as a command.
+// The command, from the matches of `clap`.
 ghost use Rattle.std.specs.Prelude.{◌≡◌, ◌≢◌, Some, None, IfOk, MatchResult, option_and_then};
 ghost use Rattle.clap.specs.Words.{kind_of, subcommand_rows_of, found_of, rows_of, first_of, all_of};
 ghost use Rattle.clap.specs.declared.error.ErrorKind.TheVariants.{OutOfMemory};
-ghost use Rattle.kr_base.specs.declared.span.Bound.TheVariants.{At as AtCut};
-ghost use Rattle.kr_base.specs.Bounds.{less};
-ghost use Rattle.kr_args.specs.Reading.{number_in, text_in, texts_in, files_in, range_in, sharing_in, plain_sharing_in, ask_with, ask_in, list_in, test_in, check_in, demo_in, demo_with, span_in, shard_in, merge_in, named_in, command_in, command_of};
+ghost use Rattle.kr_args.specs.Reading.{number_in, text_in, texts_in, files_in, range_in, sharing_in, plain_sharing_in, ask_with, ask_in, list_in, test_in, check_in, demo_in, span_in, shard_in, merge_in, named_in, command_in, command_of};
 ghost use Rattle.kr_args.specs.Sources.{HasSources};
 ghost use Rattle.kr_args.specs.Workers.{HasWorkers};
 
@@ -40,7 +38,7 @@ fn read_sources(alloc: Global, matches: &ArgMatches<'_>) -> Result<(Word, Words)
     read_files(alloc, text_of(matches, "fin"), texts_of(matches, "source"))
 }
 
-/// What is listed of all entries.
+/// The range of a listing.
 #[derive(Drop)]
 struct Range {
     from: Cut,
@@ -58,7 +56,7 @@ fn read_range(alloc: Global, matches: &ArgMatches<'_>) -> Result<Range, ArgRefus
     Ok(Range { from, to, limit })
 }
 
-/// How a listing is shared out.
+/// How a listing is shared among workers.
 #[derive(Clone, Copy)]
 struct Sharing {
     workers: u32,
@@ -84,7 +82,6 @@ fn read_sharing(matches: &ArgMatches<'_>) -> Result<Sharing, ArgRefusal>
     })
 }
 
-/// What these come to.
 fn ask_of(fin: Word, sources: Words, range: Range, sharing: Sharing) -> Ask
     ensures { Some result ≡ ask_with (Some (fin, sources)) (Some (range.from, range.to, range.limit)) (Some (sharing.workers, sharing.window, sharing.pool, sharing.trace)) }
 {
@@ -157,24 +154,13 @@ fn read_demo(matches: &ArgMatches<'_>) -> Result<Command, ArgRefusal>
     Ok(Command::Demo { n, workers })
 }
 
-/// Whether a cut is below a bound.
-#[tactic(auto, unfolding(kr_base::specs::Bounds::less))]
-fn is_cut_below(cut: &Cut, bound: &Bound) -> bool
-    ensures { result ≡ less (AtCut cut.now) bound.now }
-{
-    match bound {
-        Bound::End => true,
-        Bound::At(other) => cut.is_below(other),
-    }
-}
-
 fn read_span(alloc: Global, matches: &ArgMatches<'_>) -> Result<Range, ArgRefusal>
     ensures { let wanted = span_in (rows_of (found_of matches.now)) in
         MatchResult result (λ range. wanted ≡ Some (range.from, range.to, range.limit)) (λ e. e ≡ ArgRefusal.Usage → wanted ≡ None) }
 {
     let from = read_from(alloc, text_of(matches, "from"))?;
     let to = read_to(alloc, text_of(matches, "to"))?;
-    if is_cut_below(&from, &to) {
+    if to.is_above_cut(&from) {
         Ok(Range {
             from,
             to,
@@ -216,7 +202,7 @@ fn read_merge(alloc: Global, matches: &ArgMatches<'_>) -> Result<Command, ArgRef
     Ok(Command::Merge(read_words(alloc, texts_of(matches, "file"))?))
 }
 
-/// The command of a name with these matches.
+/// The command with this name and these matches.
 fn read_named(alloc: Global, name: &str, matches: &ArgMatches<'_>) -> Result<Command, ArgRefusal>
     ensures { let wanted = named_in name.now (rows_of (found_of matches.now)) in
         MatchResult result (λ command. wanted ≡ Some command) (λ e. e ≡ ArgRefusal.Usage → wanted ≡ None) }
@@ -248,7 +234,7 @@ fn read_command(alloc: Global, matches: &ArgMatches<'_>) -> Result<Command, ArgR
     }
 }
 
-/// Want of memory that clap reports.
+/// Out of memory, as `clap` reports it.
 fn lacking(kind: ErrorKind) -> NoMemory
     requires { kind ≡ OutOfMemory }
 {
@@ -267,8 +253,7 @@ fn refusal_of(error: &Error) -> ArgRefusal
     }
 }
 
-/// The command that the words of a call give, by clap's own meaning of the definition. The words don't begin with the
-/// program's name.
+/// The command of some words, by clap's own meaning of the definition. The words don't include the program's name.
 pub fn command(alloc: Global, words: &Words) -> Result<Command, ArgRefusal>
     ensures means { let wanted = command_of words.now in
         MatchResult result (λ command. wanted ≡ Some command) (λ e. e ≡ ArgRefusal.Usage → wanted ≡ None) }

@@ -1,4 +1,4 @@
-// The definition of the command line, as clap is given it.
+// The definition of the command line, as `clap` gets it.
 ghost use Rattle.std.specs.Prelude.{◌≡◌, codes, false, IfOk};
 ghost use Rattle.clap.specs.declared.builder.command.Command.TheViews.{out-Command as fields_of};
 ghost use Rattle.clap.specs.Words.{rule_of, app_of, with_rule, with_subcommand};
@@ -170,7 +170,7 @@ fn merge_definition<'a>(alloc: Global) -> Result<Definition<'a>, NoMemory>
     Ok(Definition::new(alloc, "merge").arg(shards_argument(alloc))?)
 }
 
-/// The tool, still without its commands.
+/// The tool, without its commands.
 fn bare_definition<'a>(alloc: Global) -> Definition<'a>
     ensures app { app_of result ≡ bare_app }
     ensures local { (fields_of result).has_globals ≡ false }

@@ -1,4 +1,4 @@
-// What the words of a call come to.
+// The commands of the program.
 ghost use Rattle.std.specs.Prelude.{◌≡◌, IfOk};
 ghost use Rattle.kr_args.specs.declared.forms.ArgRefusal.TheVariants.{NoMemory as Lacking};
 
@@ -7,7 +7,7 @@ use std::alloc::Global;
 use std::marker::Model;
 use thiserror::Error;
 
-/// A word of the call, as the name of a file or of a method. Contracts see its bytes.
+/// A word of the command line, as the name of a file or of a method. Contracts see its bytes.
 #[derive(Drop)]
 pub struct Word {
     text: String,
@@ -22,7 +22,6 @@ impl Model for Word {
 }
 
 impl Word {
-    /// A copy of a text.
     pub fn of(alloc: Global, text: &str) -> Result<Word, NoMemory>
         ensures { IfOk result (λ word. word ≡ text.now) }
     {
@@ -38,18 +37,17 @@ impl Word {
     }
 }
 
-/// By what a listing is shared out among workers.
+/// How a listing is shared among workers.
 #[derive(Clone, Copy, Debug, PartialEq, Eq)]
 pub enum Pool {
-    /// A board of segments, whose rows are written between rounds.
+    /// A board of segments, whose rows are written within a window.
     Board,
-    /// Deques of spans, whose rows are all kept until the end.
+    /// Deques of spans, whose rows are kept until the end.
     Deque,
 }
 
-/// What a listing or a test is asked for: the files that it reads, the keys above `from` and not above `to`, how many
-/// valid entries it writes at most, how many search, how many rows they keep, by what they share, and whether it says how
-/// they did.
+/// The options of a listing or a test: its files, the keys above `from` and not above `to`, the limit on valid entries,
+/// the number of workers, the window, how work is shared, and whether the steps of sharing are listed.
 #[derive(Drop)]
 pub struct Ask {
     pub fin: Word,
@@ -63,7 +61,7 @@ pub struct Ask {
     pub trace: bool,
 }
 
-/// What a call is asked for.
+/// A command of the program.
 #[derive(Drop)]
 pub enum Command {
     /// `list FIN SOURCE..`
@@ -80,7 +78,7 @@ pub enum Command {
     Merge(Words),
 }
 
-/// Why words have no command.
+/// The refusal of words that have no command.
 #[derive(Clone, Copy, Debug, PartialEq, Eq, Error)]
 pub enum ArgRefusal {
     #[error("the words give no command")]

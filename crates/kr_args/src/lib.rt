@@ -1,4 +1,4 @@
-//! From words to a command: what the words of a call ask for, by the definition of the command line that clap is given.
+//! Parses the words of a command line into a command, by `clap` and one definition of the command line.
 #![tactic(auto)]
 
 mod asking;

@@ -1,5 +1,5 @@
-// The values of arguments, read from their words.
-ghost use Rattle.std.specs.Prelude.{◌≡◌, ◌^◌, ◌<◌, Some, None, map, option_map, IfOk, MatchResult};
+// The values of arguments, parsed from their words.
+ghost use Rattle.std.specs.Prelude.{◌≡◌, ◌<◌, Some, None, map, IfOk, MatchResult};
 ghost use Rattle.kr_base.specs.Parsing.{cut_of};
 ghost use Rattle.kr_args.specs.Reading.{number_in, text_in, texts_in, from_in, to_in, limit_in, workers_in, window_in, pool_named, pool_in, flag_in, files_with};
 
@@ -8,7 +8,7 @@ use itoa::Buffer;
 use kr_base::{Bound, Cut, CutRefusal, NoMemory, Words, reading_law};
 use std::alloc::Global;
 
-/// The number that a text is, from `low` to `high`.
+/// The number of a text, from `low` to `high`.
 pub(crate) fn read_number(low: u32, high: u32, text: &str) -> Option<u32>
     ensures { result ≡ number_in low high text.now }
 {
@@ -28,7 +28,7 @@ pub(crate) fn read_number(low: u32, high: u32, text: &str) -> Option<u32>
     Some(number)
 }
 
-/// The cut that a text is.
+/// The cut of a text.
 fn read_cut(alloc: Global, text: &str) -> Result<Cut, ArgRefusal>
     ensures { MatchResult result (λ cut. cut_of text.now ≡ Some cut) (λ e. e ≡ ArgRefusal.Usage → cut_of text.now ≡ None) }
 {
@@ -41,7 +41,7 @@ fn read_cut(alloc: Global, text: &str) -> Result<Cut, ArgRefusal>
     }
 }
 
-/// Where a span begins.
+/// The start of a span.
 pub(crate) fn read_from(alloc: Global, text: Option<&str>) -> Result<Cut, ArgRefusal>
     ensures { let wanted = from_in (text_in text.entry) in MatchResult result (λ cut. wanted ≡ Some cut) (λ e. e ≡ ArgRefusal.Usage → wanted ≡ None) }
 {
@@ -51,7 +51,7 @@ pub(crate) fn read_from(alloc: Global, text: Option<&str>) -> Result<Cut, ArgRef
     }
 }
 
-/// Where a span ends.
+/// The end of a span.
 pub(crate) fn read_to(alloc: Global, text: Option<&str>) -> Result<Bound, ArgRefusal>
     ensures { let wanted = to_in (text_in text.entry) in MatchResult result (λ bound. wanted ≡ Some bound) (λ e. e ≡ ArgRefusal.Usage → wanted ≡ None) }
 {
@@ -64,7 +64,7 @@ pub(crate) fn read_to(alloc: Global, text: Option<&str>) -> Result<Bound, ArgRef
     }
 }
 
-/// How many valid entries are written at most.
+/// The limit on valid entries.
 pub(crate) fn read_limit(text: Option<&str>) -> Result<u32, ArgRefusal>
     ensures { let wanted = limit_in (text_in text.entry) in MatchResult result (λ limit. wanted ≡ Some limit) (λ _. wanted ≡ None) }
 {
@@ -77,7 +77,7 @@ pub(crate) fn read_limit(text: Option<&str>) -> Result<u32, ArgRefusal>
     }
 }
 
-/// How many search at once.
+/// The number of workers.
 pub(crate) fn read_workers(text: Option<&str>) -> Result<u32, ArgRefusal>
     ensures { let wanted = workers_in (text_in text.entry) in MatchResult result (λ workers. wanted ≡ Some workers) (λ _. wanted ≡ None) }
 {
@@ -90,7 +90,7 @@ pub(crate) fn read_workers(text: Option<&str>) -> Result<u32, ArgRefusal>
     }
 }
 
-/// How many rows are kept before they are written.
+/// The window: the most rows that are kept before they are written.
 pub(crate) fn read_window(text: Option<&str>) -> Result<u32, ArgRefusal>
     ensures { let wanted = window_in (text_in text.entry) in MatchResult result (λ window. wanted ≡ Some window) (λ _. wanted ≡ None) }
 {
@@ -114,7 +114,7 @@ fn read_pool_name(name: &str) -> Result<Pool, ArgRefusal>
     }
 }
 
-/// By what a listing is shared out. A pool that is named has no window and tells no steps.
+/// How a listing is shared among workers. A named pool excludes a window and the list of steps.
 pub(crate) fn read_pool(
     window: Option<&str>,
     trace: bool,
@@ -129,7 +129,7 @@ pub(crate) fn read_pool(
     }
 }
 
-/// Whether a flag is there, by the value that it is given in any case.
+/// Whether a flag was given; `clap` gives it a value in any case.
 pub(crate) fn read_flag(text: Option<&str>) -> bool
     ensures { result ≡ flag_in (text_in text.entry) }
 {
@@ -139,7 +139,7 @@ pub(crate) fn read_flag(text: Option<&str>) -> bool
     }
 }
 
-/// The word that is given.
+/// The value of a word argument.
 pub(crate) fn read_word(alloc: Global, text: Option<&str>) -> Result<Word, ArgRefusal>
     ensures { let wanted = text_in text.entry in
         MatchResult result (λ word. wanted ≡ Some word) (λ e. e ≡ ArgRefusal.Usage → wanted ≡ None) }
@@ -171,7 +171,7 @@ pub(crate) fn read_words(alloc: Global, texts: Option<&[&str]>) -> Result<Words,
     }
 }
 
-/// The files that a command reads: the finitization, and the sources.
+/// The files of a command: the finitization and the sources.
 pub(crate) fn read_files(
     alloc: Global,
     fin: Option<&str>,

@@ -45,12 +45,12 @@ trees-adopted text d es at j (c ∷ cs) =
     trees-adopted text d (slice_set es c (owned at j (get_or es c d))) at (j + 1) cs
     ∙ grow-set (entry_tree text) d (owned at j) (λ ts e. refl) [] es c
 
--- a node that is none of them stays
+-- other nodes stay as they are
 pub apart_other : (d : Entry) (es : List Entry) (at j k : ℕ) (cs : List ℕ) → IsApart k cs → slice_get (adopted d es at j cs) k ≡ slice_get es k
 apart_other d es at j k [] a = refl
 apart_other d es at j k (c ∷ cs) a = apart_other d (slice_set es c (owned at j (get_or es c d))) at (j + 1) k cs a.1 ∙ set_other es c k (owned at j (get_or es c d)) a.0
 
--- what remains free while others are adopted
+-- a node that is not adopted stays free
 free_kept : (es : List Entry) (c : ℕ) (x : Entry) (cs : List ℕ) → IsApart c cs → AreFree es cs → AreFree (slice_set es c x) cs
 free_kept es c x [] a f = tt
 free_kept es c x (b ∷ bs) a f = (
@@ -60,7 +60,7 @@ free_kept es c x (b ∷ bs) a f = (
   free_kept es c x bs a.1 f.3,
 )
 
--- nodes that are free stay so when another stands behind them
+-- free nodes stay free when another is pushed
 pub free-append : (es : List Entry) (n : Entry) (cs : List ℕ) → AreFree es cs → AreFree (es ++ n ∷ []) cs
 free-append es n [] f = tt
 free-append es n (c ∷ cs) f = (
@@ -133,7 +133,7 @@ before d es at j i e [] f is = record { old = e; there = is; node = refl; parent
 before d es at j i e (c ∷ cs) f is =
     before_set d es at j c i e cs f.0 (before d (slice_set es c (owned at j (get_or es c d))) at (j + 1) i e cs (free_kept es c (owned at j (get_or es c d)) cs f.2 f.3) is)
 
--- what is free is a node
+-- free nodes are nodes
 pub each_within : (es : List Entry) (cs : List ℕ) (j c : ℕ) → AreFree es cs → slice_get cs j ≡ Some c → c < length es
 each_within es [] j c f is = cc
 each_within es (b ∷ bs) zero c f is = let q : b ≡ c = same_Some b c is in omega (arith, q, f.0)

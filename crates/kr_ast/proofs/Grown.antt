@@ -35,7 +35,7 @@ grow-set f d own h xs [] c = refl
 grow-set f d own h xs (n ∷ ns) zero = ap (λ x. grow f (xs ++ x ∷ []) ns) (h xs n)
 grow-set f d own h xs (n ∷ ns) (suc c) = grow-set f d own h (xs ++ f xs n ∷ []) ns c
 
--- each item is what the rule makes of the whole list, where the rule looks only at what stands before
+-- each item is the rule's result for the whole list, if the rule looks only at earlier items
 module _ {A N : Type 0} (f : List A → N → A) (d : A) (P : ℕ → N → Type 0) (near : (i : ℕ) (n : N) (xs ys : List A) → ((k : ℕ) → k < i → get_or xs k d ≡ get_or ys k d) → P i n → f xs n ≡ f ys n) where
   pub grow_stands : (xs : List A) (ns : List N) (i j : ℕ) (n : N) → slice_get ns i ≡ Some n → j ≡ length xs + i → P j n → get_or (grow f xs ns) j d ≡ f (grow f xs ns) n
   unfolding grow

@@ -1,4 +1,4 @@
--- A node more in a forest.
+-- Adding a node to a forest.
 use Rattle.std.proofs.Common.{◌≡◌, ℕ, suc, ◌+◌, ◌<◌, ◌≤◌, inl, inr, List, [], ◌∷◌, ◌++◌, length, get_or, Some, refl, sym, ap, ◌∙◌, arith, subst, length-append}
 use Rattle.std.specs.Prelude.{slice_get}
 use Rattle.std.proofs.lemmas.Option.{slice_get_within, slice_get-get_or}
@@ -22,7 +22,7 @@ parts_new es i k (c ∷ cs) h = (
   parts_new es i (k + 1) cs (λ j b is. subst (λ m. IsPart es i m b) (omega arith) (h (suc j) b is)),
 )
 
--- an older part is none of those that are adopted
+-- an older part is not adopted
 not_free : (es : List Entry) (d : Entry) (i j c b : ℕ) → i < length es → IsPart es i j c → IsFree es b → c ≡ b → ⊥
 not_free es d i j c b lt p f q =
     let at : c < length es = omega (arith, p.below) in
@@ -36,7 +36,7 @@ old_apart : (es : List Entry) (d : Entry) (i j c : ℕ) → i < length es → Is
 old_apart es d i j c lt p [] f = tt
 old_apart es d i j c lt p (b ∷ bs) f = (not_free es d i j c b lt p f.1, old_apart es d i j c lt p bs f.3)
 
--- where one of these stands among them
+-- the index of a listed number
 placed : (c : ℕ) (cs : List ℕ) → IsIn c cs → (m : ℕ) × (slice_get cs m ≡ Some c)
 placed c [] h = absurd h
 placed c (b ∷ bs) h = elim h [
@@ -44,7 +44,7 @@ placed c (b ∷ bs) h = elim h [
   | inr r ↦ let p = placed c bs r in (suc p.0, p.1)
 ]
 
--- what is not among these is apart from them
+-- a node that is not listed is apart from the listed ones
 apart_from : (a c : ℕ) (fs cs : List ℕ) (es : List Entry) → AreFree es (fs ++ cs) → IsIn a fs → IsIn c cs → a ≡ c → ⊥
 apart_from a c [] cs es f h i q = absurd h
 apart_from a c (b ∷ bs) cs es f h i q = elim h [
@@ -211,7 +211,7 @@ module _ (d : Entry) (es : List Entry) (n : Node) (p : Place) (q : ℕ) where
 abbrev entry_at : Place → Node → ℕ → Entry
 entry_at p n at = record { place = p; node = n; parent = at; position = 0 }
 
--- pushed first, with its parts adopted then
+-- pushed first, then its parts are adopted
 module _ (d : Entry) (es es1 es2 : List Entry) (n : Node) (p : Place) (at : ℕ) (free : AreFree es (parts n)) (here : at ≡ length es) (pushed : es1 ≡ es ++ entry_at p n at ∷ []) (owned : es2 ≡ adopted d es1 at 0 (parts n)) where
   made : adopted d es (length es) 0 (parts n) ++ entry_at p n (length es) ∷ [] ≡ es2
   made = sym (

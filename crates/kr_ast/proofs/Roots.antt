@@ -23,6 +23,6 @@ pub free_behind : (es : List Entry) (fs bs : List ℕ) → AreFree es (fs ++ bs)
 free_behind es [] bs f = f
 free_behind es (a ∷ fs) bs f = free_behind es fs bs f.3
 
--- where no node is, there is no root
+-- without nodes there are no roots
 pub roots_none : (es : List Entry) → es ≡ [] → AreRoots es []
 roots_none es e = record { free = tt; only = λ i x is own. absurd (cc) }

@@ -1,4 +1,4 @@
--- Trees while their text grows.
+-- Trees stay the same while their text grows.
 use Rattle.std.proofs.Common.{◌≡◌, ℕ, ◌-◌, ◌≤◌, List, [], ◌∷◌, ◌++◌, length, take, drop, Some, refl, ap, ◌∙◌, arith, length-drop}
 use Rattle.std.specs.Prelude.{slice_get, slice_index_or, map}
 use Rattle.std.proofs.lemmas.List.{take-append-le, drop-append-le}
@@ -18,7 +18,7 @@ names_same : (text more : List ℕ) (ns : List Name) → AreNamesIn text ns → 
 names_same text more [] h = refl
 names_same text more (n ∷ ns) h = cc (name_in-append text more n h.0 h.1, names_same text more ns h.2)
 
--- the trees of a forest stay while its text grows
+-- the trees of a forest stay the same while its text grows
 pub trees-append : (text more : List ℕ) (es : List Entry) → ((i : ℕ) (e : Entry) → slice_get es i ≡ Some e → AreNamesIn text (names e.node)) → trees (text ++ more) es ≡ trees text es
 unfolding trees
 trees-append text more es named =

@@ -9,7 +9,7 @@ use Rattle.kr_ast.specs.Tree.{Tree, Nil}
 use Rattle.kr_ast.specs.Arena.{name_in, trees, tree_at, tree_of, entry_tree, parts, names, ArePartsFrom, IsForest}
 use Rattle.kr_ast.proofs.Grown.{grow_stands}
 
--- a node's tree is made of the trees of its parts and of the bytes of its names
+-- a node's tree depends on the trees of its parts and the bytes of its names only
 pub tree_of_same : (text text' : List ℕ) (look look' : ℕ → Tree) (p : Place) (n : Node) → map look (parts n) ≡ map look' (parts n) → map (name_in text) (names n) ≡ map (name_in text') (names n) → tree_of text look p n ≡ tree_of text' look' p n
 tree_of_same text text' look look' p nodes.Nil e f = refl
 tree_of_same text text' look look' p _ e f = cc
@@ -21,7 +21,7 @@ near_parts es look look' i j (c ∷ cs) h s = cc (h c s.0.below, near_parts es l
 near_tree : (text : List ℕ) (es : List Entry) (look look' : ℕ → Tree) (i : ℕ) (at : Place) (n : Node) → ((k : ℕ) → k < i → look k ≡ look' k) → ArePartsFrom es i 0 (parts n) → tree_of text look at n ≡ tree_of text look' at n
 near_tree text es look look' i at n h s = tree_of_same text text look look' at n (near_parts es look look' i 0 (parts n) h s) refl
 
--- for the passes over a tree: a rule for each kind of node tells of all trees
+-- for passes over a tree: the tree at each index is the rule's tree of the node there
 pub tree_stands : (text : List ℕ) (es : List Entry) → IsForest text es → (i : ℕ) (e : Entry) → slice_get es i ≡ Some e → tree_at text es i ≡ tree_of text (tree_at text es) e.place e.node
 unfolding trees
 tree_stands text es f i e is =

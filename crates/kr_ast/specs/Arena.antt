@@ -1,4 +1,4 @@
--- Between crates: the nodes of an arena, and the trees that they stand for.
+-- Between crates: the nodes of an arena, and the trees that they represent.
 use Rattle.std.specs.Prelude.{ℕ, ◌+◌, ◌-◌, ◌≤◌, ◌<◌, ◌≡◌, List, [], ◌∷◌, length, take, drop, Some, slice_get, slice_index_or}
 use Rattle.kr_base.specs.declared.place.Place.{Place}
 use Rattle.kr_ast.specs.declared.node.Name.{Name}
@@ -126,7 +126,7 @@ parts (nodes.Requires a) = a ∷ []
 parts (nodes.Ensures a) = a ∷ []
 parts _ = []
 
--- these are the parts of the node i from part j on
+-- these are the parts of node i from part j on
 abbrev pub ArePartsFrom : List Entry → ℕ → ℕ → List ℕ → Type 0
 ArePartsFrom es i j [] = Unit {0}
 ArePartsFrom es i j (c ∷ cs) = IsPart es i j c × ArePartsFrom es i (j + 1) cs
@@ -146,30 +146,30 @@ names (nodes.Method x n a b) = n ∷ []
 names (nodes.Parameter a n) = n ∷ []
 names _ = []
 
--- a name's bytes stand in the text
+-- a name's bytes are in the text
 abbrev pub AreNamesIn : List ℕ → List Name → Type 0
 AreNamesIn text [] = Unit {0}
 AreNamesIn text (n ∷ ns) = (n.start ≤ n.end) × (n.end ≤ length text) × AreNamesIn text ns
 
--- the node i, with this entry, is the part of its parent that it says it is
+-- node i, with this entry, is the part of its parent that the entry says
 abbrev pub IsPartOfParent : List Entry → ℕ → Entry → Type 0
 IsPartOfParent es i e = (p : Entry) → slice_get es e.parent ≡ Some p → slice_get (parts p.node) e.position ≡ Some i
 
--- Each node's parts stand before it and know it, a node's parent has it as that part, and its names stand in the text. A
--- node that is no part is its own parent.
+-- Each node comes after its parts, a node and its parent name each other, and names are in the text. A node that is no
+-- part is its own parent.
 pub record IsForest (text : List ℕ) (es : List Entry) : Type 0 where
   pub stands : (i : ℕ) (e : Entry) → slice_get es i ≡ Some e → ArePartsFrom es i 0 (parts e.node)
   pub up : (i : ℕ) (e : Entry) → slice_get es i ≡ Some e → (i ≤ e.parent) × (e.parent < length es)
   pub held : (i : ℕ) (e : Entry) → slice_get es i ≡ Some e → i < e.parent → IsPartOfParent es i e
   pub named : (i : ℕ) (e : Entry) → slice_get es i ≡ Some e → AreNamesIn text (names e.node)
 
--- a forest of one tree: all nodes but the last are parts, each of its parent
+-- a forest of one tree: all nodes but the last are parts of their parents
 pub record IsArena (text : List ℕ) (es : List Entry) : Type 0 where
   pub forest : IsForest text es
   pub some : 0 < length es
   pub parted : (i : ℕ) (e : Entry) → slice_get es i ≡ Some e → i + 1 < length es → i < e.parent
 
--- what a tree is to those who walk over it: its nodes, and the text that its names stand in
+-- a tree as its nodes, and the text of its names
 pub record Arena : Type 0 where
   pub text : List ℕ
   pub entries : List Entry
@@ -182,7 +182,7 @@ tree_in a i = tree_at a.text a.entries i
 abbrev pub root : Arena → Tree
 root a = tree_in a (length a.entries - 1)
 
--- numbers below a bound: parts that stand before their node
+-- all numbers are below a bound, as the parts of a node are below it
 abbrev pub AreBelow : ℕ → List ℕ → Type 0
 AreBelow n [] = Unit {0}
 AreBelow n (i ∷ is) = (i < n) × AreBelow n is

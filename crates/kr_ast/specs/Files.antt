@@ -14,7 +14,7 @@ file_at files f = slice_index_or files f no_file
 abbrev pub tree_of_node : List Arena → NodeId → Tree
 tree_of_node files n = tree_in (file_at files n.file) n.node
 
--- the node is there
+-- the node is in the files
 pub record IsNode (files : List Arena) (n : NodeId) : Type 0 where
   pub file : n.file < length files
   pub node : n.node < length (file_at files n.file).entries

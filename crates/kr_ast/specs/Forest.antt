@@ -1,8 +1,8 @@
--- Between crates: nodes while they are put together.
+-- Between crates: nodes during parsing.
 use Rattle.std.specs.Prelude.{ℕ, ◌+◌, ◌<◌, ◌≡◌, ◌⊎◌, List, [], ◌∷◌, length, Some, slice_get, slice_set, slice_index_or}
 use Rattle.kr_ast.specs.declared.node.Entry.{Entry}
 
--- a node that is no part yet is its own parent
+-- a node that is no part is its own parent
 abbrev pub IsFree : List Entry → ℕ → Type 0
 IsFree es c = (e : Entry) → slice_get es c ≡ Some e → e.parent ≡ c
 
@@ -10,7 +10,7 @@ abbrev pub IsApart : ℕ → List ℕ → Type 0
 IsApart c [] = Unit {0}
 IsApart c (d ∷ ds) = (c ≡ d → ⊥) × IsApart c ds
 
--- nodes that may become the parts of one
+-- distinct nodes that are no parts
 abbrev pub AreFree : List Entry → List ℕ → Type 0
 AreFree es [] = Unit {0}
 AreFree es (c ∷ cs) = (c < length es) × IsFree es c × IsApart c cs × AreFree es cs

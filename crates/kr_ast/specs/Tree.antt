@@ -1,6 +1,7 @@
--- To be believed: syntax trees. Names are bytes. Each tree but those of lists has the place of its first token; a class, a
--- method with its signature, a constructor, a parameter and a declarator have that of their name. Modifiers are no part of a
--- tree: a local and a field stand at the first token of their type, behind `final`, `static` and what else stands before it.
+-- To be believed: syntax trees. Names are bytes. Each tree but those of lists has the place of its first token; a
+-- class, a method with its signature, a constructor, a parameter and a declarator have that of their name. Modifiers
+-- are no part of a tree: the place of a local or a field is the first token of its type, after `final`, `static` and
+-- other modifiers.
 use Rattle.std.specs.Prelude.{ℕ, ◌+◌, Bool, List, [], ◌∷◌, sum}
 use Rattle.kr_base.specs.declared.place.Place.{Place}
 use Rattle.kr_ast.specs.declared.node.Primitive.{Primitive}
@@ -9,7 +10,7 @@ use Rattle.kr_ast.specs.declared.node.StepOperator.{StepOperator}
 use Rattle.kr_ast.specs.declared.node.BinaryOperator.{BinaryOperator}
 
 pub data Tree : Type 0 where
-  -- the end of a list, and a part that is absent
+  -- the end of a list, and an absent part
   Nil : Tree
   Cons : Tree → Tree → Tree
   -- types (Java Language Specification 4)
@@ -89,8 +90,8 @@ pub data Tree : Type 0 where
   Requires : Place → Tree → Tree
   Ensures : Place → Tree → Tree
 
--- What a rule gives for a tree, from what it gives for its parts in their order. This is the one list of what the parts of
--- each kind are: what is said of every tree is the fold of its rule.
+-- The fold of a rule over a tree: the rule is given a tree and the results for its parts in order. This is the only
+-- list of the parts of each kind.
 abbrev pub fold_tree : {A : Type 0} → (Tree → List A → A) → Tree → A
 fold_tree rule Nil = rule Nil []
 fold_tree rule (Cons a b) = rule (Cons a b) (fold_tree rule a ∷ fold_tree rule b ∷ [])

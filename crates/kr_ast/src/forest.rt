@@ -1,4 +1,4 @@
-// Nodes while a parser puts them together: a forest of trees, of which some will be parts of others.
+// Nodes during parsing: a forest of trees, some of which become parts of others.
 ghost use Rattle.std.specs.Prelude.{◌≡◌, ◌+◌, ◌<◌, ◌++◌, ◌∷◌, [], List, ℕ, length, IfOk, OnErr};
 ghost use Rattle.kr_ast.specs.Arena.{trees, tree_at, tree_of, parts, names, name_in, AreNamesIn};
 ghost use Rattle.kr_ast.specs.Forest.{AreFree, AreRoots, IsOneRoot, adopted};
@@ -8,7 +8,7 @@ use kr_base::{NoMemory, Place};
 use std::alloc::Global;
 use std::marker::Model;
 
-/// Nodes whose parts stand before them. A node that is no part of another is a root.
+/// Nodes, each after its parts. A node that is no part of another is a root.
 #[derive(Drop)]
 pub struct Forest {
     text: Vec<u8>,
@@ -58,7 +58,7 @@ fn adopt_parts(entries: &mut Vec<Entry>, node: Node, parent: u32)
 }
 
 impl Forest {
-    /// The empty forest. It takes no memory.
+    /// Allocates nothing.
     pub fn new(alloc: Global) -> Self
         ensures text { result.text ≡ [] }
         ensures entries { result.entries ≡ [] }
@@ -69,7 +69,7 @@ impl Forest {
         }
     }
 
-    /// Adds a name to the text. The error says that memory is short, or that the text would come to 4 GiB.
+    /// Adds a name to the text. Fails when out of memory, or when the text would reach 4 GiB.
     pub fn add_name(&mut self, bytes: &[u8]) -> Result<Name, NoMemory>
         ensures shown { IfOk result (λ name. name_in self.new.text name ≡ bytes.now) }
         ensures within { IfOk result (λ name. AreNamesIn self.new.text (name ∷ [])) }
@@ -90,8 +90,8 @@ impl Forest {
         })
     }
 
-    /// Puts a node above its parts, which are roots until then. Answers the node's index. The error says that memory is
-    /// short, or that there are 2^32 - 1 nodes.
+    /// Adds a node above its parts, which must be roots, and returns its index. Fails when out of memory, or at 2^32 -
+    /// 1 nodes.
     #[inline(always)]
     pub fn put(&mut self, place: Place, node: Node) -> Result<u32, NoMemory>
         requires free { AreFree self.old.entries (parts node) }
@@ -125,7 +125,7 @@ impl Forest {
         &self.text[name.start as usize..name.end as usize]
     }
 
-    /// The tree of the last node, where that is the only root. It takes no memory.
+    /// The tree of the last node, which must be the only root. Allocates nothing.
     pub fn finish(self) -> Tree
         requires { IsOneRoot self.entries }
         ensures { result ≡ self }

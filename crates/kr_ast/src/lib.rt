@@ -1,5 +1,4 @@
-//! Syntax trees: what a source's tokens stand for, kept as a list of nodes in which the parts of each node stand before
-//! it.
+//! Syntax trees, stored as lists of nodes, each after its parts.
 #![tactic(auto)]
 
 mod files;

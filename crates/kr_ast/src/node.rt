@@ -2,7 +2,7 @@
 
 use kr_base::Place;
 
-/// Where the bytes of a name stand in the tree's text: from `start` on, before `end`.
+/// A range of the tree's text: `start` inclusive, `end` exclusive.
 #[derive(Clone, Copy)]
 pub struct Name {
     pub start: u32,
@@ -26,7 +26,7 @@ pub enum UnaryOperator {
     Not,
 }
 
-/// `++` and `--`, before or behind their operand (15.14.2, 15.14.3, 15.15.1, 15.15.2).
+/// `++` and `--`, before or after their operand (15.14.2, 15.14.3, 15.15.1, 15.15.2).
 #[derive(Clone, Copy, PartialEq, Eq)]
 pub enum StepOperator {
     IncrementBefore,
@@ -59,10 +59,10 @@ pub enum BinaryOperator {
     Or,
 }
 
-/// A node over the indices of its parts. Where a part may be absent it is a `Nil`.
+/// A node over the indices of its parts. An absent part is a `Nil`.
 #[derive(Clone, Copy)]
 pub enum Node {
-    // lists, and what is absent
+    // lists, and absent parts
     Nil,
     Cons {
         first: u32,

@@ -1,4 +1,4 @@
-// The parts and the names of a node, as lists: what walks over all kinds of nodes goes over these.
+// The parts and the names of a node as lists, for code that treats all kinds of nodes alike.
 ghost use Rattle.std.specs.Prelude.{◌≡◌, ◌≤◌, ℕ, List, length, take};
 ghost use Rattle.kr_ast.specs.Arena.{parts, names};
 
@@ -74,13 +74,12 @@ impl Names {
     }
 }
 
-/// A name in the place of one that is absent.
+/// The name in the place of an absent one.
 const fn no_name() -> Name {
     Name { start: 0, end: 0 }
 }
 
 impl Node {
-    /// The indices of its parts, in order.
     #[inline(always)]
     pub fn parts(&self) -> Parts
         ensures { result ≡ parts self.now }
@@ -216,7 +215,6 @@ impl Node {
         }
     }
 
-    /// The names in it, in order.
     pub fn names(&self) -> Names
         ensures { result ≡ names self.now }
     {

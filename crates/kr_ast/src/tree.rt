@@ -1,4 +1,4 @@
-// A whole tree, as a list of nodes in which the parts of each node stand before it.
+// A whole tree, as a list of nodes, each after its parts.
 ghost use Rattle.std.specs.Prelude.{◌≡◌, ◌+◌, ◌<◌, ◌^◌, ◌∷◌, [], length, slice_get, Some};
 ghost use Rattle.kr_ast.specs.Arena.{IsArena, AreNamesIn, ArePartsFrom, IsPartOfParent, name_in, names, parts, tree_in, tree_of};
 
@@ -24,7 +24,7 @@ impl Model for Tree {
 }
 
 impl Tree {
-    /// The tree of these nodes. It takes no memory.
+    /// Allocates nothing.
     pub fn new(text: Vec<u8>, entries: Vec<Entry>) -> Self
         requires arena { IsArena text.items entries.items }
         requires room { length entries.items < 2 ^ 32 }
@@ -33,7 +33,7 @@ impl Tree {
         Tree { text, entries }
     }
 
-    /// How many nodes it has.
+    /// The number of nodes.
     pub fn nodes(&self) -> u32
         ensures count { result ≡ length self.now.entries }
         ensures arena { IsArena self.now.text self.now.entries }
@@ -41,7 +41,7 @@ impl Tree {
         self.entries.len() as u32
     }
 
-    /// A node, with its place and its parent. A node that has one is the part of it that the entry says.
+    /// A node with its place and its parent, if it has one.
     pub fn entry(&self, at: u32) -> Entry
         requires { at < length self.now.entries }
         ensures here { slice_get self.now.entries at ≡ Some result }

@@ -1,9 +1,18 @@
--- Bounds are in one order.
-use Rattle.std.proofs.Common.{◌≡◌, true, false, refl, sym, ap, ◌∙◌}
+-- The order of bounds is total.
+use Rattle.std.proofs.Common.{◌≡◌, ℕ, List, true, false, refl, sym, ap, ◌∙◌}
 use Rattle.kr_base.specs.declared.span.Bound.{Bound}
 use Rattle.kr_base.specs.declared.span.Bound.TheVariants.{At, End}
+use Rattle.kr_base.specs.Cuts.{Before}
 use Rattle.kr_base.specs.Bounds.{less}
-use Rattle.kr_base.proofs.Orders.{test_irreflexive, test_transitive, test_connected}
+use Rattle.kr_base.proofs.Orders.{test_irreflexive, test_transitive, test_connected, test_from_before}
+
+pub less_from_before : (j k : List ℕ) → Before j k → less (At j) (At k) ≡ true
+unfolding less
+less_from_before j k h = test_from_before j k h
+
+pub end_is_last : (b : Bound) → less End b ≡ false
+unfolding less
+end_is_last b = refl
 
 pub irreflexive : (a : Bound) → less a a ≡ false
 unfolding less
@@ -16,6 +25,10 @@ transitive (At a) (At b) (At c) p q = test_transitive a b c p q
 transitive (At a) (At b) End p q = refl
 transitive (At a) End c p q = absurd (cc (q))
 transitive End b c p q = absurd (cc (p))
+
+pub asymmetric : (a b : Bound) → less a b ≡ true → less b a ≡ false
+asymmetric a b p =
+    elim (less b a) as (λ t. less b a ≡ t → t ≡ false) [ true ↦ λ q. absurd (cc (sym (transitive a b a p q) ∙ irreflexive a)) | false ↦ λ q. refl ] refl
 
 pub connected : (a b : Bound) → less a b ≡ false → less b a ≡ false → a ≡ b
 unfolding less

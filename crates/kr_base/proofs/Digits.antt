@@ -1,4 +1,4 @@
--- Numbers in decimal at the front of a text.
+-- Texts that begin with a decimal number.
 use Rattle.std.proofs.Common.{◌≡◌, ℕ, zero, suc, ◌+◌, ◌-◌, ◌*◌, ◌/◌, ◌%◌, ◌^◌, ◌<◌, ◌≤◌, true, false, List, [], ◌∷◌, ◌++◌, length, get_or, take, refl, sym, ap, ◌∙◌, subst, arith, decimal, append_assoc}
 use Rattle.std.specs.Prelude.{flat_map}
 use Rattle.std.specs.Char.{is_ascii_digit, digit_value}
@@ -34,7 +34,7 @@ unfolding StartsPlain
 plain_dotted [] = tt
 plain_dotted (n ∷ ns) = λ h. let d : is_ascii_digit 46 ≡ true = digit_from_value 46 h in cc
 
--- digits up to the first byte that is none are the same in equal texts
+-- equal texts have equal leading digits
 same_digits : (a b x y : List ℕ) → AllDigits 10 a → AllDigits 10 b → StartsPlain x → StartsPlain y → a ++ x ≡ b ++ y → (a ≡ b) × (x ≡ y)
 unfolding StartsPlain
 same_digits [] [] x y d e p q h = (refl, h)
@@ -47,7 +47,7 @@ same_digits (c ∷ a) (e ∷ b) x y d f p q h =
     let first : a ≡ b = rest.0 in
     (cc, rest.1)
 
--- digits at the front of digits
+-- shorter leading digits are a prefix of longer ones
 front_digits : (a rest b y : List ℕ) → AllDigits 10 a → StartsPlain y → a ++ rest ≡ b ++ y → take (length a) b ≡ a
 unfolding StartsPlain
 front_digits [] rest b y d q h = refl
@@ -58,7 +58,7 @@ front_digits (c ∷ a) rest (e ∷ b) y d q h =
     let more : take (length a) b ≡ a = front_digits a rest b y d.1 q tail in
     cc
 
--- two texts that begin with a number, and go on with dotted ones, are the same only where these are
+-- equal texts that begin with a number begin with the same one
 pub same_number : (m n : ℕ) (x : List ℕ) (later : List ℕ) → m < 2 ^ 32 → n < 2 ^ 32 → StartsPlain x → decimal m ++ x ≡ decimal n ++ flat_map dotted later → (m ≡ n) × (x ≡ flat_map dotted later)
 same_number m n x later small small' p h =
     let both : (decimal m ≡ decimal n) × (x ≡ flat_map dotted later) = same_digits (decimal m) (decimal n) x (flat_map dotted later) (digits_of_number m small) (digits_of_number n small') p (plain_dotted later) h in
@@ -70,7 +70,7 @@ same_dotted m n earlier later small small' h = same_number m n (flat_map dotted 
 pub same_ended : (m n : ℕ) (x later : List ℕ) → m < 2 ^ 32 → n < 2 ^ 32 → decimal m ++ 46 ∷ x ≡ decimal n ++ flat_map dotted later → (m ≡ n) × (46 ∷ x ≡ flat_map dotted later)
 same_ended m n x later small small' h = same_number m n (46 ∷ x) later small small' (plain_byte 46 x refl) h
 
--- ---- a byte behind the digits of a number
+-- ---- the byte after the digits of a number
 
 starts_with_digit : (b : ℕ) (rest ds x : List ℕ) → 0 < length ds → AllDigits 10 ds → b ∷ rest ≡ ds ++ x → digit_value b < 10
 starts_with_digit b rest [] x some d h = absurd (omega arith)
@@ -98,7 +98,7 @@ pub no_byte : (number b n : ℕ) (later rest : List ℕ) → is_ascii_digit b �
 no_byte number b n later rest t other small small' h =
     other (starts_with_dot b rest later ((same_number number n (b ∷ rest) later small small' (plain_byte b rest t) h).1))
 
--- nothing but a dot goes on behind 0
+-- only a dot continues a number that begins with 0
 zero_or_more : (n : ℕ) → (x : List ℕ) → (y : List ℕ) → n < 2 ^ 32 → 48 ∷ x ≡ decimal n ++ y → n ≡ 0
 zero_or_more zero x y small h = refl
 zero_or_more (suc n) x y small h =

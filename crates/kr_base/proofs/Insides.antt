@@ -1,4 +1,4 @@
--- The cuts of a mark, place by place.
+-- The raised prefixes of a cut.
 use Rattle.std.proofs.Common.{◌≡◌, ℕ, ◌+◌, ◌^◌, ◌<◌, inl, inr, List, [], ◌∷◌, ◌++◌, Bool, true, false, map, Option, Some, nat_lt, refl, sym, ap, ◌∙◌, append_assoc, subst, arith}
 use Rattle.std.specs.Prelude.{if◌then◌else◌}
 use Rattle.std.specs.List.{find}
@@ -51,9 +51,7 @@ keeps_above front pushed popped new n bound e fits is here back at =
     let new_is : new ≡ front ++ n ∷ [] = at ∙ ap (λ (f : List ℕ). f ++ n ∷ []) back in
     (new_is, λ rest. not_here front n rest bound room not_below ∙ ap (λ (f : List ℕ). onward f rest bound) (sym new_is))
 
--- the law
-
--- each of these stands behind the mark
+-- each raised prefix is above the cut
 EachAfter : List ℕ → List (List ℕ) → Type 0
 EachAfter mark [] = Unit {0}
 EachAfter mark (c ∷ cs) = Before mark c × EachAfter mark cs

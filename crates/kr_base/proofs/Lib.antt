@@ -1,3 +1,4 @@
+pub mod ListLemmas
 pub mod Orders
 pub mod Bounds
 pub mod Spans

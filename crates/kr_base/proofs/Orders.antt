@@ -1,4 +1,4 @@
--- The order of cuts, as a relation and as a test, and the order of bounds.
+-- The order of cuts as a relation and as a test.
 use Rattle.std.proofs.Common.{◌≡◌, ℕ, ◌<◌, ◌⊎◌, inl, inr, List, [], ◌∷◌, true, false, refl, sym, ap, ◌∙◌, subst, arith}
 use Rattle.std.specs.Ordering.{nat_cmp, is_lt, ordering_reverse, ordering_then, MatchOrdering}
 use Rattle.std.specs.declared.cmp.Ordering.{Ordering}
@@ -34,7 +34,7 @@ pub test_connected : (a b : List ℕ) → is_before a b ≡ false → is_before 
 test_connected a b p q =
     exact_bytes a b (neither (slice_cmp nat_cmp a b) p (ap is_lt (sym (nat_list_cmp_total.antisymm b a)) ∙ q))
 
--- the test at the first numbers
+-- the test by the first numbers
 step : (o : Ordering) (rest : Ordering) → is_lt (ordering_then o rest) ≡ true → (o ≡ Less) ⊎ ((o ≡ Equal) × (is_lt rest ≡ true))
 step Less rest e = inl refl
 step Equal rest e = inr (refl, e)

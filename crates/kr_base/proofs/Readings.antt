@@ -1,4 +1,4 @@
--- A cut computed from its text.
+-- `cut_of` computes the cut of a text.
 use Rattle.std.proofs.Common.{◌≡◌, ℕ, ◌+◌, ◌*◌, ◌^◌, ◌<◌, ◌≤◌, Bool, true, false, ◌&&◌, List, [], ◌∷◌, ◌++◌, length, refl, sym, ap, ◌∙◌, subst, arith, decimal, nat_lt, nat_le, Some, None}
 use Rattle.std.specs.Prelude.{◌==◌, flat_map, Ok, if◌then◌else◌}
 use Rattle.std.specs.Char.{digit_value}
@@ -8,6 +8,7 @@ use Rattle.std.specs.Str.Parse.{AllDigits, digits_value_after}
 use Rattle.std.proofs.lemmas.Fmt.{decimal_is_IsNumeral}
 use Rattle.std.proofs.lemmas.Slice.Eq.{bytes_eq-Decides}
 use Rattle.std.proofs.lemmas.Bool.Decides.{nat_tests}
+use Rattle.std.proofs.lemmas.Bool.{and_parts}
 use Rattle.kr_base.specs.Cuts.{dotted, cut_text}
 use Rattle.kr_base.specs.Parsing.{IsTextOf, Parses, numbers_in, cut_of, ReadingLaw}
 use Rattle.kr_base.proofs.Digits.{digits_of_number}
@@ -16,7 +17,7 @@ use Rattle.kr_base.proofs.Stages.{Small, head_small, tail_small, cons_small, non
 no_dot : (b : ℕ) → digit_value b < 10 → (b == 46) ≡ false
 no_dot b h = grind (arith, nat_tests)
 
--- digits go into the value
+-- the value of more digits
 through_digits : (value : ℕ) (ds rest : List ℕ) → AllDigits 10 ds → numbers_in value (ds ++ rest) ≡ numbers_in (digits_value_after 10 value ds) rest
 through_digits value [] rest h = refl
 through_digits value (d ∷ ds) rest h = rw (no_dot d h.0) (through_digits (value * 10 + digit_value d) ds rest h.1)
@@ -42,14 +43,10 @@ small_test (n ∷ later) h =
     let yes : nat_lt n (2 ^ 32) ≡ true = grind (arith, nat_tests) in
     rw yes (small_test later (tail_small n later h))
 
-both_true : (a b : Bool) → (a && b) ≡ true → (a ≡ true) × (b ≡ true)
-both_true true b h = (refl, h)
-both_true false b h = absurd (cc (h))
-
 small_from_test : (numbers : List ℕ) → list_all (λ n. nat_lt n (2 ^ 32)) numbers ≡ true → Small numbers
 small_from_test [] h = none_small
 small_from_test (n ∷ later) h =
-    let both : (nat_lt n (2 ^ 32) ≡ true) × (list_all (λ k. nat_lt k (2 ^ 32)) later ≡ true) = both_true (nat_lt n (2 ^ 32)) (list_all (λ k. nat_lt k (2 ^ 32)) later) h in
+    let both : (nat_lt n (2 ^ 32) ≡ true) × (list_all (λ k. nat_lt k (2 ^ 32)) later ≡ true) = and_parts (nat_lt n (2 ^ 32)) (list_all (λ k. nat_lt k (2 ^ 32)) later) h in
     let yes : nat_lt n (2 ^ 32) ≡ true = both.0 in
     cons_small n later (grind (arith, nat_tests)) (small_from_test later both.1)
 
@@ -69,8 +66,8 @@ sound text numbers = go (bytes_eq (cut_text (numbers_in 0 text)) text && (list_a
     go false is e = absurd (cc (e))
     go true is e =
         let same : numbers_in 0 text ≡ numbers = cc (e) in
-        let first = both_true (bytes_eq (cut_text (numbers_in 0 text)) text) (list_all (λ n. nat_lt n (2 ^ 32)) (numbers_in 0 text) && nat_le (length (numbers_in 0 text)) 4096) is in
-        let rest = both_true (list_all (λ n. nat_lt n (2 ^ 32)) (numbers_in 0 text)) (nat_le (length (numbers_in 0 text)) 4096) first.1 in
+        let first = and_parts (bytes_eq (cut_text (numbers_in 0 text)) text) (list_all (λ n. nat_lt n (2 ^ 32)) (numbers_in 0 text) && nat_le (length (numbers_in 0 text)) 4096) is in
+        let rest = and_parts (list_all (λ n. nat_lt n (2 ^ 32)) (numbers_in 0 text)) (nat_le (length (numbers_in 0 text)) 4096) first.1 in
         let few : nat_le (length (numbers_in 0 text)) 4096 ≡ true = rest.1 in
         let text_is : cut_text (numbers_in 0 text) ≡ text = (bytes_eq-Decides (cut_text (numbers_in 0 text)) text).0 first.0 in
         let own : IsTextOf (numbers_in 0 text) text × (length (numbers_in 0 text) ≤ 4096) =

@@ -4,15 +4,9 @@ use Rattle.std.specs.Prelude.{if◌then◌else◌}
 use Rattle.kr_base.specs.declared.span.Bound.{Bound}
 use Rattle.kr_base.specs.declared.span.Bound.TheVariants.{At}
 use Rattle.kr_base.specs.declared.entry.Entry.{Entry}
-use Rattle.kr_base.specs.Cuts.{Before}
 use Rattle.kr_base.specs.Bounds.{less}
 use Rattle.kr_base.specs.Entries.{AllAfter, Ascends, is_spent, within, through_spent, NoneSpent, ResumptionLaw}
-use Rattle.kr_base.proofs.Orders.{test_from_before}
-use Rattle.kr_base.proofs.Bounds.{transitive, not_above, not_above_less}
-
-less_from_before : (j k : List ℕ) → Before j k → less (At j) (At k) ≡ true
-unfolding less
-less_from_before j k h = test_from_before j k h
+use Rattle.kr_base.proofs.Bounds.{less_from_before, transitive, not_above, not_above_less}
 
 through_none : {R : Type 0} (es : List (Entry R)) → NoneSpent (through_spent es) → (through_spent es ≡ es) × NoneSpent es
 through_none [] h = (refl, tt)
@@ -26,7 +20,7 @@ pub through_append : {R : Type 0} (es fs : List (Entry R)) → NoneSpent es → 
 through_append [] fs h = refl
 through_append {R} (e ∷ es) fs h = rw h.0 (ap (λ (l : List (Entry R)). e ∷ l) (through_append es fs h.1))
 
--- behind b, an ascending list has nothing up to b
+-- after b, an ascending list has nothing up to b
 none_upto : {R : Type 0} (a b : Bound) (es : List (Entry R)) (k : List ℕ) → less b (At k) ≡ true → AllAfter k es → within a b es ≡ []
 none_upto a b [] k h after = refl
 none_upto a b (e ∷ es) k h after =
@@ -37,7 +31,7 @@ none_upto a b (e ∷ es) k h after =
     last true rest = rest
     last false rest = rest
 
--- from there on a lower start makes no difference
+-- above b, the starts a and b select the same entries
 same_start : {R : Type 0} (a b c : Bound) (es : List (Entry R)) (k : List ℕ) → less b a ≡ false → less b (At k) ≡ true → AllAfter k es → within a c es ≡ within b c es
 same_start a b c [] k n h after = refl
 same_start {R} a b c (e ∷ es) k n h after =

@@ -1,4 +1,4 @@
--- From the bytes that were read to the cuts whose texts begin with them.
+-- The cuts whose texts begin with the bytes consumed so far.
 use Rattle.std.proofs.Common.{◌≡◌, ℕ, zero, suc, ◌+◌, ◌^◌, ◌<◌, ◌≤◌, ◌⊎◌, inl, inr, List, [], ◌∷◌, ◌++◌, length, take, refl, sym, ap, ◌∙◌, subst, arith, decimal, append_assoc, append-nil, length-append, drop}
 use Rattle.std.proofs.lemmas.List.{take-take, take-append-drop, take-append-le, take_all, length-take}
 use Rattle.std.proofs.Math.Seq.{take-length}
@@ -10,7 +10,7 @@ use Rattle.kr_base.specs.Parsing.{IsTextOf, Begins, IsFault, OneReading, RoundTr
 use Rattle.kr_base.specs.Stages.{ended, begun_text, text_so_far, IsAt}
 use Rattle.kr_base.proofs.Digits.{some_digit, same_dotted, same_ended}
 
--- numbers below 2^32, one by one
+-- all numbers are below 2^32
 abbrev pub Small : List ℕ → Type 0
 Small ns = All (λ k. k < 2 ^ 32) ns
 
@@ -27,7 +27,7 @@ cons_small n ns h rest (suc k) d l = rest k d (omega arith)
 pub none_small : Small []
 none_small = λ k d l. absurd (omega arith)
 
--- what stands behind the numbers that ended
+-- the text after the complete numbers
 dotted-ended : (done : List ℕ) (n : ℕ) (later : List ℕ) → flat_map dotted (done ++ n ∷ later) ≡ 46 ∷ (flat_map ended done ++ (decimal n ++ flat_map dotted later))
 dotted-ended [] n later = refl
 dotted-ended (m ∷ done) n later =
@@ -41,7 +41,7 @@ text-ended (m ∷ done) n later =
     ap (λ (t : List ℕ). decimal m ++ t) (dotted-ended done n later)
     ∙ (sym (append_assoc (decimal m) (46 ∷ []) (flat_map ended done ++ (decimal n ++ flat_map dotted later))) ∙ sym (append_assoc (decimal m ++ 46 ∷ []) (flat_map ended done) (decimal n ++ flat_map dotted later)))
 
--- A text that begins with numbers and their dots goes on with a number.
+-- A text that begins with numbers and their dots continues with a number.
 GoesOn : List ℕ → Type 0
 GoesOn x = (n : ℕ) × (later : List ℕ) × (n < 2 ^ 32) × (x ≡ decimal n ++ flat_map dotted later)
 
@@ -101,12 +101,12 @@ early text done numbers d e is =
     no_text [] x some h = omega arith
     no_text (c ∷ ds) x some h = cc
 
--- each number that ended has a byte of its own
+-- the text is longer than the count of complete numbers
 pub fewer : (done : List ℕ) → length done ≤ length (flat_map ended done)
 fewer [] = omega arith
 fewer (n ∷ done) = let rest : length done ≤ length (flat_map ended done) = fewer done in omega (arith, length-append (decimal n ++ 46 ∷ []) (flat_map ended done), length-append (decimal n) (46 ∷ []))
 
--- ---- one reading
+-- ---- uniqueness
 
 same_later : (a b : List ℕ) → Small a → Small b → flat_map dotted a ≡ flat_map dotted b → a ≡ b
 same_later [] [] d e h = refl
@@ -130,7 +130,7 @@ one_cut (m ∷ a) (n ∷ b) text p q =
 fewer-front : (text : List ℕ) (i j : ℕ) → i ≤ j → take j text ≡ take i text ++ drop i (take j text)
 fewer-front text i j l = sym (take-append-drop i (take j text)) ∙ ap (λ (t : List ℕ). t ++ drop i (take j text)) (take-take i j text l)
 
--- what begins a cut's text has fronts that do
+-- prefixes of a prefix of a cut's text
 begins_before : (front more : List ℕ) → Begins (front ++ more) → Begins front
 begins_before front more (numbers, rest, is) = (numbers, more ++ rest, record { some = is.some; small = is.small; text = sym (append_assoc front more rest) ∙ is.text })
 
@@ -201,7 +201,7 @@ few_numbers front done begun kept count is =
 pub cut_at_end : (text done kept : List ℕ) (last count : ℕ) → last < 2 ^ 32 → IsAt text done (Some last) kept count → IsTextOf (done ++ last ∷ []) text × (length (done ++ last ∷ []) ≡ count + 1)
 cut_at_end text done kept last count small is = (text_at_end text done last is.small small is.text, omega (arith, is.count_is, length-append done (last ∷ [])))
 
--- ---- of the numbers the first 4,096 are kept
+-- ---- the first 4,096 numbers are kept
 
 pub keeps_front : (kept done : List ℕ) (n : ℕ) → kept ≡ take 4096 done → 4096 ≤ length kept → kept ≡ take 4096 (done ++ n ∷ [])
 keeps_front kept done n is full =
@@ -217,7 +217,7 @@ keeps_more kept done n is room =
 pub fits_in : (front done : List ℕ) (begun : Option ℕ) (kept : List ℕ) (count n : ℕ) → IsAt front done begun kept count → begun ≡ Some n → n < 2 ^ 32
 fits_in front done begun kept count n is e = subst (λ (b : Option ℕ). IfSome b (λ k. k < 2 ^ 32)) e is.fits
 
--- ---- at the end
+-- ---- the end of the text
 
 pub too_many : (text done kept : List ℕ) (last count : ℕ) → last < 2 ^ 32 → IsAt text done (Some last) kept count → 4096 ≤ count
     → (numbers : List ℕ) × IsTextOf numbers text × (length numbers ≡ count + 1) × (4096 < count + 1)
@@ -233,7 +233,7 @@ whole text done kept new last count small is few keeps =
     let all : done ++ last ∷ [] ≡ new = sym (keeps is.kept_is ∙ take_all 4096 (done ++ last ∷ []) short) in
     subst (λ (t : List ℕ). IsTextOf t text × (length t ≤ 4096)) all (end.0, short)
 
--- ---- the laws
+-- ---- the theorems
 
 pub one_reading : OneReading
 one_reading text (Ok a) (Ok b) p q more also = ap Ok (one_cut a b text p.0 q.0)

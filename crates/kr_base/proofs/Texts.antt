@@ -1,4 +1,4 @@
--- The texts of a list's elements, one after another: those before one, its own, and those behind it.
+-- A loop that writes the texts of a list's elements in order.
 use Rattle.std.proofs.Common.{◌≡◌, ℕ, ◌+◌, ◌<◌, ◌++◌, List, length, drop, get_or, add-one, drop-cons, ap, ◌∙◌, sym, append_assoc}
 use Rattle.std.specs.Prelude.{flat_map}
 

@@ -1,4 +1,4 @@
--- To be believed: entries in the order of their keys, and those in a span.
+-- To be believed: entries in ascending order of keys, and the entries of a span.
 use Rattle.std.specs.Prelude.{◌≡◌, ℕ, ◌⊎◌, List, [], ◌∷◌, ◌++◌, Bool, true, false, ◌&&◌, not, filter, if◌then◌else◌}
 use Rattle.kr_base.specs.declared.span.Bound.{Bound}
 use Rattle.kr_base.specs.declared.span.Bound.TheVariants.{At}
@@ -18,7 +18,7 @@ is_spent (Valid row) = false
 is_spent Invalid = false
 is_spent Spent = true
 
--- each key stands before all later ones
+-- all keys are above k
 abbrev pub AllAfter : {R : Type 0} → List ℕ → List (Entry R) → Type 0
 AllAfter k [] = Unit {0}
 AllAfter k (e ∷ es) = Before k e.key × AllAfter k es
@@ -27,7 +27,6 @@ abbrev pub Ascends : {R : Type 0} → List (Entry R) → Type 0
 Ascends [] = Unit {0}
 Ascends (e ∷ es) = AllAfter e.key es × Ascends es
 
--- the entry is one of these
 abbrev pub IsAmong : {R : Type 0} → Entry R → List (Entry R) → Type 0
 IsAmong e [] = ⊥
 IsAmong e (f ∷ es) = (f ≡ e) ⊎ IsAmong e es
@@ -40,12 +39,12 @@ is_within a b key = less a (At key) && not (less b (At key))
 abbrev pub within : {R : Type 0} → Bound → Bound → List (Entry R) → List (Entry R)
 within a b es = filter (λ e. is_within a b e.key) es
 
--- those up to and with the first spent one
+-- the entries up to and including the first spent one
 abbrev pub through_spent : {R : Type 0} → List (Entry R) → List (Entry R)
 through_spent [] = []
 through_spent (e ∷ es) = e ∷ (if is_spent e.mark then [] else through_spent es)
 
--- the entries in a span, cut after the first spent one
+-- the entries in a span, up to and including the first spent one
 abbrev pub entries_in : {R : Type 0} → Bound → Bound → List (Entry R) → List (Entry R)
 entries_in a b es = through_spent (within a b es)
 
@@ -53,8 +52,8 @@ abbrev pub NoneSpent : {R : Type 0} → List (Entry R) → Type 0
 NoneSpent [] = Unit {0}
 NoneSpent (e ∷ es) = (is_spent e.mark ≡ false) × NoneSpent es
 
--- A span cut in two: for a not above b, b not above c, and no spent entry above a and not above b, the entries of the
--- first part followed by those of the second are those of the whole.
+-- For a not above b, b not above c, and no spent entry in the span from a to b: the entries of that span followed by
+-- those from b to c are the entries from a to c.
 abbrev pub ResumptionLaw : Type 0 → Type 0
 ResumptionLaw R = (es : List (Entry R)) (a b c : Bound) → Ascends es → less b a ≡ false → less c b ≡ false →
     NoneSpent (entries_in a b es) → entries_in a b es ++ entries_in b c es ≡ entries_in a c es

@@ -3,6 +3,7 @@ pub mod Told
 pub mod Writing
 pub mod Cuts
 pub mod Bounds
+pub mod Places
 pub mod Entries
 pub mod Inside
 pub mod Parsing

@@ -1,4 +1,4 @@
-// Cuts: places in the order of candidates.
+// Cuts: keys of candidates, in lexicographic order.
 ghost use Rattle.std.specs.Prelude.{◌≡◌, [], decimal, IfOk, IsTrue, ◌↔◌};
 ghost use Rattle.std.specs.Ordering.{nat_cmp};
 ghost use Rattle.std.specs.Cmp.Lexicographic.{slice_cmp};
@@ -16,7 +16,7 @@ use std::alloc::Global;
 use std::cmp::Ordering;
 use std::marker::Model;
 
-/// A list of numbers, as the key of a candidate. Contracts see the list.
+/// The key of a candidate, a list of numbers. Contracts see the list.
 #[derive(Drop)]
 pub struct Cut {
     numbers: Vec<u32>,
@@ -30,15 +30,14 @@ impl Model for Cut {
     ghost view = { λ c. c.numbers.items };
 }
 
-/// Puts a number in decimal.
-fn put_number<K: Sink>(out: &mut K, number: u32) -> Result<(), Failed>
+/// Writes a number in decimal.
+pub fn put_number<K: Sink>(out: &mut K, number: u32) -> Result<(), Failed>
     ensures { Writes K.taken K.faults out.old out.new (decimal number) result }
 {
     let mut buffer = Buffer::new();
     put_all(out, buffer.format(number).as_bytes())
 }
 
-/// Puts a dot and a number.
 fn put_dotted<K: Sink>(out: &mut K, number: u32) -> Result<(), Failed>
     ensures { Writes K.taken K.faults out.old out.new (dotted number) result }
 {
@@ -47,14 +46,14 @@ fn put_dotted<K: Sink>(out: &mut K, number: u32) -> Result<(), Failed>
 }
 
 impl Cut {
-    /// The cut of these numbers. It takes no memory.
+    /// Allocates nothing.
     pub fn new(numbers: Vec<u32>) -> Self
         ensures { result ≡ numbers.items }
     {
         Cut { numbers }
     }
 
-    /// The empty cut, which stands before all others. It takes no memory.
+    /// The least cut. Allocates nothing.
     pub fn empty(alloc: Global) -> Self
         ensures { result ≡ [] }
     {
@@ -69,14 +68,12 @@ impl Cut {
         self.numbers.as_slice()
     }
 
-    /// The numbers, given back.
     pub fn into_numbers(self) -> Vec<u32>
         ensures { result.items ≡ self }
     {
         self.numbers
     }
 
-    /// A copy.
     pub fn try_clone(&self) -> Result<Cut, NoMemory>
         ensures { IfOk result (λ copy. copy ≡ self.now) }
     {
@@ -85,28 +82,26 @@ impl Cut {
         })
     }
 
-    /// The order of cuts: lexicographic, a proper prefix first.
+    /// Lexicographic, a proper prefix first.
     pub fn compare(&self, other: &Cut) -> Ordering
         ensures { result ≡ slice_cmp nat_cmp self.now other.now }
     {
         self.numbers.as_slice().cmp(other.numbers.as_slice())
     }
 
-    /// Whether the cut stands before another.
     pub fn is_below(&self, other: &Cut) -> bool
         ensures { result ≡ is_before self.now other.now }
     {
         self.compare(other) == Ordering::Less
     }
 
-    /// Whether the cuts are the same.
     pub fn is_same(&self, other: &Cut) -> bool
         ensures { IsTrue result ↔ (self.now ≡ other.now) }
     {
         self.numbers.as_slice() == other.numbers.as_slice()
     }
 
-    /// Puts the numbers in decimal, joined by dots. An empty cut has no text.
+    /// Writes the numbers in decimal, joined by dots. The empty cut has no text.
     pub fn write<K: Sink>(&self, out: &mut K) -> Result<(), Failed>
         ensures { Writes K.taken K.faults out.old out.new (cut_text self.now) result }
     {

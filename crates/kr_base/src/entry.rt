@@ -1,9 +1,8 @@
-// What a listing goes over: one entry for each class of candidates.
+// The entries of a listing, one for each class of equivalent candidates.
 
 use crate::Cut;
 
-/// What the predicate says of a candidate: it holds, with what is listed of it; it is false or traps; or its run
-/// needs more than the fuel.
+/// The verdict on a candidate: valid, with its row; invalid, if the predicate is false or traps; or out of fuel.
 #[derive(Drop)]
 pub enum Mark<R> {
     Valid(R),

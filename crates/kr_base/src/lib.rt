@@ -1,5 +1,5 @@
-//! What every crate of the tool speaks of: places in files, the words of a call, cuts of the candidate order with
-//! their bounds and spans, entries, the sink that takes text, the counter of runs, refusals, and want of memory.
+//! Types that every crate uses: places in files, the words of a call, keys of candidates with bounds and spans, entries,
+//! the sink for text, the counter of runs, refusals, and the error of an allocation.
 #![tactic(auto)]
 
 mod cut;
@@ -14,7 +14,7 @@ mod span;
 mod steps;
 mod words;
 
-pub use cut::{Cut, CutRefusal};
+pub use cut::{Cut, CutRefusal, put_number};
 pub use entry::{Entry, Mark};
 pub use laws::{inside_law, order_law, reading_law, resumption_law};
 pub use lists::add_found;

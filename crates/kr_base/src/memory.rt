@@ -1,17 +1,16 @@
-// Want of memory, which each call that allocates may answer.
+// The error of every call that allocates.
 ghost use Rattle.std.specs.Prelude.{◌≤◌};
 
 use std::alloc::{AllocError, AllocFailed};
 
-/// Memory was refused. Nobody can make one up: it comes of an allocation that failed, or of a count that has no number of
-/// 32 bits left.
+/// Out of memory. A crate above can make one only from an allocator's error, or from a count of 2^32 - 1 or more.
 #[derive(Clone, Copy, Debug, PartialEq, Eq)]
 pub struct NoMemory {
     seal: (),
 }
 
 impl NoMemory {
-    /// What a count comes to that would need more than 32 bits.
+    /// For a count that no longer fits 32 bits.
     pub fn at_limit(count: u64) -> NoMemory
         requires { 4294967295 ≤ count }
     {

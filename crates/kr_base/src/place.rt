@@ -1,7 +1,6 @@
 // A place in a source file.
 
-/// A character of a source: the file's number among the sources from 0, its line from 1, and its column from 1 in
-/// characters.
+/// The file's number counts from 0, line and column from 1; columns are in characters.
 #[derive(Clone, Copy, PartialEq, Eq)]
 pub struct Place {
     pub file: u32,

@@ -1,4 +1,4 @@
-// What refuses a text of the user's: a rule that it breaks, and where.
+// Refusals of the user's input: the broken rule, and where.
 ghost use Rattle.std.specs.Prelude.{◌≡◌, IfOk};
 ghost use Rattle.kr_base.specs.declared.refusal.RefusalAt.TheVariants.{NoMemory as LackingAt};
 ghost use Rattle.kr_base.specs.declared.refusal.RefusalOf.TheVariants.{NoMemory as LackingOf};
@@ -7,7 +7,7 @@ use crate::{NoMemory, Place};
 use std::alloc::Global;
 use std::marker::Model;
 
-/// A source was refused: it breaks a rule at a place, or memory was refused.
+/// The refusal of a source: a rule broken at a place, or no memory.
 #[derive(Clone, Copy, PartialEq, Eq)]
 pub enum RefusalAt<R> {
     Broken { place: Place, rule: R },
@@ -22,7 +22,7 @@ impl<R> From<NoMemory> for RefusalAt<R> {
     }
 }
 
-/// The item that breaks a rule, as `fields.C.f`. Contracts see its bytes.
+/// The name of an item of a finitization, as `fields.C.f`. Contracts see its bytes.
 #[derive(Drop)]
 pub struct ItemName {
     bytes: Vec<u8>,
@@ -37,7 +37,6 @@ impl Model for ItemName {
 }
 
 impl ItemName {
-    /// A copy of the bytes.
     pub fn of(alloc: Global, bytes: &[u8]) -> Result<ItemName, NoMemory>
         ensures { IfOk result (λ copy. copy ≡ bytes.now) }
     {
@@ -53,14 +52,14 @@ impl ItemName {
     }
 }
 
-/// A rule that is broken, and the item that breaks it.
+/// A broken rule with the item that breaks it.
 #[derive(Drop)]
 pub struct Fault<R> {
     pub rule: R,
     pub item: ItemName,
 }
 
-/// A finitization was refused: an item breaks a rule, or memory was refused.
+/// The refusal of a finitization: a rule broken by an item, or no memory.
 #[derive(Drop)]
 pub enum RefusalOf<R> {
     Broken(Fault<R>),

@@ -1,11 +1,11 @@
-// A counter that only a tick moves.
+// The count of runs of the predicate, as proofs see it.
 ghost use Rattle.std.specs.Prelude.{◌≡◌, ◌+◌, ◌<◌};
 
 use std::marker::Model;
 use std::sync::ledger::{Blank, Book, Ledger, Share};
 
-/// How many runs were made. A caller that counts nothing passes a counter of a ledger of its own: a function that is
-/// generic in the ledger makes it of a `Blank`, and is called at `Brand`.
+/// A ghost counter: it takes no memory and no time. A caller that needs no count makes one from a `Blank` of a ledger of
+/// its own, in a function that is generic in the ledger and called at `Brand`.
 #[derive(Drop)]
 pub struct Steps<L: Ledger> {
     book: Book<L>,
@@ -23,7 +23,6 @@ impl<L: Ledger> Model for Steps<L> {
 }
 
 impl<L: Ledger> Steps<L> {
-    /// No run yet.
     pub fn start(blank: Blank) -> Steps<L>
         requires ledger { blank.name ≡ L.name }
         requires parts { blank.parts ≡ L.parts }
@@ -34,7 +33,6 @@ impl<L: Ledger> Steps<L> {
         Steps { book, share }
     }
 
-    /// One run more.
     pub fn tick(&mut self)
         ensures { self.new ≡ self.old + 1 }
     {

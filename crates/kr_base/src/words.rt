@@ -1,11 +1,11 @@
-// The words of a call.
+// The words of a command line.
 ghost use Rattle.std.specs.Prelude.{◌≡◌, ◌<◌, [], ◌∷◌, ◌++◌, ◌==◌, length, map, slice_index_or, string_bytes, OnOk, OnErr};
 
 use crate::NoMemory;
 use std::alloc::Global;
 use std::marker::Model;
 
-/// The words of a call, without the program's own name. Contracts see a list of texts.
+/// The arguments of a command line, without the program's name. Contracts see a list of texts in bytes.
 #[derive(Drop)]
 pub struct Words {
     alloc: Global,
@@ -49,14 +49,12 @@ impl Words {
         self.items[at].as_str()
     }
 
-    /// The words as texts.
     pub fn texts(&self) -> &[String]
         ensures { map string_bytes result.now ≡ self.now }
     {
         self.items.as_slice()
     }
 
-    /// Adds a word at the end.
     pub fn push(&mut self, word: &str) -> Result<(), NoMemory>
         ensures added { OnOk result (self.new ≡ self.old ++ word.now ∷ []) }
         ensures unchanged { OnErr result (self.new ≡ self.old) }

@@ -16,7 +16,9 @@ use Rattle.kr_core.specs.declared.segment.Segment.{Segment}
 use Rattle.kr_core.specs.declared.event.Event.{Event}
 use Rattle.kr_core.specs.declared.event.Event.TheVariants.{Drain}
 use Rattle.kr_core.specs.declared.event.Reply.{Reply}
-use Rattle.kr_core.specs.States.{State, capped, is_closed, is_same, Each}
+use Rattle.kr_base.specs.Causes.{capped}
+use Rattle.kr_base.specs.Bounds.{is_same}
+use Rattle.kr_core.specs.States.{State, is_closed, Each}
 use Rattle.kr_core.specs.Steps.{front, gone, may_stop}
 use Rattle.kr_core.specs.Counts.{IsSpentFlag, Counts}
 use Rattle.kr_core.specs.Rows.{drained}
@@ -28,7 +30,8 @@ use Rattle.kr_core.proofs.Ends.{counting_law}
 use Rattle.kr_core.proofs.Rowing.{plus, rows_in, front-rows}
 use Rattle.kr_board.specs.Held.{Held}
 use Rattle.kr_board.specs.Boards.{rows_from, Adds, Stays, AreNext}
-use Rattle.kr_board.specs.Closing.{all_closed, mark_in, front_rows, cut_of, spent_in, IsListing, Lists}
+use Rattle.kr_survey.specs.Listings.{spent_in}
+use Rattle.kr_board.specs.Closing.{all_closed, mark_in, front_rows, cut_of, IsListing, Lists}
 use Rattle.kr_board.specs.Rooms.{IsSound}
 use Rattle.kr_board.proofs.Sound.{join, size, sizes}
 use Rattle.kr_board.proofs.Staying.{holds, stays}

@@ -7,12 +7,11 @@ use Rattle.kr_base.specs.declared.span.Bound.TheVariants.{At}
 use Rattle.kr_base.specs.declared.entry.Mark.{Mark}
 use Rattle.kr_base.specs.declared.entry.Mark.TheVariants.{Valid, Invalid, Spent}
 use Rattle.kr_base.specs.declared.entry.Entry.{Entry}
-use Rattle.kr_base.specs.Bounds.{less}
+use Rattle.kr_base.specs.Bounds.{less, is_cut}
 use Rattle.kr_base.specs.Entries.{Ascends, is_spent, within, through_spent, entries_in, NoneSpent}
 use Rattle.kr_survey.specs.declared.part.Part.{Part}
 use Rattle.kr_survey.specs.Scans.{row_of, rows_of, any_spent, last_key, walked, reached, IsScan, GoesOn}
 use Rattle.kr_survey.proofs.Walks.{scan_law}
-use Rattle.kr_core.specs.States.{is_cut}
 use Rattle.kr_core.specs.Counts.{EndsSpent, IsSpentFlag}
 use Rattle.kr_board.specs.Parts.{IsPart, IsPossible, PartLaw}
 

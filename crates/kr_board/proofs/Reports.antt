@@ -9,7 +9,7 @@ use Rattle.kr_base.specs.declared.span.Bound.TheVariants.{At, End}
 use Rattle.kr_base.specs.declared.entry.Mark.{Mark}
 use Rattle.kr_base.specs.declared.entry.Mark.TheVariants.{Valid, Invalid, Spent}
 use Rattle.kr_base.specs.declared.entry.Entry.{Entry}
-use Rattle.kr_base.specs.Bounds.{less}
+use Rattle.kr_base.specs.Bounds.{less, is_cut, is_same}
 use Rattle.kr_base.specs.Entries.{within, is_valid}
 use Rattle.kr_base.proofs.Bounds.{irreflexive, connected}
 use Rattle.kr_survey.specs.declared.part.Part.{Part}
@@ -20,7 +20,7 @@ use Rattle.kr_core.specs.declared.event.Event.TheVariants.{Report, Look}
 use Rattle.kr_core.specs.declared.event.Reply.{Reply}
 use Rattle.kr_core.specs.declared.event.Reply.TheVariants.{Noted}
 use Rattle.kr_core.specs.declared.event.Lease.{Lease}
-use Rattle.kr_core.specs.States.{State, is_cut, is_same, is_owned_by, segment_of}
+use Rattle.kr_core.specs.States.{State, is_owned_by, segment_of}
 use Rattle.kr_core.specs.Steps.{fits, may_report}
 use Rattle.kr_core.specs.Counts.{Tells, TellsFrom}
 use Rattle.kr_core.proofs.Beside.{IsMore}

@@ -7,7 +7,8 @@ use Rattle.kr_core.specs.declared.segment.Segment.{Segment}
 use Rattle.kr_core.specs.declared.event.Event.{Event}
 use Rattle.kr_core.specs.declared.event.Event.TheVariants.{Take, Steal, Report, GiveUp, Drain, StopAt, Look}
 use Rattle.kr_core.specs.declared.event.Reply.{Reply}
-use Rattle.kr_core.specs.States.{State, capped, is_owned, is_closed, change}
+use Rattle.kr_base.specs.Causes.{capped}
+use Rattle.kr_core.specs.States.{State, is_owned, is_closed, change}
 use Rattle.kr_core.specs.Steps.{Step, after, scanned, left, stopped}
 use Rattle.kr_core.specs.Kept.{IsKept}
 use Rattle.kr_core.specs.Rows.{brought}

@@ -5,14 +5,14 @@ use Rattle.std.proofs.lemmas.Bool.Decides.{nat_tests}
 use Rattle.std.specs.Option.{option_map}
 use Rattle.kr_base.specs.declared.span.Bound.{Bound}
 use Rattle.kr_base.specs.declared.span.Bound.TheVariants.{At, End}
-use Rattle.kr_base.specs.Bounds.{less}
+use Rattle.kr_base.specs.Bounds.{less, is_same}
 use Rattle.kr_base.specs.Inside.{inside_of}
 use Rattle.kr_base.proofs.Bounds.{connected}
 use Rattle.kr_base.proofs.Insides.{inside}
 use Rattle.kr_core.specs.declared.segment.Segment.{Segment}
 use Rattle.kr_core.specs.declared.event.Event.TheVariants.{Steal}
 use Rattle.kr_core.specs.declared.event.Lease.{Lease}
-use Rattle.kr_core.specs.States.{State, is_same, is_owned, is_owned_by, segment_of}
+use Rattle.kr_core.specs.States.{State, is_owned, is_owned_by, segment_of}
 use Rattle.kr_core.specs.declared.event.Reply.TheVariants.{Lease as Leased}
 use Rattle.kr_core.specs.Steps.{fits, may_steal, stolen, IsLeased}
 use Rattle.kr_core.proofs.Bools.{and-left, and-right, not-true, owner_known}

@@ -1,7 +1,9 @@
 -- The rows kept stay in their window, through each event.
 use Rattle.std.proofs.Common.{◌≡◌, ℕ, suc, ◌+◌, ◌-◌, ◌^◌, ◌≤◌, List, [], ◌∷◌, ◌++◌, Bool, true, false, ◌&&◌, not, length, drop, refl, sym, ap, ◌∙◌, subst, arith, cond, ◌==◌, length-append, Option, Some, None}
 use Rattle.std.specs.Prelude.{if◌then◌else◌, nat_lt}
+use Rattle.std.specs.List.{sum_by}
 use Rattle.std.proofs.lemmas.Bool.Decides.{nat_tests}
+use Rattle.std.proofs.lemmas.List.Sums.{sum_by-cons}
 use Rattle.kr_survey.specs.Joins.{joined}
 use Rattle.kr_core.specs.declared.segment.Segment.{Segment}
 use Rattle.kr_core.specs.declared.event.Event.{Event}
@@ -11,7 +13,7 @@ use Rattle.kr_core.specs.Rows.{brought}
 use Rattle.kr_core.specs.Beside.{grown, parted, emptied, first_alone, beside}
 use Rattle.kr_core.proofs.Rowing.{rows_in}
 use Rattle.kr_board.specs.Held.{Held}
-use Rattle.kr_board.specs.Windows.{IsInWindow, IsFew, passes, is_open_front, is_over, Admits}
+use Rattle.kr_board.specs.Windows.{CountsFew, IsInWindow, IsFew, passes, is_open_front, is_over, Admits}
 use Rattle.kr_board.proofs.Sound.{join, size, sizes, total-end, total-grown, total-parted, total-emptied, total-first}
 
 -- the rows behind the first list
@@ -120,3 +122,18 @@ stays_in_window {R} b event more now same is kept admits = of b.window refl kept
 pub few : (window : Option ℕ) (n : ℕ) → n ≤ 256 → IsFew window n
 few None n h = tt
 few (Some w) n h = h
+
+-- what the segments count
+few_counted : {R : Type 0} (ss : List Segment) (ks : List (List R)) → rows_in ss ≡ sizes ks → sum_by (λ s. s.rows) ss ≤ length (joined ks)
+few_counted [] ks h = omega arith
+few_counted (s ∷ ss) [] h = absurd (cc (h))
+few_counted {R} (s ∷ ss) (k ∷ ks) h =
+    let first : s.rows ≡ size k = cc (h) in
+    let rest = few_counted ss ks (cc (h)) in
+    let sum = sum_by-cons (λ (g : Segment). g.rows) s ss in
+    let a = length-append k (joined ks) in
+    omega (arith, first, rest, sum, a)
+
+pub counts_few : {R : Type 0} (window : Option ℕ) (core : State) (ks : List (List R)) → rows_in core.segments ≡ sizes ks → IsInWindow window ks → CountsFew window core
+counts_few None core ks h k = tt
+counts_few (Some w) core ks h k = let a = few_counted core.segments ks h in let b = k.1 in omega (arith, a, b)

@@ -1,16 +1,18 @@
--- Between crates: giving up, draining, stopping, closing.
+-- To be believed: giving up, draining, stopping, closing.
 use Rattle.std.specs.Prelude.{◌≡◌, ℕ, ◌+◌, List, [], ◌∷◌, Bool, true, false, Option, Some, None, length, drop, if◌then◌else◌}
 use Rattle.std.specs.List.{sum_by, list_all}
 use Rattle.kr_base.specs.declared.span.Bound.{Bound}
 use Rattle.kr_base.specs.declared.span.Bound.TheVariants.{At, End}
 use Rattle.kr_base.specs.declared.span.Span.{Span}
 use Rattle.kr_base.specs.declared.entry.Entry.{Entry}
-use Rattle.kr_base.specs.Entries.{Ascends, is_spent, within, entries_in}
+use Rattle.kr_base.specs.Entries.{Ascends, within, entries_in}
+use Rattle.kr_survey.specs.Listings.{spent_in}
 use Rattle.kr_survey.specs.declared.part.Listing.{Listing}
 use Rattle.kr_survey.specs.Joins.{joined}
 use Rattle.kr_survey.specs.Scans.{rows_of}
 use Rattle.kr_core.specs.declared.segment.Segment.{Segment}
-use Rattle.kr_core.specs.States.{State, capped, is_closed}
+use Rattle.kr_base.specs.Causes.{capped}
+use Rattle.kr_core.specs.States.{State, is_closed}
 use Rattle.kr_core.specs.Openings.{AreInside}
 use Rattle.kr_core.specs.Rows.{drained}
 use Rattle.kr_core.specs.Beside.{fronts}
@@ -48,11 +50,6 @@ pub record IsListing {R : Type 0} (b : Held R) (l : Listing R) : Type 0 where
   pub rows : l.rows ≡ joined b.kept
   pub tried : l.tried ≡ capped (b.core.past + sum_by (λ g. g.tried) b.core.segments)
   pub spent : l.spent ≡ spent_key b.core
-
--- the key of the first spent entry
-abbrev pub spent_in : {R : Type 0} → List (Entry R) → Option (List ℕ)
-spent_in [] = None
-spent_in (e ∷ es) = if is_spent e.mark then Some e.key else spent_in es
 
 -- of every survey that the board is of: the rows up to the end behind those drained, the number of all entries up to the
 -- end, cut after the first spent one, and the key of that, or none where there is none

@@ -3,11 +3,10 @@ use Rattle.std.specs.Prelude.{◌≡◌, ℕ, ◌^◌, ◌<◌, ◌≤◌, List,
 use Rattle.kr_base.specs.declared.span.Bound.{Bound}
 use Rattle.kr_base.specs.declared.span.Bound.TheVariants.{At}
 use Rattle.kr_base.specs.declared.entry.Entry.{Entry}
-use Rattle.kr_base.specs.Bounds.{less}
+use Rattle.kr_base.specs.Bounds.{less, is_cut}
 use Rattle.kr_base.specs.Entries.{Ascends, within}
 use Rattle.kr_survey.specs.declared.part.Part.{Part}
 use Rattle.kr_survey.specs.Scans.{IsScan, rows_of}
-use Rattle.kr_core.specs.States.{is_cut}
 use Rattle.kr_core.specs.Counts.{IsSpentFlag}
 
 -- the part of a survey from a cut to its reach: the rows and the number of the entries there, and whether the last of them,

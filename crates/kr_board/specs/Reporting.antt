@@ -2,7 +2,7 @@
 use Rattle.std.specs.Prelude.{◌≡◌, Bool, not, Option, Some, None, is_none, length, if◌then◌else◌}
 use Rattle.kr_base.specs.declared.span.Bound.{Bound}
 use Rattle.kr_base.specs.declared.span.Bound.TheVariants.{At, End}
-use Rattle.kr_base.specs.Bounds.{less}
+use Rattle.kr_base.specs.Bounds.{less, is_same}
 use Rattle.kr_survey.specs.declared.part.Part.{Part}
 use Rattle.kr_core.specs.declared.segment.Segment.{Segment}
 use Rattle.kr_core.specs.declared.event.Event.{Event}
@@ -10,7 +10,7 @@ use Rattle.kr_core.specs.declared.event.Event.TheVariants.{Report, Look}
 use Rattle.kr_core.specs.declared.event.Lease.{Lease}
 use Rattle.kr_core.specs.declared.event.Reply.{Reply}
 use Rattle.kr_core.specs.declared.event.Reply.TheVariants.{Go as GoOn, Done as AllDone, Noted}
-use Rattle.kr_core.specs.States.{State, is_same, is_owned_by, segment_of}
+use Rattle.kr_core.specs.States.{State, is_owned_by, segment_of}
 use Rattle.kr_board.specs.Held.{Held}
 use Rattle.kr_board.specs.Windows.{is_over}
 use Rattle.kr_board.specs.declared.board.reporting.Reported.{Reported}

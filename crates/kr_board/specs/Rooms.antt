@@ -6,7 +6,8 @@ use Rattle.kr_survey.specs.Joins.{joined}
 use Rattle.kr_core.specs.declared.segment.Segment.{Segment}
 use Rattle.kr_core.specs.declared.event.Event.{Event}
 use Rattle.kr_core.specs.declared.event.Event.TheVariants.{Take, Steal, Report, GiveUp, Drain, StopAt, Look}
-use Rattle.kr_core.specs.States.{State, capped, is_owned}
+use Rattle.kr_base.specs.Causes.{capped}
+use Rattle.kr_core.specs.States.{State, is_owned}
 use Rattle.kr_core.specs.Kept.{IsKept}
 use Rattle.kr_board.specs.declared.edits.Edit.{Edit}
 use Rattle.kr_board.specs.declared.edits.Edit.TheVariants.{Nothing, Insert, Append, First}

@@ -5,7 +5,8 @@ use Rattle.kr_base.specs.declared.span.Bound.TheVariants.{At, End}
 use Rattle.kr_base.specs.Inside.{inside_of}
 use Rattle.kr_core.specs.declared.segment.Segment.{Segment}
 use Rattle.kr_core.specs.declared.event.Lease.{Lease}
-use Rattle.kr_core.specs.States.{State, is_same, is_owned_by, segment_of}
+use Rattle.kr_base.specs.Bounds.{is_same}
+use Rattle.kr_core.specs.States.{State, is_owned_by, segment_of}
 
 -- by the segment's mark, which is the lease's, and its upto: the cut inside
 abbrev pub split_at : Bound → Bound → Lease → Option (List ℕ)

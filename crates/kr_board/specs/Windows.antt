@@ -1,15 +1,22 @@
 -- Between crates: a bound on the rows kept.
 use Rattle.std.specs.Prelude.{◌≡◌, ℕ, ◌+◌, ◌≤◌, List, [], ◌∷◌, Bool, false, ◌&&◌, not, ◌==◌, nat_lt, Option, Some, None, length, drop}
+use Rattle.std.specs.List.{sum_by}
 use Rattle.kr_survey.specs.Joins.{joined}
 use Rattle.kr_core.specs.declared.segment.Segment.{Segment}
 use Rattle.kr_core.specs.declared.event.Event.{Event}
 use Rattle.kr_core.specs.declared.event.Event.TheVariants.{Take, Steal, Report, GiveUp, Drain, StopAt, Look}
+use Rattle.kr_core.specs.States.{State}
 use Rattle.kr_board.specs.Held.{Held}
 
 -- of the rows kept: those behind the first segment are no more than the window, and all are at most 256 more
 abbrev pub IsInWindow : {R : Type 0} → Option ℕ → List (List R) → Type 0
 IsInWindow None ks = Unit {0}
 IsInWindow (Some window) ks = (length (joined (drop 1 ks)) ≤ window) × (length (joined ks) ≤ window + 256)
+
+-- the rows that the segments count are at most 256 more than the window
+abbrev pub CountsFew : Option ℕ → State → Type 0
+CountsFew None s = Unit {0}
+CountsFew (Some window) s = sum_by (λ g. g.rows) s.segments ≤ window + 256
 
 -- where there is a window, at most 256
 abbrev pub IsFew : Option ℕ → ℕ → Type 0

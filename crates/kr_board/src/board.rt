@@ -90,7 +90,7 @@ impl<R: Drop> Board<R> {
         Board::open(alloc, survey, span, cuts, None)
     }
 
-    /// The same, with a window: of the rows reported it keeps no more than that, and at most 256 above it.
+    /// A board with a window: of the rows reported it keeps at most so many and 256 more.
     pub fn with_window<S: Survey<Row = R>>(
         alloc: Global,
         survey: &S,
@@ -109,7 +109,7 @@ impl<R: Drop> Board<R> {
         Board::open(alloc, survey, span, cuts, Some(window))
     }
 
-    // The same, with or without a window.
+    // A board with or without a window.
     fn open<S: Survey<Row = R>>(
         alloc: Global,
         survey: &S,

@@ -1,4 +1,4 @@
-// What an event changes in the rows kept: a list for each segment.
+// Changes of the rows kept: a list for each segment.
 ghost use Rattle.std.specs.Prelude.{◌≡◌, ◌+◌, ◌<◌, ◌≤◌, ◌++◌, ◌∷◌, [], length, take, drop, insert, slice_set, slice_index_or, replicate, vec_len, vec_capacity, OnOk, IfOk};
 ghost use Rattle.kr_survey.specs.Joins.{lists};
 ghost use Rattle.kr_board.specs.Edits.{added, edited, edit_of, Moves};
@@ -9,7 +9,7 @@ use kr_core::{Core, Event};
 use std::alloc::Global;
 use std::mem;
 
-/// An edit of the lists kept: an empty one directly behind a place; rows at the end of the one at a place, and whether that is the last
+/// An edit of the lists kept: an empty one directly after a place; rows at the end of the one at a place, and whether that is the last
 /// one then; the first one alone.
 #[derive(Clone, Copy)]
 pub enum Edit {
@@ -19,7 +19,7 @@ pub enum Edit {
     First,
 }
 
-/// What an event edits, other than a drain.
+/// The edit of an event, other than a drain.
 pub fn edit_of(core: &Core, event: &Event) -> Edit
     ensures { result ≡ edit_of core.now.segments event.now }
 {
@@ -76,7 +76,7 @@ fn append_at<R: Drop>(kept: &mut Vec<Vec<R>>, i: usize, mut rows: Vec<R>)
     let _ = kept[i].append(&mut rows);
 }
 
-// An empty list directly behind a place. There is room for it.
+// Inserts an empty list directly after a place. There is room for it.
 fn insert_behind<R: Drop>(alloc: Global, kept: &mut Vec<Vec<R>>, i: usize)
     requires within { i < length kept.old.items }
     requires room { vec_len kept.old < vec_capacity kept.old }
@@ -140,7 +140,7 @@ fn replace_first<R>(kept: &mut Vec<Vec<R>>, list: Vec<R>) -> Vec<R>
     mem::replace(&mut kept[0], list)
 }
 
-/// The first lists up to the one behind `gone`, which is empty then, and those before it go. It takes no memory.
+/// Takes out the first `gone` lists and the rows of the next one. It takes no memory.
 pub fn take_front<R: Drop>(
     alloc: Global,
     kept: &mut Vec<Vec<R>>,

@@ -1,8 +1,8 @@
-// What holds of parts, and of every board of a survey.
+// Laws of parts, and of every board of a survey.
 ghost use Rattle.kr_board.specs.Boards.{BoardLaw};
 ghost use Rattle.kr_board.specs.Parts.{PartLaw};
 
-/// What a scan gives from a lease's mark is a part of its survey, and may be reported.
+/// A scan from a lease's mark gives a part of its survey, which may be reported.
 pub fn part_law<R>()
     ensures { PartLaw R }
 {}

@@ -1,7 +1,6 @@
 // Whether what was scanned may be reported.
 ghost use Rattle.std.specs.Prelude.{◌≡◌, ◌↔◌, IsTrue};
-ghost use Rattle.kr_base.specs.Bounds.{less};
-ghost use Rattle.kr_core.specs.States.{is_cut};
+ghost use Rattle.kr_base.specs.Bounds.{less, is_cut};
 ghost use Rattle.kr_board.specs.Parts.{IsPossible};
 
 use kr_base::{Bound, Cut};

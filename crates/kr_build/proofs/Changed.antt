@@ -127,7 +127,7 @@ module _ (problem : Problem) (v : List ℕ) (s i : ℕ) where
               (heap_get problem w new c.domain c.number c.domain_in c.number_in ∙ (object_same (object c.domain c.number) apart ∙ sym (heap_get problem w v c.domain c.number c.domain_in c.number_in)))
               ∙ sym (get_or-set_other (heap_of problem v) number n one no_object q)
 
-  -- the same, with a name for the changed vector
+  -- likewise, with a name for the changed vector
   pub heap_with : IsWellFormed problem → (o : DomainObject) (u : List ℕ) → u ≡ slice_set v s i → InDomain problem o → (slot_at problem s).owner ≡ Some o → heap_of problem u ≡ with_values (heap_of problem v) (heap_number problem o) (heap_object problem u o).values
   heap_with w o u q d e = subst (λ (x : List ℕ). heap_of problem x ≡ with_values (heap_of problem v) (heap_number problem o) (heap_object problem x o).values) (sym q) (heap_of_set w o.domain o.number d.domain d.number e)
 
@@ -154,7 +154,7 @@ owner_in problem s o h e = go (slot_case problem s h)
         let is : object d k ≡ o = cc (q, e) in
         subst (InDomain problem) is (record { domain = a; number = b })
 
--- and where it stands there
+-- and its position there
 pub record StandsIn (problem : Problem) (s : ℕ) (o : DomainObject) : Type 0 where
   pub after : numbering.first_slot problem o.domain o.number ≤ s
   pub within : s < numbering.first_slot problem o.domain o.number + width_at problem o.domain
@@ -170,7 +170,7 @@ stands_in problem s o h e = go (slot_case problem s h)
         let is : object d k ≡ o = cc (q, e) in
         subst (StandsIn problem s) is (record { after = omega (arith, z); within = omega (arith, z, c) })
 
--- values at slots that stand one after another, of which one has changed
+-- values at consecutive slots, of which one has changed
 same_range : (f g : ℕ → Value) (a n : ℕ) → ((t : ℕ) → a ≤ t → f t ≡ g t) → map f (range_with_len a n) ≡ map g (range_with_len a n)
 same_range f g a zero h = refl
 same_range f g a (suc n) h = ap (λ (x : Value). x ∷ map f (range_with_len (a + 1) n)) (h a (omega arith)) ∙ ap (λ (xs : List Value). g a ∷ xs) (same_range f g (a + 1) n (λ t l. h t (omega (arith, l))))
@@ -206,7 +206,7 @@ pub vector_long : (problem : Problem) (v : List ℕ) → IsVector (space_of prob
 unfolding space_of
 vector_long problem v j = j.long
 
--- one more index of another vector, behind the first ones
+-- one more index of another vector, after the first ones
 pub front_more : (u v : List ℕ) (n : ℕ) → n < length u → ((s : ℕ) → s < n → get_or u s 0 ≡ get_or v s 0) → (s : ℕ) → s < n + 1 → get_or (slice_set u n (get_or v n 0)) s 0 ≡ get_or v s 0
 front_more u v n h f s l = go (cases_eq s n)
   where
@@ -244,7 +244,7 @@ range_more f a (suc n) =
     let e : a + 1 + n ≡ a + suc n = omega arith in
     ap (λ (xs : List Value). f a ∷ xs) (range_more f (a + 1) n ∙ ap (λ (k : ℕ). map f (range_with_len (a + 1) n) ++ f k ∷ []) e)
 
--- one more value behind those that an object has got
+-- one more value after those that an object has got
 pub with_next : (h k j : Heap) (o : ℕ) (f : ℕ → Value) (a n : ℕ) (x : Value) (xs : List Value) → k ≡ with_values h o (xs ++ map f (range_with_len a n)) → x ≡ f (a + n) → j ≡ with_values k o ((object_in k o).values ++ x ∷ []) → j ≡ with_values h o (xs ++ map f (range_with_len a (n + 1)))
 with_next h k j o f a n x xs e q g =
     let m : suc n ≡ n + 1 = omega arith in

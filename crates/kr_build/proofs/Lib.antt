@@ -2,3 +2,4 @@ pub mod Meetings
 pub mod Walking
 pub mod Rows
 pub mod Changed
+pub mod Below

@@ -3,9 +3,9 @@ use Rattle.std.proofs.Common.{◌≡◌, ℕ, ◌⊎◌, inl, inr, Bool, true, f
 use Rattle.std.specs.Prelude.{filter, not, ◌||◌}
 use Rattle.std.proofs.lemmas.List.{append-nil}
 use Rattle.std.proofs.lemmas.List.Concat.{flat_map-append}
+use Rattle.std.proofs.lemmas.Bool.{cases_Bool}
 use Rattle.kr_mean.specs.Problem.{Problem, DomainObject}
 use Rattle.kr_mean.specs.Heaps.{distinct, is_same_object, objects_of, objects_at, choice_at}
-use Rattle.kr_laws_slots.proofs.Membership.{bool_cases}
 use Rattle.kr_laws_slots.proofs.Places.{same_objects}
 use Rattle.kr_laws_slots.proofs.SlotForks.{added, distinct_append}
 use Rattle.kr_laws_slots.proofs.Walked.{objects_there}
@@ -33,7 +33,7 @@ added_one (p ∷ ps) o =
 
 in_filter : (p o : DomainObject) (os : List DomainObject) → is_same_object p o ≡ false → is_in o (filter (λ y. not (is_same_object p y)) os) ≡ is_in o os
 in_filter p o [] e = refl
-in_filter p o (q ∷ qs) e = go (bool_cases (is_same_object p q)) (bool_cases (is_same_object q o)) (in_filter p o qs e)
+in_filter p o (q ∷ qs) e = go (cases_Bool (is_same_object p q)) (cases_Bool (is_same_object q o)) (in_filter p o qs e)
   where
     go : (is_same_object p q ≡ true) ⊎ (is_same_object p q ≡ false) → (is_same_object q o ≡ true) ⊎ (is_same_object q o ≡ false)
         → is_in o (filter (λ y. not (is_same_object p y)) qs) ≡ is_in o qs → is_in o (filter (λ y. not (is_same_object p y)) (q ∷ qs)) ≡ is_in o (q ∷ qs)
@@ -46,13 +46,13 @@ in_filter p o (q ∷ qs) e = go (bool_cases (is_same_object p q)) (bool_cases (i
 
 in_distinct : (o : DomainObject) (os : List DomainObject) → is_in o (distinct is_same_object os) ≡ is_in o os
 in_distinct o [] = refl
-in_distinct o (p ∷ ps) = go (bool_cases (is_same_object p o)) (in_distinct o ps)
+in_distinct o (p ∷ ps) = go (cases_Bool (is_same_object p o)) (in_distinct o ps)
   where
     go : (is_same_object p o ≡ true) ⊎ (is_same_object p o ≡ false) → is_in o (distinct is_same_object ps) ≡ is_in o ps → is_in o (distinct is_same_object (p ∷ ps)) ≡ is_in o (p ∷ ps)
     go (inl e) r = rw e refl
     go (inr e) r = rw e (in_filter p o (distinct is_same_object ps) e ∙ r)
 
--- what one slot more adds
+-- the objects that one slot more adds
 abbrev pub new_objects : Option DomainObject → List DomainObject → List DomainObject
 new_objects None os = []
 new_objects (Some o) os = unless_in (is_in o os) o

@@ -10,9 +10,9 @@ use Rattle.kr_mean.specs.WellFormed.{AreSpots, IsWellFormed}
 use Rattle.kr_mean.specs.Heaps.{choice_at, slots_in, value_at}
 use Rattle.kr_space_layout.specs.Layouts.{first_slot, slots_before}
 use Rattle.kr_laws_slots.proofs.Numbering as numbering
-use Rattle.kr_laws_slots.proofs.Numbering.{object, count_at, width_at, object_slot}
+use Rattle.kr_laws_slots.proofs.Numbering.{object, width_at, object_slot}
 use Rattle.kr_laws_slots.proofs.Places as places
-use Rattle.kr_laws_slots.proofs.Places.{extent_within, slots_in_are, class_at}
+use Rattle.kr_laws_slots.proofs.Places.{extent_within, slots_in_are}
 use Rattle.kr_laws_slots.proofs.Spaces.{block_of}
 use Rattle.kr_build.specs.Extents.{extent_of, is_array}
 

@@ -3,11 +3,10 @@ use Rattle.std.proofs.Common.{◌≡◌, ℕ, zero, suc, ◌+◌, ◌<◌, ◌�
 use Rattle.std.specs.Prelude.{flat_map, ◌||◌, ◌==◌, if◌then◌else◌}
 use Rattle.std.proofs.lemmas.List.{append-nil, length-append, take-append-drop, take-append-le, take_more, take_all, get_or_append_left, nil_from_length}
 use Rattle.std.proofs.lemmas.List.Concat.{flat_map-append}
-use Rattle.std.proofs.lemmas.Bool.{eq-eqb, eqb-true}
+use Rattle.std.proofs.lemmas.Bool.{eq-eqb, eqb-true, cases_Bool}
 use Rattle.kr_mean.specs.Problem.{Problem, DomainObject, all_objects, heap_number, slots, slot_at}
 use Rattle.kr_mean.specs.WellFormed.{IsWellFormed}
 use Rattle.kr_mean.specs.Heaps.{is_same_object, slots_in, objects_at, root_slots, met_within, walk, choice_at}
-use Rattle.kr_laws_slots.proofs.Membership.{bool_cases}
 use Rattle.kr_laws_slots.proofs.Places.{one_object, same_object, same_objects}
 use Rattle.kr_laws_slots.proofs.SlotForks.{added}
 use Rattle.kr_laws_runs.proofs.Respects.{AllOf}
@@ -95,7 +94,7 @@ module _ (problem : Problem) (w : IsWellFormed problem) (v : List ℕ) where
     )
 
     marked : (new_met : List Bool) (o : DomainObject) → Valid problem o → IsMarked met (heap_number problem o) new_met → (p : DomainObject) → Valid problem p → get_or new_met (heap_number problem p) false ≡ is_in p (os ++ o ∷ [])
-    marked new_met o a m p b = m (heap_number problem p) ∙ (go (bool_cases (is_same_object o p)) ∙ sym (in_more p o os))
+    marked new_met o a m p b = m (heap_number problem p) ∙ (go (cases_Bool (is_same_object o p)) ∙ sym (in_more p o os))
       where
         or_true : (c : Bool) → (c || true) ≡ true
         or_true true = refl
@@ -106,7 +105,7 @@ module _ (problem : Problem) (w : IsWellFormed problem) (v : List ℕ) where
         or_false false = refl
 
         other : is_same_object o p ≡ false → (heap_number problem p == heap_number problem o) ≡ false
-        other e = off (bool_cases (heap_number problem p == heap_number problem o))
+        other e = off (cases_Bool (heap_number problem p == heap_number problem o))
           where
             off : ((heap_number problem p == heap_number problem o) ≡ true) ⊎ ((heap_number problem p == heap_number problem o) ≡ false) → (heap_number problem p == heap_number problem o) ≡ false
             off (inr f) = f

@@ -8,7 +8,7 @@ use Rattle.kr_mean.specs.Heaps.{choice_at, slots_in}
 abbrev pub IsMarked : List Bool → ℕ → List Bool → Type 0
 IsMarked old n new = (m : ℕ) → get_or new m false ≡ (if m == n then true else get_or old m false)
 
--- an object that wasn't met is met, and its slots stand behind all others
+-- an object that wasn't met is met, and its slots come after all others
 abbrev pub IsMeeting : Problem → List ℕ → DomainObject → Bool → List Bool → List ℕ → List Bool → List ℕ → Type 0
 IsMeeting problem v o true met order new_met new_order = (new_met ≡ met) × (new_order ≡ order)
 IsMeeting problem v o false met order new_met new_order = IsMarked met (heap_number problem o) new_met × (new_order ≡ order ++ slots_in problem v o)
@@ -17,6 +17,6 @@ abbrev pub IsVisitOf : Problem → List ℕ → Option DomainObject → List Boo
 IsVisitOf problem v None met order new_met new_order = (new_met ≡ met) × (new_order ≡ order)
 IsVisitOf problem v (Some o) met order new_met new_order = IsMeeting problem v o (get_or met (heap_number problem o) false) met order new_met new_order
 
--- what a visit of a slot leaves
+-- the state after a visit of a slot
 abbrev pub IsVisit : Problem → List ℕ → ℕ → List Bool → List ℕ → List Bool → List ℕ → Type 0
 IsVisit problem v s met order new_met new_order = IsVisitOf problem v (choice_at problem v s).object met order new_met new_order

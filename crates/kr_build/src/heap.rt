@@ -32,7 +32,7 @@ pub(crate) fn kept(class: Class, stretch: Stretch) -> Stretch
     }
 }
 
-/// The slots behind the first.
+/// The slots after the first.
 fn without_first(stretch: Stretch) -> Stretch
     requires { (j : ℕ) → j < stretch.count → stretch.first + j < 2 ^ 31 }
     ensures count { result.count ≡ stretch.count - 1 }
@@ -48,7 +48,7 @@ fn without_first(stretch: Stretch) -> Stretch
     }
 }
 
-/// The values that a candidate has at slots that stand one after another.
+/// The values that a candidate has at consecutive slots.
 fn values_of(
     alloc: Global,
     layout: &Layout,
@@ -68,7 +68,7 @@ fn values_of(
     Ok(values)
 }
 
-/// Adds an object behind all others.
+/// Adds an object after all others.
 fn add_object(
     alloc: Global,
     heap: &mut Heap,
@@ -90,7 +90,7 @@ fn add_object(
     Ok(())
 }
 
-/// Adds the objects of a class domain behind all others.
+/// Adds the objects of a class domain after all others.
 fn add_domain(
     alloc: Global,
     heap: &mut Heap,

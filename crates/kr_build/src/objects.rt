@@ -42,7 +42,7 @@ fn extent(layout: &Layout, vector: &Vector, class: Class, first: u32, width: u32
     }
 }
 
-/// Slots that stand one after another.
+/// Consecutive slots.
 #[derive(Clone, Copy)]
 pub struct Stretch {
     pub first: u32,
@@ -66,7 +66,7 @@ pub fn slots_of(layout: &Layout, vector: &Vector, object: Object) -> Stretch
     Stretch { first, count }
 }
 
-/// Adds slots that stand one after another.
+/// Adds consecutive slots.
 pub(crate) fn add_slots(slots: &mut Vec<u32>, stretch: Stretch) -> Result<(), NoMemory>
     requires { (j : ℕ) → j < stretch.count → stretch.first + j < 2 ^ 31 }
     ensures { OnOk result (slots.new.items ≡ slots.old.items ++ range_with_len stretch.first stretch.count) }

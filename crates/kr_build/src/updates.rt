@@ -20,7 +20,7 @@ use kr_space_layout::Layout;
 use kr_value::{Class, Obj};
 use kr_vector::{Slot, Vector};
 
-/// Adds the values that a candidate has at slots that stand one after another behind those of an object.
+/// Adds the values that a candidate has at consecutive slots after those of an object.
 fn push_values(
     heap: &mut Heap,
     layout: &Layout,

@@ -1,6 +1,5 @@
 // The slots that are reachable in a candidate's heap, breadth first.
-ghost use Rattle.std.specs.Prelude.{◌≡◌, ◌<◌, ◌≤◌, ◌^◌, ◌==◌, ℕ, Bool, true, false, if◌then◌else◌, [], OnOk, IfOk, length};
-ghost use Rattle.std.proofs.Common.{get_or};
+ghost use Rattle.std.specs.Prelude.{◌≡◌, ◌<◌, ◌^◌, ℕ, [], OnOk, length};
 ghost use Rattle.kr_mean.specs.Heaps.{root_slots, walk};
 ghost use Rattle.kr_mean.specs.Problem.{slots};
 ghost use Rattle.kr_mean.specs.Space.{IsVector, space_of};
@@ -31,7 +30,7 @@ impl Model for Walk {
     ghost view = { λ w. w.slots.items };
 }
 
-/// Looks at a slot: where it has an object that wasn't met, the object's slots are walked behind all others.
+/// Looks at a slot: where it has an object that wasn't met, the object's slots are walked after all others.
 fn visit(
     layout: &Layout,
     vector: &Vector,
@@ -56,7 +55,7 @@ fn visit(
     add_slots(order, slots_of(layout, vector, object))
 }
 
-/// Walks on from the roots, which stand first.
+/// Walks on from the roots, which come first.
 fn walk_on(
     layout: &Layout,
     vector: &Vector,

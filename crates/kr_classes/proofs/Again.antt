@@ -1,17 +1,18 @@
--- Members whose name stands before them.
+-- Members whose names occurred before.
 use Rattle.std.proofs.Common.{◌≡◌, refl, sym, ap, ◌∙◌, ℕ, zero, suc, ◌+◌, ◌<◌, Bool, true, false, ◌||◌, not, List, [], ◌∷◌, ◌++◌, length, map, take, get_or, append-nil, append_assoc, zero-add, nat_eq, bytes_eq, cond, arith}
 use Rattle.std.specs.Prelude.{Option, Some, find, is_some}
 use Rattle.std.specs.List.{position_from}
-use Rattle.std.proofs.lemmas.List.{map-append, take_more, take-map}
+use Rattle.std.proofs.lemmas.List.{map-append, take_more, take-map, length-map}
 use Rattle.kr_base.specs.declared.place.Place.{Place}
 use Rattle.kr_classes_table.specs.Table.{is_number}
 use Rattle.kr_classes_table.specs.Rules.{break_if, is_name_among, least, repeated, sooner}
 use Rattle.kr_classes_names.proofs.ClassNumbers.{turned}
 use Rattle.kr_classes.specs.Faults.{fault_at}
-use Rattle.kr_classes.proofs.Repeated.{among_onto, itself, onto}
+use Rattle.kr_classes.proofs.Repeated.{among_onto, onto}
 use Rattle.kr_classes.proofs.Sooner.{least_append}
+use Rattle.kr_classes_names.proofs.Same.{itself}
 
--- ---- whether a name stands before a place
+-- ---- whether a name occurred before an index
 
 same_number : (k : ℕ) → nat_eq k (k + 0) ≡ true
 same_number k = grind arith
@@ -42,7 +43,7 @@ either true false = refl
 either false true = refl
 either false false = refl
 
--- it is among the base or stands before
+-- the name is in the base or occurred before
 pub again : (base ns : List (List ℕ)) (n d : List ℕ) (i : ℕ) → i < length ns → n ≡ get_or ns i d → is_name_among n base || not (is_number (position_from (bytes_eq n) 0 ns) (Some i)) ≡ is_name_among n (onto base (take i ns))
 again base ns n d i l e =
     ap (λ j. is_name_among n base || not (is_number (position_from (bytes_eq n) 0 ns) (Some j))) (sym (zero-add i))
@@ -68,10 +69,6 @@ name_at name [] i d l = absurd (omega (arith, l))
 name_at name (x ∷ xs) zero d l = refl
 name_at name (x ∷ xs) (suc i) d l = name_at name xs i d (omega (arith, l))
 
-long : {A B : Type 0} (f : A → B) (xs : List A) → length (map f xs) ≡ length xs
-long f [] = refl
-long f (x ∷ xs) = ap suc (long f xs)
-
 -- the first of them with one member more
 pub one_more : {A : Type 0} (r : ℕ) (base : List (List ℕ)) (name : A → List ℕ) (place : A → Place) (xs : List A) (i : ℕ) (d : A) (is_repeated : Bool) (first here new : Option Place) → i < length xs
     → fault_at r first ≡ least (repeated r base (map (λ x. (name x, place x)) (take i xs)))
@@ -83,7 +80,7 @@ one_more r base name place xs i d is_repeated first here new l f s h e =
     let x = get_or xs i d in
     let done = repeated r base (map (λ y. (name y, place y)) (take i xs)) in
     let ns = map name xs in
-    let m : i < length ns = omega (arith, l, long name xs) in
+    let m : i < length ns = omega (arith, l, length-map xs name) in
     let asked : is_repeated ≡ is_name_among (name x) (onto base (map (λ (y : List ℕ × Place). y.0) (map (λ y. (name y, place y)) (take i xs)))) =
     e ∙ again base ns (name x) [] i m (name_at name xs i d l) ∙ ap (λ ys. is_name_among (name x) (onto base ys)) (take-map name i xs ∙ sym (names_of name place (take i xs))) in
     s r

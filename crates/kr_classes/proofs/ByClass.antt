@@ -1,18 +1,20 @@
 -- A class rule, class by class.
 use Rattle.std.proofs.Common.{◌≡◌, refl, sym, ap, ◌∙◌, ℕ, zero, suc, ◌+◌, ◌<◌, ◌≤◌, List, [], ◌∷◌, ◌++◌, length, map, take, get_or, append-nil, append_assoc, zero-add, arith}
 use Rattle.std.specs.Prelude.{Option, Some, flat_map, option_and_then, option_to_list, is_none}
-use Rattle.std.proofs.lemmas.List.{length-map, take_more, take_all}
+use Rattle.std.proofs.lemmas.List.{length-map, take_more, take_all, length-take-le}
 use Rattle.std.proofs.Math.ListN.{get_or-map}
 use Rattle.kr_base.specs.declared.place.Place.{Place}
 use Rattle.kr_ast.specs.Arena.{Arena, root, tree_in}
 use Rattle.kr_classes_table.specs.Table.{Class, Heading, class_at, headings_of, classes_from, class_of, ancestors, is_among}
 use Rattle.kr_classes_table.specs.Rules.{Fault, C2, C3, each_class, extended_at, break_if, sooner, least}
+use Rattle.kr_classes_table.proofs.Tables.{long}
 use Rattle.kr_classes_names.specs.declared.headings.Heading.{Heading as Kept}
 use Rattle.kr_classes_names.specs.declared.class_names.Heads.{Heads}
 use Rattle.kr_classes_names.specs.Shown.{AreHeads, heading_shown}
 use Rattle.kr_ast.specs.Files.{file_at}
 use Rattle.kr_classes_members.proofs.Classes.{classes_in}
-use Rattle.kr_classes.specs.Faults.{ClassRule, AreSuperclasses, IsFirstIn, IsFirstOf, fault_at, first_of_rule, superclass_at, table_in}
+use Rattle.kr_classes.specs.Faults.{ClassRule, AreSuperclasses, IsFirstIn, IsFirstOf, fault_at, first_of_rule, superclass_at}
+use Rattle.kr_classes_members.specs.Shown.{table_in}
 use Rattle.kr_classes.proofs.Sooner.{least_append}
 
 pub each_append : (rule : ℕ → Class → List Fault) (k : ℕ) (ds es : List Class) → each_class rule k (ds ++ es) ≡ each_class rule k ds ++ each_class rule (k + length ds) es
@@ -22,24 +24,15 @@ each_append rule k (d ∷ ds) es =
     ap (λ fs. rule k d ++ fs) (each_append rule (k + 1) ds es ∙ ap (λ n. each_class rule (k + 1) ds ++ each_class rule n es) e)
     ∙ sym (append_assoc (rule k d) (each_class rule (k + 1) ds) (each_class rule (k + length (d ∷ ds)) es))
 
-length-take : {A : Type 0} (i : ℕ) (xs : List A) → i ≤ length xs → length (take i xs) ≡ i
-length-take zero xs l = refl
-length-take (suc i) [] l = absurd (omega (arith, l))
-length-take (suc i) (x ∷ xs) l = ap suc (length-take i xs (omega (arith, l)))
-
 -- one class more
 pub each_more : (rule : ℕ → Class → List Fault) (ds : List Class) (i : ℕ) (d : Class) → i < length ds → each_class rule 0 (take (i + 1) ds) ≡ each_class rule 0 (take i ds) ++ rule i (get_or ds i d)
 each_more rule ds i d l =
     let x = get_or ds i d in
-    let n : 0 + length (take i ds) ≡ i = zero-add _ ∙ length-take i ds (omega (arith, l)) in
+    let n : 0 + length (take i ds) ≡ i = zero-add _ ∙ length-take-le i ds (omega (arith, l)) in
     ap (each_class rule 0) (take_more ds i d l)
     ∙ each_append rule 0 (take i ds) (x ∷ [])
     ∙ ap (λ k. each_class rule 0 (take i ds) ++ each_class rule k (x ∷ [])) n
     ∙ ap (λ fs. each_class rule 0 (take i ds) ++ fs) (append-nil (rule i x))
-
-pub long : (all : List Heading) (k : ℕ) (hs : List Heading) → length (classes_from all k hs) ≡ length hs
-long all k [] = refl
-long all k (h ∷ hs) = ap suc (long all (k + 1) hs)
 
 -- a class of the table is that of its heading
 pub class_read : (all : List Heading) (k : ℕ) (hs : List Heading) (i : ℕ) (d : Class) (h : Heading) → i < length hs → get_or (classes_from all k hs) i d ≡ class_of all (k + i) (get_or hs i h)
@@ -50,7 +43,7 @@ class_read all k (x ∷ hs) (suc i) d h l = class_read all (k + 1) hs i d h (ome
 length-map-of : (files : List Arena) (xs : List Kept) → map (heading_shown files) xs ≡ headings_of (map root files) → length (headings_of (map root files)) ≡ length xs
 length-map-of files xs s = ap length (sym s) ∙ length-map xs (heading_shown files)
 
--- what the code keeps of the classes of these files
+-- the heads kept for the classes of these files
 abbrev pub Shows : Heads → List Kept → Type 0
 Shows heads xs = (files : List Arena) → AreHeads files heads → map (heading_shown files) xs ≡ headings_of (map root files)
 

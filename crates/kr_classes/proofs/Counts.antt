@@ -15,7 +15,7 @@ by_static : (b : Bool) (f : Field) → length (if b then [] else f ∷ []) ≡ (
 by_static true f = refl
 by_static false f = refl
 
--- one more of a list of what is at most one each
+-- one more item in a list of optional ones
 pub one_length : (f : Field) → length (is_instance f) ≡ (if f.is_static then 0 else 1)
 one_length f = by_static f.is_static f
 
@@ -29,7 +29,7 @@ turned_length h (x ∷ xs) =
     let five : length (flat_map h (reverse xs) ++ (h x ++ [])) ≡ length (h x ++ flat_map h xs) = omega (arith, one, two, three, four) in
     ap (λ ys. length (flat_map h ys)) (reverse_onto xs x []) ∙ ap length (flat_map-append h (reverse xs) (x ∷ [])) ∙ five
 
--- what a class inherits of its objects' fields
+-- the number of inherited fields of an object
 pub inherited_length : (t : Table) (c : ℕ) (own : List Field) → own_fields t c ≡ own → length (fields_of t c) - length (flat_map is_instance own) ≡ length (flat_map is_instance (flat_map (own_fields t) (ancestors t c)))
 inherited_length t c own e =
     let h = λ (k : ℕ). flat_map is_instance (own_fields t k) in

@@ -1,19 +1,21 @@
 -- The first rules decide, and superclasses are classes of the table.
-use Rattle.std.proofs.Common.{◌≡◌, refl, sym, ap, ◌∙◌, subst, ℕ, zero, suc, ◌<◌, ◌≤◌, List, [], ◌∷◌, length, map, get_or, if◌then◌else◌, Bool, true, false, arith}
-use Rattle.std.specs.Prelude.{Option, Some, None, option_and_then, unwrap_or}
+use Rattle.std.proofs.Common.{◌≡◌, refl, sym, ap, ◌∙◌, ℕ, zero, suc, ◌<◌, ◌≤◌, List, [], ◌∷◌, length, map, get_or, if◌then◌else◌, arith}
+use Rattle.std.specs.Prelude.{Option, Some, None, option_and_then}
 use Rattle.std.proofs.lemmas.List.{get_or-map, length-map}
 use Rattle.kr_ast.specs.Arena.{Arena, root}
 use Rattle.kr_ast.specs.Tree as trees
 use Rattle.kr_ast.specs.Tree.{Tree, Nil}
-use Rattle.kr_classes_table.specs.Table.{Table, Class, Heading, class_at, class_named, headings_of, is_number, number_of, outer_of, super_of}
+use Rattle.kr_classes_table.specs.Table.{Table, Class, Heading, class_named, headings_of, is_number, number_of, outer_of, super_of}
 use Rattle.kr_classes_table.specs.Rules.{Fault, C1, C2, C3, C4, C5, C6, C7, C8, class_fault, first_of, least}
+use Rattle.kr_classes_table.proofs.Tables.{within, past, long}
 use Rattle.kr_classes_names.specs.Shown.{superclass_in}
 use Rattle.kr_classes_names.proofs.ClassNumbers.{some_below}
-use Rattle.kr_classes.specs.Faults.{AreBelow, AreSuperclasses, first_of_rule, no_class, table_in}
+use Rattle.kr_classes.specs.Faults.{AreBelow, AreSuperclasses, first_of_rule, no_class}
+use Rattle.kr_classes_members.specs.Shown.{table_in}
 use Rattle.kr_classes.specs.Refusals.{names_fault}
 use Rattle.kr_classes.specs.MemberRules.{members_fault}
 use Rattle.kr_classes_members.proofs.Classes.{classes_in}
-use Rattle.kr_classes.proofs.ByClass.{at_index, class_read, long}
+use Rattle.kr_classes.proofs.ByClass.{at_index, class_read}
 
 front : (a b c : Option Fault) (os : List (Option Fault)) (f : Fault) → first_of (a ∷ b ∷ c ∷ []) ≡ Some f → first_of (a ∷ b ∷ c ∷ os) ≡ Some f
 front (Some g) b c os f e = e
@@ -21,7 +23,7 @@ front None (Some g) c os f e = e
 front None None (Some g) os f e = e
 front None None None os f e = absurd (cc (e))
 
--- what the rules on names refuse all class rules refuse
+-- a violation of the rules on names is one of all class rules
 pub by_names : (t : Table) (f : Fault) → names_fault t ≡ Some f → class_fault t ≡ Some f
 unfolding class_fault
 by_names t f e =
@@ -55,17 +57,6 @@ superclasses_of files supers e =
           ∙ sym (ap (λ os. get_or os c None) e ∙ get_or-map (superclass_in hs) hs c no_heading None (omega (arith, l, n)));
     }
 
-some_value : {A : Type 0} (a b : A) → Some a ≡ Some b → a ≡ b
-some_value a b e = ap (λ o. unwrap_or o a) e
-
-chosen : (b : Bool) (c d : ℕ) → (if b then Some c else None) ≡ Some d → c ≡ d
-chosen true c d e = some_value c d e
-chosen false c d e = absurd (cc (e))
-
-within : (n : ℕ) (test : ℕ → Bool) (o : Option ℕ) (d : ℕ) → ((c : ℕ) → o ≡ Some c → c < n) → option_and_then (λ c. if test c then Some c else None) o ≡ Some d → d < n
-within n test None d f e = absurd (cc (e))
-within n test (Some c) d f e = subst (λ (x : ℕ). x < n) (chosen (test c) c d e) (f c refl)
-
 named : (hs : List Heading) (t : Tree) (d : ℕ) → class_named hs t ≡ Some d → d < length hs
 named hs (trees.NamedType p n) d e = some_below hs n d (sym e)
 named hs (trees.QualifiedType p o n) d e = within (length hs) (λ c. is_number (outer_of hs c) (number_of hs o)) (number_of hs n) d (λ c s. some_below hs n c (sym s)) e
@@ -83,11 +74,6 @@ below_of files supers e c d s =
     let b = inside hs hs c d (sym (ap (λ os. get_or os c None) e) ∙ s) in
     omega (arith, b, n)
 
-past_classes : (ds : List Class) (c : ℕ) → length ds ≤ c → class_at ds c ≡ None
-past_classes [] c l = refl
-past_classes (d ∷ ds) zero l = absurd (omega (arith, l))
-past_classes (d ∷ ds) (suc c) l = past_classes ds c (omega (arith, l))
-
 -- a number past the classes has no superclass
 pub past_superclass : (t : Table) (c n : ℕ) → length t.classes ≡ n → n ≤ c → None ≡ super_of t c
-past_superclass t c n e l = sym (ap (option_and_then (λ (k : Class). k.super)) (past_classes t.classes c (omega (arith, e, l))))
+past_superclass t c n e l = sym (ap (option_and_then (λ (k : Class). k.super)) (past t.classes c (omega (arith, e, l))))

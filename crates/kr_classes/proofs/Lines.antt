@@ -1,12 +1,10 @@
 -- The line upwards from a class, step by step.
-use Rattle.std.proofs.Common.{◌≡◌, refl, sym, ap, ◌∙◌, ℕ, zero, suc, ◌+◌, ◌-◌, ◌<◌, true, false, ◌||◌, nat_eq, List, length, arith}
+use Rattle.std.proofs.Common.{◌≡◌, sym, ap, ◌∙◌, ℕ, suc, ◌+◌, ◌-◌, ◌<◌, true, false, ◌||◌, nat_eq, List, length, arith}
 use Rattle.std.specs.Prelude.{Option, Some, None}
 use Rattle.kr_classes_table.specs.Table.{Table, super_of, line_within, is_among, ancestors}
+use Rattle.kr_classes_table.proofs.Tables.{no_line}
 use Rattle.kr_classes.specs.Faults.{AreSuperclasses, IsLeft, superclass_at}
-
-pub no_line : (n : ℕ) (t : Table) (c : ℕ) → is_among c (line_within n t None) ≡ false
-no_line zero t c = refl
-no_line (suc n) t c = refl
+use Rattle.kr_classes_members.proofs.Upwards.{other, same}
 
 pub start : (supers : List (Option ℕ)) (c : ℕ) → c < length supers → IsLeft supers c 0 (superclass_at supers c)
 start supers c l t a =
@@ -18,12 +16,6 @@ one_more n i l = omega (arith, l)
 
 head_of : (k : ℕ) (t : Table) (c above n : ℕ) → n ≡ suc k → is_among c (line_within n t (Some above)) ≡ (nat_eq c above || is_among c (line_within k t (super_of t above)))
 head_of k t c above n e = ap (λ m. is_among c (line_within m t (Some above))) e
-
-other : (a b : ℕ) → (b ≡ a → ⊥) → nat_eq a b ≡ false
-other a b e = grind (arith, e)
-
-same : (a b : ℕ) → b ≡ a → nat_eq a b ≡ true
-same a b e = grind (arith, e)
 
 pub step : (supers : List (Option ℕ)) (c i above : ℕ) → i < length supers → above < length supers → (above ≡ c → ⊥) → IsLeft supers c i (Some above) → IsLeft supers c (i + 1) (superclass_at supers above)
 step supers c i above l m e left t a =

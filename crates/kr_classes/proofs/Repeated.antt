@@ -2,18 +2,22 @@
 use Rattle.std.proofs.Common.{◌≡◌, refl, sym, ap, ◌∙◌, subst, ℕ, ◌+◌, ◌<◌, Bool, true, false, ◌||◌, not, List, [], ◌∷◌, ◌++◌, length, length-append, map, append_assoc, zero-add, nat_eq, bytes_eq, get_or, if◌then◌else◌, arith, rules}
 use Rattle.std.specs.Prelude.{Option, Some, None, is_some}
 use Rattle.std.proofs.lemmas.List.{map-append}
-use Rattle.std.proofs.lemmas.Slice.Eq.{bytes_eq-Decides}
 use Rattle.kr_base.specs.declared.place.Place.{Place}
 use Rattle.kr_ast.specs.Arena.{Arena, name_in, root}
 use Rattle.kr_classes_table.specs.Table.{Table, Class, Heading, classes_from, headings_of, number_from, number_of, is_number, table_of}
 use Rattle.kr_classes_table.specs.Rules.{C1, break_if, each_class, is_name_among, least, repeated}
 use Rattle.kr_classes_table.specs.Constants.{or_else}
-use Rattle.kr_classes_names.proofs.ClassNumbers.{turned, number_below}
-use Rattle.kr_classes.specs.Faults.{collections, fault_at, first_of_rule, repeats, table_in}
+use Rattle.kr_classes_table.proofs.Tables.{bounded_from}
+use Rattle.kr_classes_names.proofs.ClassNumbers.{turned}
+use Rattle.kr_classes.specs.Faults.{collections, fault_at, first_of_rule, repeats}
+use Rattle.kr_classes_members.specs.Shown.{table_in}
 use Rattle.kr_classes_names.specs.declared.headings.Heading.{Heading as Kept}
 use Rattle.kr_classes_names.specs.Shown.{heading_shown}
+use Rattle.kr_classes_names.proofs.Indexes.{choice_or}
 use Rattle.kr_ast.specs.Files.{file_at}
 use Rattle.kr_classes.proofs.ByClass.{class_kept}
+use Rattle.kr_classes_names.proofs.Same.{itself}
+use Rattle.kr_types_judging.proofs.Tables.{headings_are}
 
 unfoldable pub onto : List (List ℕ) → List (List ℕ) → List (List ℕ)
 onto base [] = base
@@ -41,10 +45,6 @@ unfolding onto
 onto_push base [] n = refl
 onto_push base (m ∷ ns) n = onto_push (m ∷ base) ns n
 
-choice_or : (b : Bool) (x : ℕ) (r s : Option ℕ) → (if b then Some x else or_else r s) ≡ or_else (if b then Some x else r) s
-choice_or true x r s = refl
-choice_or false x r s = refl
-
 number_append : (k : ℕ) (hs gs : List Heading) (n : List ℕ) → number_from k (hs ++ gs) n ≡ or_else (number_from k hs n) (number_from (k + length hs) gs n)
 number_append k [] gs n = ap (λ j. number_from j gs n) (omega arith)
 number_append k (h ∷ hs) gs n =
@@ -64,9 +64,6 @@ unfolding names
 is_there k [] n = refl
 is_there k (h ∷ hs) n = some_or (bytes_eq h.name n) k (number_from (k + 1) hs n) ∙ ap (λ b. b || is_some (number_from (k + 1) hs n)) (turned h.name n) ∙ ap (λ b. bytes_eq n h.name || b) (is_there (k + 1) hs n)
 
-pub itself : (n : List ℕ) → bytes_eq n n ≡ true
-itself n = grind (arith, bytes_eq-Decides n n)
-
 less_is_other : (j k : ℕ) → j < k → nat_eq j k ≡ false
 less_is_other j k l = grind (arith, l)
 
@@ -84,7 +81,7 @@ first_of before after x =
     let own : number_from (0 + length before) (x ∷ after) n ≡ Some (length before) =
     ap (λ b. if b then Some (0 + length before) else number_from (0 + length before + 1) after n) (itself n) ∙ ap Some (zero-add (length before)) in
     ap (λ o. not (is_number o (Some (length before)))) (number_append 0 before (x ∷ after) n ∙ ap (or_else (number_from 0 before n)) own)
-    ∙ earlier_or_own (number_from 0 before n) (length before) (λ j e. let b = number_below 0 before n j e in omega (arith, b))
+    ∙ earlier_or_own (number_from 0 before n) (length before) (λ j e. let b = bounded_from 0 before n j e in omega (arith, b))
     ∙ is_there 0 before n
 
 by_class : (t : Table) (before xs : List Heading) → t.headings ≡ before ++ xs
@@ -107,10 +104,6 @@ by_class t before (x ∷ xs) e =
     ap (λ b. break_if b 1 x.place ++ repeated 1 (x.name ∷ base) (map (λ d. (d.name, d.place)) (classes_from all (k + 1) xs))) asked
     ∙ ap (λ fs. break_if (is_name_among x.name collections || not (is_number (number_of all x.name) (Some k))) 1 x.place ++ fs) rest''
 
-headings_in : (files : List Arena) → (table_in files).headings ≡ headings_of (map root files)
-unfolding table_of
-headings_in files = refl
-
 pub first_repeated : (files : List Arena) → first_of_rule repeats (table_in files) ≡ least (C1 (table_in files))
 unfolding table_of onto names
 first_repeated files = ap least (sym (by_class (table_in files) [] (headings_of (map root files)) refl))
@@ -128,4 +121,4 @@ repeated_here files xs x i d place name s l e n p =
     p
     ∙ ap (λ q. least (break_if (is_name_among name collections || not (is_number (number_of hs name) (Some i))) 1 q)) (sym (ap (λ (k : Class). k.place) same))
     ∙ ap (λ m. least (break_if (is_name_among m collections || not (is_number (number_of hs m) (Some i))) 1 c.place)) called
-    ∙ ap (λ ys. least (break_if (is_name_among c.name collections || not (is_number (number_of ys c.name) (Some i))) 1 c.place)) (sym (headings_in files))
+    ∙ ap (λ ys. least (break_if (is_name_among c.name collections || not (is_number (number_of ys c.name) (Some i))) 1 c.place)) (sym (headings_are files))

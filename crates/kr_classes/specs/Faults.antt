@@ -1,20 +1,18 @@
 -- Between crates: the first place at which a class rule on names is broken.
 use Rattle.std.specs.Prelude.{◌≡◌, ℕ, ◌-◌, ◌<◌, ◌||◌, not, List, [], ◌∷◌, length, map, take, flat_map, codes, Option, Some, None, slice_index_or}
 use Rattle.kr_base.specs.declared.place.Place.{Place}
-use Rattle.kr_ast.specs.Arena.{Arena, root}
+use Rattle.kr_ast.specs.Arena.{Arena}
 use Rattle.kr_ast.specs.Tree.{Nil}
-use Rattle.kr_classes_table.specs.Table.{Table, Class, Field, Method, super_of, table_of, line_within, ancestors, is_among, is_number, number_of, own_fields}
+use Rattle.kr_classes_table.specs.Table.{Table, Class, Field, Method, super_of, line_within, ancestors, is_among, is_number, number_of, own_fields}
 use Rattle.kr_classes_table.specs.Rules.{Fault, break_if, each_class, is_name_among, least}
 use Rattle.kr_classes_names.specs.declared.class_names.Heads.{Heads}
 use Rattle.kr_classes_names.specs.Shown.{AreHeads}
+use Rattle.kr_classes_members.specs.Shown.{table_in}
 
 -- the rule's fault at this place, if there is one
 abbrev pub fault_at : ℕ → Option Place → Option Fault
 fault_at rule None = None
 fault_at rule (Some p) = Some (record { place = p; rule = rule })
-
-abbrev pub table_in : List Arena → Table
-table_in files = table_of (map root files)
 
 abbrev pub superclass_at : List (Option ℕ) → ℕ → Option ℕ
 superclass_at supers c = slice_index_or supers c None
@@ -28,7 +26,7 @@ pub record AreSuperclasses (supers : List (Option ℕ)) (t : Table) : Type 0 whe
   pub count : length supers ≡ length t.classes
   pub each : (c : ℕ) → c < length supers → super_of t c ≡ superclass_at supers c
 
--- after so many steps upwards the class is still looked for on the line from here
+-- after some steps upwards, the search for the class continues on the line from here
 abbrev pub IsLeft : List (Option ℕ) → ℕ → ℕ → Option ℕ → Type 0
 IsLeft supers class steps at = (t : Table) → AreSuperclasses supers t → is_among class (line_within (length supers - steps) t at) ≡ is_among class (ancestors t class)
 
@@ -43,11 +41,11 @@ ClassRule = Table → ℕ → Class → List Fault
 abbrev pub first_of_rule : ClassRule → Table → Option Fault
 first_of_rule rule t = least (each_class (rule t) 0 t.classes)
 
--- of the first classes of a table
+-- for the first classes of a table
 abbrev pub IsFirstIn : ℕ → ClassRule → Table → ℕ → Option Place → Type 0
 IsFirstIn n rule t count first = fault_at n first ≡ least (each_class (rule t) 0 (take count t.classes))
 
--- of each table that these are the heads and superclasses of
+-- for each table with these heads and superclasses
 abbrev pub IsFirstOf : ℕ → ClassRule → Heads → List (Option ℕ) → ℕ → Option Place → Type 0
 IsFirstOf n rule heads supers count first = (files : List Arena) → AreHeads files heads → AreSuperclasses supers (table_in files) → IsFirstIn n rule (table_in files) count first
 

@@ -1,4 +1,4 @@
--- Between crates: what an overriding method has to share with the one that it overrides.
+-- Between crates: the part that an overriding method must share with the overridden one.
 use Rattle.std.specs.Prelude.{ℕ, ◌&&◌, not, Bool, true, false, List, [], ◌∷◌, if◌then◌else◌}
 use Rattle.kr_classes_table.specs.Types.{JavaType, is_same}
 use Rattle.kr_classes_table.specs.Table.{Method, Table}
@@ -6,7 +6,7 @@ use Rattle.kr_classes_table.specs.Rules.{result_fits, same_types}
 use Rattle.kr_classes.specs.declared.overriding.Shared.{Shared}
 use Rattle.kr_classes.specs.declared.overriding.Shared.TheVariants.{Parameters, ResultType}
 
--- as many types, each equal
+-- equally many types, pairwise equal
 abbrev pub are_same : List JavaType → List JavaType → Bool
 are_same [] [] = true
 are_same (a ∷ more) (b ∷ others) = is_same a b && are_same more others

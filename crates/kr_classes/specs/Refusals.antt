@@ -1,4 +1,4 @@
--- To be believed: what a refusal says of the class rules.
+-- To be believed: the refusal of a source that breaks a class rule.
 use Rattle.std.specs.Prelude.{◌≡◌, ℕ, List, [], ◌∷◌, Option, Some, None, codes}
 use Rattle.kr_base.specs.declared.refusal.RefusalAt.{RefusalAt}
 use Rattle.kr_base.specs.declared.refusal.RefusalAt.TheVariants.{Broken, NoMemory}
@@ -9,7 +9,8 @@ use Rattle.kr_classes_names.specs.Shown.{AreHeads}
 use Rattle.kr_classes.specs.declared.refusal.ClassRule.{ClassRule as Rule}
 use Rattle.kr_classes.specs.declared.refusal.ClassRule.TheVariants.{RepeatedClass, UnknownSuperclass, OwnAncestor, RepeatedMember, OtherParameters, ObjectMethod, OtherResult, TooMany}
 use Rattle.kr_classes.specs.declared.hierarchy.Hierarchy.{Hierarchy}
-use Rattle.kr_classes.specs.Faults.{AreBelow, AreSuperclasses, first_of_rule, table_in}
+use Rattle.kr_classes.specs.Faults.{AreBelow, AreSuperclasses, first_of_rule}
+use Rattle.kr_classes_members.specs.Shown.{table_in}
 
 abbrev pub rule_code : Rule → List ℕ
 rule_code RepeatedClass = codes "C1"
@@ -35,12 +36,12 @@ rule_number TooMany = 8
 abbrev pub names_fault : Table → Option Fault
 names_fault t = first_of (least (C1 t) ∷ first_of_rule C2 t ∷ first_of_rule C3 t ∷ [])
 
--- the rule that is named is the first broken one; want of memory is free
+-- the reported rule is the first broken one; memory may always run out
 abbrev pub IsRefusal : List Arena → RefusalAt Rule → Type 0
 IsRefusal files (Broken p r) = class_fault (table_in files) ≡ Some (record { place = p; rule = rule_number r })
 IsRefusal files (NoMemory _) = Unit {0}
 
--- the classes of these files, which break none of these rules
+-- heads and superclasses of these files, which break none of these rules
 pub record IsHierarchy (files : List Arena) (h : Hierarchy) : Type 0 where
   pub heads : AreHeads files h.heads
   pub supers : AreSuperclasses h.supers.items (table_in files)

@@ -1,6 +1,5 @@
 // The class table of files that break no class rule.
-ghost use Rattle.std.specs.Prelude.{◌≡◌, ◌<◌, List, Some, None, IfOk, IfErr, length};
-ghost use Rattle.kr_ast.specs.Arena.{Arena};
+ghost use Rattle.std.specs.Prelude.{◌<◌, Some, None, IfOk, IfErr, length};
 ghost use Rattle.kr_classes_names.specs.Shown.{AreHeads};
 ghost use Rattle.kr_classes.specs.ClassTables.{IsClassTable, IsTableOf};
 ghost use Rattle.kr_classes.specs.Refusals.{IsRefusal};
@@ -12,12 +11,11 @@ use kr_ast::Tree;
 use kr_base::NoMemory;
 use kr_classes_constants::Values;
 use kr_classes_members::Members;
-use kr_classes_names::Heads;
-use kr_classes_types::{NodeTypes, Types};
+use kr_classes_names::{Heads, NodeTypes, Types};
 use std::alloc::Global;
 
-/// What the classes of a program are: what their names mean, their members, the types that the nodes name, and the values
-/// of constants.
+/// The classes of a program: the meaning of their names, their members, the types that nodes name, and the values of
+/// constants.
 #[derive(Drop)]
 pub struct ClassTable {
     pub heads: Heads,
@@ -46,7 +44,7 @@ fn read_table(alloc: Global, trees: &[Tree], heads: Heads) -> Result<ClassTable,
     })
 }
 
-/// The class table of these files; or the first place of the least class rule that is broken.
+/// The class table of these files; or the first place of the least broken class rule.
 pub fn classes(alloc: Global, trees: &[Tree]) -> Result<ClassTable, ClassRefusal>
     requires { length trees.now < 65 }
     ensures read { IfOk result (λ table. IsClassTable trees.now table) }

@@ -5,7 +5,8 @@ ghost use Rattle.kr_ast.specs.Arena.{Arena};
 ghost use Rattle.kr_classes_table.specs.Table.{ancestors, class_at, field_on, is_instance, is_number, own_fields};
 ghost use Rattle.kr_classes_table.specs.Rules.{C4, C8, break_if, least, past, repeated};
 ghost use Rattle.kr_classes_members.specs.Kept.{AreMembers, class_count};
-ghost use Rattle.kr_classes.specs.Faults.{class_in, fault_at, field_places, inherited_names, table_in};
+ghost use Rattle.kr_classes.specs.Faults.{class_in, fault_at, field_places, inherited_names};
+ghost use Rattle.kr_classes_members.specs.Shown.{table_in};
 
 use crate::places::{earlier, if_broken};
 use kr_ast::{Tree, tree_of};
@@ -40,7 +41,7 @@ fn repeated_field(trees: &[Tree], members: &Members, class: ClassId) -> Option<P
     first
 }
 
-/// The first constructor behind another.
+/// The first constructor after another.
 fn later_constructor(members: &Members, class: ClassId) -> Option<Place>
     ensures { (files : List Arena) → AreMembers files members.now → fault_at 4 result ≡ least (flat_map (λ k. break_if true 4 k.place) (drop 1 (flat_map (λ d. d.constructors) (option_to_list (class_at (table_in files).classes class))))) }
 {
@@ -66,7 +67,7 @@ pub(crate) fn repeated_member(trees: &[Tree], members: &Members, class: ClassId)
     earlier(field, constructor)
 }
 
-/// What a field counts for among those that every object has.
+/// The count of a field among those that every object has: 0 or 1.
 fn counted(field: Field) -> usize
     ensures value { result ≡ (if field.is_static then 0 else 1) }
     ensures small { result ≤ 1 }
@@ -116,7 +117,7 @@ fn inherited_count(members: &Members, class: ClassId) -> usize
     total
 }
 
-/// Whether it is an instance field, behind so many others.
+/// Whether it is an instance field beyond `room`, after `seen` earlier ones.
 fn is_past(field: Field, seen: usize, room: usize) -> bool
     ensures { result ≡ not field.is_static && not (nat_lt seen room) }
 {

@@ -3,7 +3,8 @@ ghost use Rattle.std.specs.Prelude.{◌≡◌, ◌<◌, List, Some, None, IfOk, 
 ghost use Rattle.kr_ast.specs.Arena.{Arena};
 ghost use Rattle.kr_classes_table.specs.Table.{super_of};
 ghost use Rattle.kr_classes_names.specs.Shown.{AreHeads, count_of};
-ghost use Rattle.kr_classes.specs.Faults.{AreBelow, AreSuperclasses, table_in};
+ghost use Rattle.kr_classes.specs.Faults.{AreBelow, AreSuperclasses};
+ghost use Rattle.kr_classes_members.specs.Shown.{table_in};
 ghost use Rattle.kr_classes.specs.Refusals.{IsHierarchy, IsRefusal, names_fault, rule_number};
 
 use crate::name_rules::{first_own_ancestor, first_repeated_name, first_unknown_superclass};
@@ -49,8 +50,8 @@ fn first_broken(trees: &[Tree], heads: &Heads, supers: &[Option<ClassId>]) -> Op
     }
 }
 
-/// The classes of these files; or the first broken rule of those on names and on what classes extend, which is then the
-/// first of all class rules.
+/// The heads and superclasses of these files; or the first broken rule on names and `extends`, which is then the first
+/// broken class rule.
 pub fn hierarchy_of(alloc: Global, trees: &[Tree]) -> Result<Hierarchy, ClassRefusal>
     requires { length trees.now < 65 }
     ensures read { IfOk result (λ hierarchy. IsHierarchy trees.now hierarchy) }
@@ -68,13 +69,6 @@ pub fn hierarchy_of(alloc: Global, trees: &[Tree]) -> Result<Hierarchy, ClassRef
 }
 
 impl Hierarchy {
-    /// The heads of the classes.
-    pub fn heads(&self) -> &Heads
-        ensures { (files : List Arena) → IsHierarchy files self.now → AreHeads files result.now }
-    {
-        &self.heads
-    }
-
     /// The superclass of a class.
     pub fn superclass(&self, class: usize) -> Option<ClassId>
         ensures { (files : List Arena) → IsHierarchy files self.now → result ≡ super_of (table_in files) class }

@@ -14,6 +14,5 @@ mod places;
 mod refusal;
 
 pub use class_table::{ClassTable, classes};
-pub use hierarchy::{Hierarchy, hierarchy_of};
-pub use name_rules::{first_own_ancestor, first_repeated_name, first_unknown_superclass};
+pub use hierarchy::hierarchy_of;
 pub use refusal::{ClassRefusal, ClassRule};

@@ -1,11 +1,11 @@
 // The class rules on members, one after another, each class by class.
-ghost use Rattle.std.specs.Prelude.{◌≡◌, ◌<◌, List, Some, None, IfOk};
-ghost use Rattle.kr_ast.specs.Arena.{Arena};
+ghost use Rattle.std.specs.Prelude.{◌≡◌, ◌<◌, Some, None, IfOk};
 ghost use Rattle.kr_classes_table.specs.Rules.{least};
 ghost use Rattle.kr_classes_names.specs.Shown.{AreHeads};
 ghost use Rattle.kr_classes_members.specs.Kept.{AreMembers, class_count};
-ghost use Rattle.kr_classes_types.specs.Numbers.{AreNodeTypes};
-ghost use Rattle.kr_classes.specs.Faults.{class_in, fault_at, first_of_rule, table_in};
+ghost use Rattle.kr_classes_names.specs.Numbers.{AreNodeTypes};
+ghost use Rattle.kr_classes.specs.Faults.{class_in, fault_at, first_of_rule};
+ghost use Rattle.kr_classes_members.specs.Shown.{table_in};
 ghost use Rattle.kr_classes.specs.Refusals.{rule_number};
 ghost use Rattle.kr_classes.specs.MemberRules.{IsMembersFault, member_number, rule_of};
 
@@ -17,9 +17,8 @@ use crate::refusal::{ClassRule, Found};
 use kr_ast::Tree;
 use kr_base::{NoMemory, Place};
 use kr_classes_members::Members;
-use kr_classes_names::Heads;
+use kr_classes_names::{Heads, NodeTypes, Types};
 use kr_classes_table::ClassId;
-use kr_classes_types::{NodeTypes, Types};
 use std::alloc::Global;
 
 /// A class rule on members.

@@ -1,11 +1,12 @@
 // The class rules on the names of methods (C5, C6).
-ghost use Rattle.std.specs.Prelude.{◌≡◌, ◌<◌, not, List, [], Some, None, map, flat_map, bytes_eq};
+ghost use Rattle.std.specs.Prelude.{◌≡◌, ◌<◌, not, List, [], Some, None, map, bytes_eq};
 ghost use Rattle.std.specs.List.{position_from};
 ghost use Rattle.kr_ast.specs.Arena.{Arena};
 ghost use Rattle.kr_classes_table.specs.Table.{is_number, own_methods};
-ghost use Rattle.kr_classes_table.specs.Rules.{C6, break_if, is_name_among, least, object_methods, repeated};
+ghost use Rattle.kr_classes_table.specs.Rules.{C6, is_name_among, least, object_methods, repeated};
 ghost use Rattle.kr_classes_members.specs.Kept.{AreMembers, class_count};
-ghost use Rattle.kr_classes.specs.Faults.{class_in, fault_at, method_places, table_in};
+ghost use Rattle.kr_classes.specs.Faults.{class_in, fault_at, method_places};
+ghost use Rattle.kr_classes_members.specs.Shown.{table_in};
 
 use crate::places::{earlier, if_broken};
 use kr_ast::{Tree, tree_of};

@@ -5,7 +5,8 @@ ghost use Rattle.kr_classes_table.specs.Table.{Table, ancestors, headings_of, is
 ghost use Rattle.kr_classes_table.specs.Rules.{C1, C2, C3, break_if, extended_at, is_name_among, least};
 ghost use Rattle.kr_classes_names.specs.Shown.{AreHeads, IsHeading, count_of};
 ghost use Rattle.kr_ast.specs.Files.{file_at};
-ghost use Rattle.kr_classes.specs.Faults.{AreBelow, AreSuperclasses, collections, fault_at, first_of_rule, superclass_at, table_in};
+ghost use Rattle.kr_classes.specs.Faults.{AreBelow, AreSuperclasses, collections, fault_at, first_of_rule, superclass_at};
+ghost use Rattle.kr_classes_members.specs.Shown.{table_in};
 
 use crate::places::earlier;
 use kr_ast::{Node, Tree, tree_of};
@@ -74,7 +75,7 @@ fn is_own_ancestor(supers: &[Option<ClassId>], class: usize) -> bool
     false
 }
 
-/// The place of the name behind `extends`.
+/// The place of the name after `extends`.
 fn extended_place(trees: &[Tree], heading: Heading) -> Option<Place>
     requires { IsHeading trees.now heading }
     ensures { option_to_list result ≡ extended_at (tree_in (file_at trees.now heading.file) heading.extended) }
@@ -100,7 +101,7 @@ fn own_ancestor_place(supers: &[Option<ClassId>], class: usize, place: Place) ->
     }
 }
 
-/// The place behind `extends` where the class has no superclass.
+/// The place after `extends`, if the class has no superclass.
 fn unknown_place(supers: &[Option<ClassId>], class: usize, extended: Option<Place>) -> Option<Place>
     requires { class < length supers.now }
     ensures { fault_at 2 result ≡ least (flat_map (break_if (is_none (superclass_at supers.now class)) 2) (option_to_list extended)) }
@@ -125,7 +126,7 @@ pub fn first_own_ancestor(heads: &Heads, supers: &[Option<ClassId>]) -> Option<P
     first
 }
 
-/// The first name behind `extends` that no class has (rule C2).
+/// The first name after `extends` that no class has (rule C2).
 pub fn first_unknown_superclass(
     trees: &[Tree],
     heads: &Heads,

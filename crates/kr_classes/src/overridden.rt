@@ -1,12 +1,11 @@
 // The first method of a class that doesn't share what it has to with the one that it overrides.
-ghost use Rattle.std.specs.Prelude.{◌≡◌, ◌<◌, List, Some, None, IfOk, flat_map};
-ghost use Rattle.kr_ast.specs.Arena.{Arena};
+ghost use Rattle.std.specs.Prelude.{◌≡◌, ◌<◌, Some, None, IfOk, flat_map};
 ghost use Rattle.kr_classes_table.specs.Table.{own_methods};
 ghost use Rattle.kr_classes_table.specs.Rules.{C5, C7, least, overrides};
-ghost use Rattle.kr_classes_members.specs.Shown.{IsMethod, method_shown};
+ghost use Rattle.kr_classes_members.specs.Shown.{table_in, IsMethod, method_shown};
 ghost use Rattle.kr_classes_members.specs.Kept.{AreMembers, class_count};
-ghost use Rattle.kr_classes_types.specs.Numbers.{AreNodeTypes};
-ghost use Rattle.kr_classes.specs.Faults.{class_in, fault_at, table_in};
+ghost use Rattle.kr_classes_names.specs.Numbers.{AreNodeTypes};
+ghost use Rattle.kr_classes.specs.Faults.{class_in, fault_at};
 ghost use Rattle.kr_classes.specs.Overriding.{is_shared, rule_for};
 
 use crate::method_rules::repeated_method;
@@ -15,8 +14,8 @@ use crate::places::{earlier, if_broken};
 use kr_ast::{Tree, tree_of};
 use kr_base::{NoMemory, Place};
 use kr_classes_members::{Members, Method};
+use kr_classes_names::{NodeTypes, Types};
 use kr_classes_table::ClassId;
-use kr_classes_types::{NodeTypes, Types};
 use std::alloc::Global;
 
 /// Whether a method shares this with the one that it overrides.

@@ -4,23 +4,22 @@ ghost use Rattle.kr_ast.specs.Arena.{Arena, tree_in};
 ghost use Rattle.kr_classes_table.specs.Table.{parameter_in, parameters_in};
 ghost use Rattle.kr_classes_table.specs.Rules.{result_fits, same_types};
 ghost use Rattle.kr_ast.specs.Files.{file_at};
-ghost use Rattle.kr_classes_members.specs.Shown.{IsMethod, headings_in, method_shown};
+ghost use Rattle.kr_classes_members.specs.Shown.{table_in, IsMethod, headings_in, method_shown};
 ghost use Rattle.kr_classes_members.specs.Kept.{AreMembers};
-ghost use Rattle.kr_classes_types.specs.Types.{TypeList, count, type_at};
-ghost use Rattle.kr_classes_types.specs.Numbers.{AreNodeTypes};
-ghost use Rattle.kr_classes.specs.Faults.{table_in};
+ghost use Rattle.kr_classes_names.specs.Types.{TypeList, count, type_at};
+ghost use Rattle.kr_classes_names.specs.Numbers.{AreNodeTypes};
 ghost use Rattle.kr_classes.specs.Overriding.{are_same, is_shared};
 
 use kr_ast::{Node, Tree, tree_of};
 use kr_base::{NoMemory, add_found};
 use kr_classes_members::{Members, Method};
-use kr_classes_names::items;
+use kr_classes_names::{NodeTypes, Types, items};
 use kr_classes_table::TypeId;
-use kr_classes_types::{NodeTypes, Types};
 use kr_types_judging::is_assignable;
 use std::alloc::Global;
 
-/// What an overriding method shares with the one that it overrides: the types of the parameters; `static` and the result.
+/// The part that an overriding method must share with the overridden one: the types of the parameters; `static` and the
+/// result.
 #[derive(Clone, Copy)]
 pub(crate) enum Shared {
     Parameters,

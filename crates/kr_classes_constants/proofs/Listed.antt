@@ -28,7 +28,7 @@ own_at t k l = ap (λ o. flat_map (λ d. d.fields) (option_to_list o)) (class_th
 pub constants_step : (t : Table) (all more : List Field) (k : ℕ) → k < length t.classes → all ≡ flat_map constants_in (take k t.classes) → more ≡ flat_map constant_listed (own_fields t k) → all ++ more ≡ flat_map constants_in (take (k + 1) t.classes)
 constants_step t all more k l a m = flat_step constants_in [] all more t.classes k no_class l a (m ∙ ap (flat_map constant_listed) (own_at t k l))
 
--- one item more of a fold over what is shown
+-- one more item in a fold
 pub fold_step : {A B C : Type 0} (f : C → B → C) (g : A → B) (a : C) (xs : List A) (i : ℕ) (d : A) → i < length xs → f (fold f a (map g (take i xs))) (g (get_or xs i d)) ≡ fold f a (map g (take (i + 1) xs))
 fold_step f g a xs i d l =
     let x = get_or xs i d in

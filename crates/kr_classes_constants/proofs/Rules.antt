@@ -1,4 +1,4 @@
--- What an expression comes to, kind by kind.
+-- The outcome of an expression, kind by kind.
 use Rattle.std.proofs.Common.{◌≡◌, refl, sym, ap, subst, ◌∙◌, ℕ, ◌+◌, ◌<◌, Bool, true, false, ◌&&◌, List, [], ◌∷◌, ◌++◌, length, if◌then◌else◌, arith}
 use Rattle.std.specs.Prelude.{Option, Some, None, is_some, option_and_then, Result, Ok, Err, IfOk}
 use Rattle.kr_base.specs.declared.place.Place.{Place}
@@ -65,7 +65,7 @@ node_law s p (nodes.Conditional x y z) =
 node_law s p (nodes.Cast k x) = cast_law (is_primitive (tree_in s.tree k)) (is_constant s.table s.known s.class (tree_in s.tree x)) (evaluated s.table s.known s.class (tree_in s.tree x))
 node_law s p _ = refl
 
--- of a node whose tree is made of those of its parts
+-- the outcome of a node from those of its parts
 pub entry_law : (s : Setting) (i : ℕ) (e : Entry) → tree_in s.tree i ≡ tree_of s.tree.text (tree_in s.tree) e.place e.node → outcome_at s i ≡ node_outcome s e.node
 entry_law s i e h = ap (outcome_of s.table s.known s.class) h ∙ node_law s e.place e.node
 

@@ -1,5 +1,4 @@
--- A stable sort gives the only list in order in which elements that tie stand as before: so it is the one that is made by
--- placing one element after another.
+-- A stable sort gives the only ordered list in which ties keep their order, so it equals repeated insertion.
 use Rattle.std.proofs.Common.{◌≡◌, refl, sym, ap, ◌∙◌, ℕ, suc, ◌<◌, ◌≤◌, Bool, true, false, not, ◌&&◌, cond, List, [], ◌∷◌, ◌++◌, length, get_or, reverse, arith}
 use Rattle.std.specs.Cmp.{IsStrictWeakOrder}
 use Rattle.std.specs.List.{filter}
@@ -8,7 +7,7 @@ use Rattle.std.proofs.lemmas.List.{append-nil, reverse-append}
 use Rattle.std.proofs.lemmas.List.Elements.{filter-append}
 use Rattle.std.proofs.lemmas.List.Sorted.{sorted_far}
 
--- an element among those in order, behind those that tie with it
+-- an element inserted in order, after its ties
 abbrev pub placed_by : {X : Type 0} → (X → X → Bool) → X → List X → List X
 placed_by lt f [] = f ∷ []
 placed_by lt f (g ∷ gs) = cond (lt f g) (f ∷ g ∷ gs) (g ∷ placed_by lt f gs)

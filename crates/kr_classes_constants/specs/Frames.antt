@@ -1,4 +1,4 @@
--- Between crates: what an expression comes to, with what is still to be done on the way.
+-- Between crates: the outcome of an expression, with the pending work on the way.
 use Rattle.std.specs.Prelude.{ℕ, ◌+◌, ◌*◌, ◌<◌, pos, List, [], ◌∷◌, if◌then◌else◌, Some, None}
 use Rattle.kr_base.specs.declared.place.Place.{Place}
 use Rattle.kr_ast.specs.Tree.{size}
@@ -15,7 +15,7 @@ use Rattle.kr_classes_constants.specs.declared.frames.Task.{Task}
 use Rattle.kr_classes_constants.specs.declared.frames.Task.TheVariants.{Look, Give}
 use Rattle.kr_classes_constants.specs.Outcomes.{Outcome, outcome_of, unary_outcome, binary_outcome, conditional_outcome, known_outcome, note_shown}
 
--- where an expression stands: the class table, the constants that are known, the class, and the tree of its file
+-- the context of an expression: the class table, the known constants, the class, and the tree of its file
 pub record Setting : Type 0 where
   pub table : Table
   pub known : List Known
@@ -25,11 +25,11 @@ pub record Setting : Type 0 where
 abbrev pub setting : Table → List Known → ℕ → Arena → Setting
 setting t known c a = record { table = t; known = known; class = c; tree = a }
 
--- what the expression at a node comes to
+-- the outcome of the expression at a node
 abbrev pub outcome_at : Setting → ℕ → Outcome
 outcome_at s i = outcome_of s.table s.known s.class (tree_in s.tree i)
 
--- what it comes to from what its parts come to
+-- the outcome of a node from those of its parts
 abbrev pub node_outcome : Setting → Node → Outcome
 node_outcome s (nodes.Number n) = Some (Some (Int (wrap Bits32 (pos n))))
 node_outcome s (nodes.Truth b) = Some (Some (Truth b))
@@ -46,7 +46,7 @@ abbrev pub given : Setting → Task → Outcome
 given s (Look i) = outcome_at s i
 given s (Give v) = note_shown v
 
--- what the whole comes to, where what the innermost frame waits for comes to this
+-- the outcome of the whole, if the innermost frame is given this one
 abbrev pub resumed : Setting → List Frame → Outcome → Outcome
 resumed s [] v = v
 resumed s (Operand o ∷ fs) v = resumed s fs (unary_outcome o v)
@@ -79,7 +79,7 @@ AreWithin n (Fails c a ∷ fs) = AreWithin n fs
 abbrev pub node_weight : Arena → ℕ → ℕ
 node_weight a i = 2 * size (tree_in a i)
 
--- the same of a node with these parts
+-- the weight of a node with these parts
 abbrev pub tree_weight : Arena → Place → Node → ℕ
 tree_weight a p n = 2 * size (tree_of a.text (tree_in a) p n)
 

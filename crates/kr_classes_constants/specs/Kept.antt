@@ -11,7 +11,7 @@ Key = ℕ × ℕ × ℕ
 abbrev pub is_key_of : Place → Key → Bool
 is_key_of p k = nat_eq p.file k.0 && nat_eq p.line k.1 && nat_eq p.col k.2
 
--- what is kept of a place
+-- the value kept for a place
 abbrev pub found : Place → List (Key × Value) → Option Value
 found p [] = None
 found p (e ∷ es) = if is_key_of p e.0 then Some e.1 else found p es

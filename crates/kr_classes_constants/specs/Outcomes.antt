@@ -1,4 +1,4 @@
--- Between crates: what an expression comes to as a constant's initial value, from what its operands come to.
+-- Between crates: the outcome of a constant's initial value, from those of its operands.
 use Rattle.std.specs.Prelude.{ℕ, Bool, List, ◌++◌, if◌then◌else◌, Option, Some, None, option_and_then, option_to_list}
 use Rattle.kr_base.specs.declared.place.Place.{Place}
 use Rattle.kr_ast.specs.Tree.{Tree}
@@ -32,12 +32,12 @@ abbrev pub conditional_outcome : Outcome → Outcome → Outcome → Outcome
 conditional_outcome (Some c) (Some v) (Some w) = Some (chosen c v w)
 conditional_outcome c v w = None
 
--- of a name: the value of the constant that it means
+-- the outcome of a name: the value of the constant that it means
 abbrev pub known_outcome : Option Value → Outcome
 known_outcome None = None
 known_outcome (Some v) = Some (Some v)
 
--- the constants that are known behind one at a place, if it is constant and has a value
+-- the known constants, followed by one at a place if it is constant and has a value
 abbrev pub with_outcome : List Known → Place → Outcome → List Known
 with_outcome known p None = known
 with_outcome known p (Some v) = known ++ known_as p v

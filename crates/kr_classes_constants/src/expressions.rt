@@ -1,4 +1,4 @@
-// What an expression comes to as a constant's initial value: a walk over its nodes with its own stack.
+// The outcome of a constant's initial value: a walk over its nodes with an explicit stack.
 ghost use Rattle.std.specs.Prelude.{◌≡◌, ◌+◌, ◌<◌, List, length, IfOk};
 ghost use Rattle.kr_base.specs.declared.place.Place.{Place};
 ghost use Rattle.kr_ast.specs.Arena.{AreNamesIn, names, parts, tree_in};
@@ -35,7 +35,7 @@ fn is_primitive_type(tree: &Tree, node: u32) -> bool
     }
 }
 
-/// Looks at a node: gives what it comes to, or goes on with its first part.
+/// Looks at a node: gives its outcome, or continues with its first part.
 fn look_at(
     trees: &[Tree],
     heads: &Heads,
@@ -124,7 +124,7 @@ fn look(
     look_at(trees, heads, members, values, site, frames, entry.node)
 }
 
-/// What the expression at a node comes to.
+/// The outcome of the expression at a node.
 pub(crate) fn note_of(
     alloc: Global,
     trees: &[Tree],

@@ -1,4 +1,4 @@
-// What is still to be done with what is found of a part of an expression, up to the whole.
+// The pending work between the outcome of a part and that of the whole expression.
 ghost use Rattle.std.specs.Prelude.{◌≡◌, ◌<◌, ℕ, ◌∷◌, [], IfOk, OnOk, MatchOption};
 ghost use Rattle.kr_ast.specs.Arena.{Arena};
 ghost use Rattle.kr_classes_constants.specs.declared.frames.Task.TheVariants.{Give};
@@ -10,8 +10,8 @@ use kr_base::NoMemory;
 use std::alloc::Global;
 use std::marker::Model;
 
-/// What is waited for, with what was found before: the operand of a unary operator, the left operand, the right one, the
-/// condition, and the two arms.
+/// A pending step, with the outcomes found before: it waits for the operand of a unary operator, the left operand, the
+/// right one, the condition, or one of the two arms.
 #[derive(Clone, Copy)]
 pub(crate) enum Frame {
     Operand(UnaryOperator),
@@ -60,7 +60,7 @@ impl Model for Frames {
 }
 
 impl Frames {
-    /// No frames. It takes no memory.
+    /// Allocates nothing.
     pub(crate) fn new(alloc: Global) -> Self
         ensures { result ≡ [] }
     {
@@ -83,7 +83,7 @@ impl Frames {
     }
 }
 
-/// Goes on behind a frame with what it waited for.
+/// Continues a frame with the outcome that it waited for.
 pub(crate) fn resume(frames: &mut Frames, frame: Frame, note: Note) -> Result<Task, NoMemory>
     ensures within { IfOk result (λ task. (n : ℕ) → AreWithin n (frame ∷ frames.old) → IsWithin n task × AreWithin n frames.new) }
     ensures light { IfOk result (λ task. (a : Arena) → weights a task frames.new < weights a (Give note) (frame ∷ frames.old)) }

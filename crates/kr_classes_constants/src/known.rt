@@ -1,5 +1,5 @@
 // The values of constants by the places of their names, found in a time that hardly grows with their number.
-ghost use Rattle.std.specs.Prelude.{◌≡◌, ◌++◌, ◌∷◌, [], List, IfOk, Some, option_map};
+ghost use Rattle.std.specs.Prelude.{◌≡◌, ◌++◌, [], List, IfOk, Some, option_map};
 ghost use Rattle.kr_base.specs.declared.place.Place.{Place};
 ghost use Rattle.kr_ast.specs.Arena.{Arena};
 ghost use Rattle.kr_classes_table.specs.Constants.{Known, constant_in as constant_of_value, known_as, known_value, value_at};
@@ -30,7 +30,7 @@ impl Model for Values {
     ghost view = { λ v. v.by_place.entries };
 }
 
-/// What a constant's value may be: no reference.
+/// The value, if it can be a constant's: not a reference.
 fn constant_in(value: Value) -> Option<Value>
     ensures { result ≡ constant_of_value value }
 {
@@ -41,7 +41,7 @@ fn constant_in(value: Value) -> Option<Value>
 }
 
 impl Values {
-    /// No values. It takes no memory.
+    /// Allocates nothing.
     pub(crate) fn new(alloc: Global) -> Self
         ensures { AreValues [] result }
     {
@@ -57,7 +57,7 @@ impl Values {
         self.by_place.get(&key).copied()
     }
 
-    /// The value of the constant whose name stands at a place.
+    /// The value of the constant whose name is at a place.
     pub fn value_at(&self, place: Place) -> Option<Value>
         ensures { (known : List Known) → AreValues known self.now → result ≡ value_at known place }
     {
@@ -71,7 +71,7 @@ impl Values {
         constant_in(self.value_at(field?.place)?)
     }
 
-    /// Notes what the initial value of the constant at a place comes to.
+    /// Notes the outcome of the initial value of the constant at a place.
     pub(crate) fn note(&mut self, place: Place, note: Note) -> Result<(), NoMemory>
         ensures { IfOk result (λ none. (known : List Known) → AreValues known self.old → AreValues (with_outcome known place (note_shown note)) self.new) }
     {
@@ -81,7 +81,7 @@ impl Values {
         }
     }
 
-    /// Adds a value behind the others.
+    /// Adds a value at the end.
     pub(crate) fn add(&mut self, place: Place, value: Value) -> Result<(), NoMemory>
         ensures { IfOk result (λ none. (known : List Known) → AreValues known self.old → AreValues (known ++ known_as place (Some value)) self.new) }
     {

@@ -1,4 +1,4 @@
-// What the names in a constant's initial value come to.
+// The outcomes of names in a constant's initial value.
 ghost use Rattle.std.specs.Prelude.{◌≡◌, ◌<◌, List, length};
 ghost use Rattle.kr_base.specs.declared.place.Place.{Place};
 ghost use Rattle.kr_ast.specs.Arena.{Arena, tree_in};
@@ -18,14 +18,14 @@ use kr_classes_members::Members;
 use kr_classes_names::Heads;
 use kr_classes_table::ClassId;
 
-/// Where an expression stands: the number of its file, and that of the class whose code it is.
+/// The position of an expression: the number of its file, and of the class whose code it is.
 #[derive(Clone, Copy)]
 pub(crate) struct Site {
     pub file: u32,
     pub class: ClassId,
 }
 
-/// Of a simple name.
+/// The note of a simple name.
 pub(crate) fn name_note(members: &Members, values: &Values, class: ClassId, name: &[u8]) -> Note
     ensures { (files : List Arena) (known : List Known) → AreMembers files members.now → AreValues known values.now → note_shown result ≡ known_outcome (known_value known (field_meant (table_in files) class name.now)) }
 {
@@ -63,7 +63,7 @@ fn class_before(
     }
 }
 
-/// Of a name behind a dot.
+/// The note of a name after a dot.
 pub(crate) fn access_note(
     trees: &[Tree],
     heads: &Heads,

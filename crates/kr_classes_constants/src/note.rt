@@ -1,4 +1,4 @@
-// What is found of an expression that may be a constant one, and how it follows from what is found of its operands.
+// The outcome of a possibly constant expression, from those of its operands.
 ghost use Rattle.std.specs.Prelude.{◌≡◌, Some};
 ghost use Rattle.kr_classes_table.specs.Constants.{value_in};
 ghost use Rattle.kr_classes_constants.specs.Outcomes.{binary_outcome, conditional_outcome, known_outcome, note_shown, unary_outcome};
@@ -8,7 +8,7 @@ use kr_classes_operators::{apply, apply_alone};
 use kr_classes_table::OperatorError;
 use kr_value::Value;
 
-/// What is found of an expression.
+/// The outcome of an expression.
 #[derive(Clone, Copy)]
 pub(crate) enum Note {
     /// It is no constant expression.
@@ -19,7 +19,7 @@ pub(crate) enum Note {
 }
 
 impl Note {
-    /// Of a constant expression whose operator gives this.
+    /// The note of a constant expression with this result of its operator.
     pub(crate) fn of(given: Result<Value, OperatorError>) -> Note
         ensures { note_shown result ≡ Some (value_in given) }
     {
@@ -29,7 +29,7 @@ impl Note {
         }
     }
 
-    /// Of a name that means a constant with this value, or none.
+    /// The note of a name that means a constant with this value, or none.
     pub(crate) fn of_known(value: Option<Value>) -> Note
         ensures { note_shown result ≡ known_outcome value }
     {

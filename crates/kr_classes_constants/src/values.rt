@@ -1,5 +1,5 @@
 // The values of all constants, one after another.
-ghost use Rattle.std.specs.Prelude.{◌≡◌, ◌<◌, List, length, IfOk};
+ghost use Rattle.std.specs.Prelude.{◌<◌, List, IfOk};
 ghost use Rattle.kr_classes_table.specs.Constants.{Known, values_of, with_constant};
 ghost use Rattle.kr_classes_names.specs.Shown.{AreHeads};
 ghost use Rattle.kr_classes_members.specs.Kept.{AreMembers};

@@ -1,7 +1,7 @@
 -- The classes of a table, one after another.
-use Rattle.std.proofs.Common.{◌≡◌, refl, sym, ap, ◌∙◌, ℕ, zero, suc, ◌+◌, ◌<◌, ◌≤◌, List, [], ◌∷◌, ◌++◌, length, map, take, get_or, zero-add, append-nil, subst, arith}
+use Rattle.std.proofs.Common.{◌≡◌, refl, sym, ap, ◌∙◌, ℕ, zero, suc, ◌+◌, ◌<◌, List, [], ◌∷◌, ◌++◌, length, map, take, get_or, zero-add, append-nil, subst, arith}
 use Rattle.std.specs.Prelude.{Option, Some, None, flat_map, option_map, option_to_list, slice_get}
-use Rattle.std.proofs.lemmas.List.{length-map, map-append, take_more}
+use Rattle.std.proofs.lemmas.List.{length-map, map-append, take_more, length-take-le}
 use Rattle.std.proofs.lemmas.Grind.{flat_map-append}
 use Rattle.std.proofs.lemmas.List.Folds.{flat_map-map}
 use Rattle.std.proofs.lemmas.Option.{get_or_from_slice_get, slice_get-map, slice_get_within}
@@ -23,22 +23,17 @@ pub classes_in : (files : List Arena) → (table_in files).classes ≡ classes_f
 unfolding table_of
 classes_in files = refl
 
-length-take : {A : Type 0} (i : ℕ) (xs : List A) → i ≤ length xs → length (take i xs) ≡ i
-length-take zero xs l = refl
-length-take (suc i) [] l = absurd (omega (arith, l))
-length-take (suc i) (x ∷ xs) l = ap suc (length-take i xs (omega (arith, l)))
-
 -- one class more
 pub classes_step : {A : Type 0} (all : List Heading) (v : A → Heading) (xs : List A) (i : ℕ) (d : A) → i < length xs → classes_from all 0 (map v (take i xs)) ++ class_of all i (v (get_or xs i d)) ∷ [] ≡ classes_from all 0 (map v (take (i + 1) xs))
 classes_step all v xs i d l =
     let x = get_or xs i d in
     let before = map v (take i xs) in
-    let n : 0 + length before ≡ i = zero-add _ ∙ length-map (take i xs) v ∙ length-take i xs (omega (arith, l)) in
+    let n : 0 + length before ≡ i = zero-add _ ∙ length-map (take i xs) v ∙ length-take-le i xs (omega (arith, l)) in
     ap (λ k. classes_from all 0 before ++ class_of all k (v x) ∷ []) (sym n)
     ∙ sym (classes_append all 0 before (v x ∷ []))
     ∙ ap (classes_from all 0) (sym (map-append v (take i xs) (x ∷ [])) ∙ ap (map v) (sym (take_more xs i d l)))
 
--- what members give, over the nodes of their list
+-- the members' declarations, over the nodes of their list
 pub of_members : {A : Type 0} (g : Tree → List A) (a : Arena) (xs ys : List ℕ) (ts : List Tree) → xs ≡ ys → map (tree_in a) ys ≡ ts → flat_map (λ n. g (tree_in a n)) xs ≡ flat_map g ts
 of_members g a xs ys ts e l = ap (flat_map (λ n. g (tree_in a n))) e ∙ sym (flat_map-map g (tree_in a) ys) ∙ ap (flat_map g) l
 
@@ -61,13 +56,13 @@ at_class files m c k h e = class_kept files m c h ∙ ap (option_map (class_show
 pub at_none : (files : List Arena) (m : Members) (c : ℕ) → AreMembers files m → None ≡ slice_get m.classes.items c → class_at (table_in files).classes c ≡ None
 at_none files m c h e = class_kept files m c h ∙ ap (option_map (class_shown files)) (sym e)
 
--- what is kept of a class is there
+-- the members kept of a class exist
 pub kept_stands : (files : List Arena) (m : Members) (c : ℕ) (k : ClassMembers) → AreMembers files m → Some k ≡ slice_get m.classes.items c → IsClass files k
 kept_stands files m c k h e =
     let l = slice_get_within m.classes.items c k (sym e) in
     subst (λ (x : ClassMembers). IsClass files x) (get_or_from_slice_get m.classes.items c k k (sym e)) (h.stands c k l)
 
--- what a class of the table declares of one sort
+-- the declarations of one sort of a class of the table
 pub declared_by : {A : Type 0} (part : Class → List A) (ds : List Class) (c : ℕ) (d : Class) → class_at ds c ≡ Some d → flat_map part (option_to_list (class_at ds c)) ≡ part d
 declared_by part ds c d e = ap (λ o. flat_map part (option_to_list o)) e ∙ append-nil (part d)
 

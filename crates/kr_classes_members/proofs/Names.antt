@@ -1,4 +1,4 @@
--- What stands first under a name in a list.
+-- The first occurrence of a name in a list.
 use Rattle.std.proofs.Common.{◌≡◌, refl, ap, ◌∙◌, ℕ, ◌+◌, Bool, true, false, List, [], ◌∷◌, map, bytes_eq, cond, add-one, subst, All}
 use Rattle.std.specs.Prelude.{Option, Some, None, find, option_and_then, option_map, slice_get, IfSome}
 use Rattle.std.specs.List.{position_from}
@@ -22,7 +22,7 @@ by_case : {A : Type 0} (b : Bool) (x : A) (xs : List A) (o : Option ℕ) (r : Op
 by_case true x xs o r e = refl
 by_case false x xs o r e = e
 
--- the item whose name stands first
+-- the first item with a name
 pub first_of_name : {A : Type 0} (name : A → List ℕ) (n : List ℕ) (xs : List A) → option_and_then (slice_get xs) (position_from (bytes_eq n) 0 (map name xs)) ≡ find (λ x. bytes_eq n (name x)) xs
 first_of_name name n [] = refl
 first_of_name name n (x ∷ xs) =
@@ -36,7 +36,7 @@ seen v false x r s e = e
 swapped : {A B : Type 0} (v : A → B) (b d : Bool) (x : A) (r : Option A) (s : Option B) → b ≡ d → option_map v r ≡ s → option_map v (cond b (Some x) r) ≡ cond d (Some (v x)) s
 swapped v b d x r s e f = ap (λ q. option_map v (cond q (Some x) r)) e ∙ seen v d x r s f
 
--- the same of what the items stand for
+-- the first item with a name, as shown
 pub shown_of_name : {A B : Type 0} (v : A → B) (name : A → List ℕ) (title : B → List ℕ) (n : List ℕ) → ((x : A) → name x ≡ title (v x)) → (xs : List A) → option_map v (find (λ x. bytes_eq n (name x)) xs) ≡ find (λ y. bytes_eq (title y) n) (map v xs)
 shown_of_name v name title n same [] = refl
 shown_of_name v name title n same (x ∷ xs) =
@@ -47,7 +47,7 @@ got : {A : Type 0} (P : A → Type 0) (xs : List A) (i : ℕ) → All P xs → (
 got P xs i a None e = tt
 got {A = A} P xs i a (Some x) e = subst (λ (y : A). P y) (get_or_from_slice_get xs i x x e) (a i x (slice_get_within xs i x e))
 
--- what is found by an index, as it is shown
+-- the item found by an index, as shown
 pub indexed : {A B : Type 0} (v : A → B) (name : A → List ℕ) (title : B → List ℕ) (n : List ℕ) → ((x : A) → name x ≡ title (v x)) → (xs : List A) (kept : List (List ℕ × ℕ)) (ys : List B) → IsIndexOf (map name xs) kept → map v xs ≡ ys
     → option_map v (option_and_then (slice_get xs) (place_of n kept)) ≡ find (λ y. bytes_eq (title y) n) ys
 indexed v name title n same xs kept ys k e =
@@ -56,7 +56,7 @@ indexed v name title n same xs kept ys k e =
     ∙ shown_of_name v name title n same xs
     ∙ ap (find (λ y. bytes_eq (title y) n)) e
 
--- what is found is one of the list
+-- the item found is in the list
 pub found_one : {A : Type 0} (P : A → Type 0) (xs : List A) (o : Option ℕ) → All P xs → IfSome (option_and_then (slice_get xs) o) P
 found_one P xs None a = tt
 found_one P xs (Some i) a = got P xs i a (slice_get xs i) refl

@@ -13,7 +13,7 @@ use Rattle.kr_classes_members.specs.Kept.{AreMembers, class_count, class_shown}
 pub kept_count : (files : List Arena) (m : Members) → AreMembers files m → class_count m ≡ length (table_in files).classes
 kept_count files m h = sym (length-map m.classes.items (class_shown files)) ∙ ap length h.shown
 
--- ---- what is left of the line after so many steps
+-- ---- the rest of the line after some steps
 
 pub whole : (t : Table) (n c : ℕ) → n ≡ length t.classes → line_within (n + 1 - 0) t (Some c) ≡ line_of t c
 whole t n c e = let k : n + 1 - 0 ≡ suc (length t.classes) = omega (arith, e) in ap (λ j. line_within j t (Some c)) k
@@ -23,7 +23,7 @@ upwards t n i c at next l a s =
     let k : n - i ≡ suc (n - (i + 1)) = omega (arith, l) in
     ap (λ o. line_within (n - i) t o) a ∙ ap (λ j. line_within j t (Some c)) k ∙ ap (λ o. c ∷ line_within (n - (i + 1)) t o) (sym s)
 
-no_class_left : (k : ℕ) (t : Table) → line_within k t None ≡ []
+pub no_class_left : (k : ℕ) (t : Table) → line_within k t None ≡ []
 no_class_left zero t = refl
 no_class_left (suc k) t = refl
 
@@ -33,7 +33,7 @@ ended k t at a = ap (line_within k t) a ∙ no_class_left k t
 pub spent : (k : ℕ) (t : Table) (at : Option ℕ) → k ≡ 0 → line_within k t at ≡ []
 spent k t at e = ap (λ j. line_within j t at) e
 
--- ---- what is looked for on it
+-- ---- searching along it
 
 none_or : {A : Type 0} (o p : Option A) → o ≡ None → option_or o p ≡ p
 none_or o p e = ap (λ q. option_or q p) e
@@ -68,10 +68,10 @@ nowhere own p cs e = sym (ap (λ ds. find p (flat_map own ds)) e)
 
 -- ---- a class on it
 
-other : (a b : ℕ) → (b ≡ a → ⊥) → nat_eq a b ≡ false
+pub other : (a b : ℕ) → (b ≡ a → ⊥) → nat_eq a b ≡ false
 other a b e = grind (arith, e)
 
-same : (a b : ℕ) → b ≡ a → nat_eq a b ≡ true
+pub same : (a b : ℕ) → b ≡ a → nat_eq a b ≡ true
 same a b e = grind (arith, e)
 
 pub passed : (t : Table) (n i c d : ℕ) (at next : Option ℕ) → i < n → at ≡ Some c → next ≡ super_of t c → (c ≡ d → ⊥) → is_among d (line_within (n - (i + 1)) t next) ≡ is_among d (line_within (n - i) t at)

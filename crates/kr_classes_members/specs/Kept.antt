@@ -1,5 +1,5 @@
 -- Between crates: the classes that the code keeps, with their members: the class table.
-use Rattle.std.specs.Prelude.{◌≡◌, ℕ, List, length, map, All, Option, Some, None, if◌then◌else◌}
+use Rattle.std.specs.Prelude.{◌≡◌, ℕ, List, length, map, All}
 use Rattle.kr_ast.specs.Arena.{Arena}
 use Rattle.kr_classes_table.specs.Table as table
 use Rattle.kr_classes_names.specs.Listed.{IsIndexOf}
@@ -20,7 +20,7 @@ class_shown files k = let h = heading_shown files k.heading in record {
   constructors = map (constructor_shown files) k.constructors.items;
 }
 
--- what is kept of it is there, and names are found
+-- its members exist, and the index finds their names
 pub record IsClass (files : List Arena) (k : ClassMembers) : Type 0 where
   pub heading : IsHeading files k.heading
   pub fields : All (IsField files) k.fields.items
@@ -37,7 +37,3 @@ class_count m = length m.classes.items
 pub record AreMembers (files : List Arena) (m : Members) : Type 0 where
   pub stands : All (IsClass files) m.classes.items
   pub shown : map (class_shown files) m.classes.items ≡ (table_in files).classes
-
--- a static method
-abbrev pub static_only : table.Method → Option table.Method
-static_only m = if m.is_static then Some m else None

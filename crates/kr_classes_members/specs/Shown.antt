@@ -1,4 +1,4 @@
--- Between crates: what the code keeps of fields, methods and constructors, as the class table has them.
+-- Between crates: the representation of fields, methods and constructors of the class table.
 use Rattle.std.specs.Prelude.{ℕ, ◌<◌, List, [], ◌∷◌, length, map}
 use Rattle.kr_ast.specs.Arena.{Arena, AreNamesIn, name_in, root, tree_in}
 use Rattle.kr_classes_table.specs.Table as table

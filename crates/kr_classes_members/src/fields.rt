@@ -1,6 +1,6 @@
 // The fields and constants that a class declares itself.
-ghost use Rattle.std.specs.Prelude.{◌≡◌, ◌<◌, ◌^◌, ◌++◌, [], List, None, Some, IfOk, IfSome, MatchOption, length, map, flat_map, All, option_map, option_to_list};
-ghost use Rattle.kr_ast.specs.Arena.{Arena, tree_in};
+ghost use Rattle.std.specs.Prelude.{◌≡◌, ◌<◌, ◌++◌, [], None, Some, IfOk, IfSome, MatchOption, length, map, flat_map, All, option_map, option_to_list};
+ghost use Rattle.kr_ast.specs.Arena.{tree_in};
 ghost use Rattle.kr_classes_table.specs.Table.{items as listed, declared_in, fields_in};
 ghost use Rattle.kr_classes_names.specs.Listed.{IsIndexOf};
 ghost use Rattle.kr_ast.specs.Files.{file_at};
@@ -25,7 +25,7 @@ pub struct Field {
     pub initial: u32,
 }
 
-/// What the declarators of one line of fields share, and the list of them.
+/// The part that the declarators of one field declaration share, and the list of them.
 #[derive(Clone, Copy)]
 struct FieldLine {
     file: u32,

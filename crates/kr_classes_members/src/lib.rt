@@ -8,7 +8,10 @@ mod meant;
 mod members;
 mod methods;
 mod queries;
+mod read;
+mod roster;
 
 pub use fields::Field;
 pub use members::Members;
 pub use methods::{Constructor, Method};
+pub use roster::Roster;

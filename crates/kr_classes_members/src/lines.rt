@@ -1,4 +1,4 @@
-// What is found on the line of a class and its ancestors, the nearest first.
+// Searches along the line of a class and its ancestors, nearest first.
 ghost use Rattle.std.specs.Prelude.{◌≡◌, ◌++◌, List, Some, None, IfOk, IfSome, map, flat_map, All, option_map, option_to_list};
 ghost use Rattle.kr_ast.specs.Arena.{Arena};
 ghost use Rattle.kr_classes_table.specs.Table.{ancestors, field_named, field_on, fields_of, is_below, is_instance, line_of, line_within, method_named, method_on, own_fields};
@@ -41,7 +41,7 @@ impl Members {
         false
     }
 
-    /// The field or constant of a name, the nearest of so many classes upwards.
+    /// The field or constant of a name in the nearest class within `steps` classes upwards.
     fn field_upwards(&self, from: Option<ClassId>, steps: usize, name: &[u8]) -> Option<Field>
         ensures stands { (files : List Arena) → AreMembers files self.now → IfSome result (IsField files) }
         ensures shown { (files : List Arena) → AreMembers files self.now → option_map (field_shown files) result ≡ field_on (table_in files) (line_within steps (table_in files) from) name.now }
@@ -78,7 +78,7 @@ impl Members {
         self.field_upwards(self.superclass(class), self.len(), name)
     }
 
-    /// The method of a name, the nearest of so many classes upwards.
+    /// The method of a name in the nearest class within `steps` classes upwards.
     fn method_upwards(&self, from: Option<ClassId>, steps: usize, name: &[u8]) -> Option<Method>
         ensures stands { (files : List Arena) → AreMembers files self.now → IfSome result (IsMethod files) }
         ensures shown { (files : List Arena) → AreMembers files self.now → option_map (method_shown files) result ≡ method_on (table_in files) (line_within steps (table_in files) from) name.now }

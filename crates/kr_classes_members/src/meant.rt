@@ -1,14 +1,12 @@
-// What names mean in the code of a class where no local has them (Java Language Specification 6.5).
+// The meaning of names in the code of a class that no local has (Java Language Specification 6.5).
 ghost use Rattle.std.specs.Prelude.{◌≡◌, List, Some, None, IfSome, option_and_then, option_map};
 ghost use Rattle.kr_ast.specs.Arena.{Arena};
-ghost use Rattle.kr_classes_table.specs.Table.{method_named};
 ghost use Rattle.kr_classes_table.specs.Constants.{constant_of, constant_only as only_constant, field_meant};
-ghost use Rattle.kr_classes_members.specs.Shown.{IsField, IsMethod, field_shown, method_shown, table_in};
-ghost use Rattle.kr_classes_members.specs.Kept.{AreMembers, static_only};
+ghost use Rattle.kr_classes_members.specs.Shown.{IsField, field_shown, table_in};
+ghost use Rattle.kr_classes_members.specs.Kept.{AreMembers};
 
 use crate::fields::Field;
 use crate::members::Members;
-use crate::methods::Method;
 use kr_classes_table::ClassId;
 
 /// A field that is a constant.
@@ -19,17 +17,6 @@ fn constant_only(found: Option<Field>) -> Option<Field>
     match found {
         None => None,
         Some(field) => { if field.is_static { found } else { None } }
-    }
-}
-
-/// A method that is static.
-fn static_method(found: Option<Method>) -> Option<Method>
-    ensures stands { (files : List Arena) → IfSome found (IsMethod files) → IfSome result (IsMethod files) }
-    ensures shown { (files : List Arena) → option_map (method_shown files) result ≡ option_and_then static_only (option_map (method_shown files) found) }
-{
-    match found {
-        None => None,
-        Some(method) => { if method.is_static { found } else { None } }
     }
 }
 
@@ -45,8 +32,8 @@ impl Members {
         }
     }
 
-    /// What a simple name means in the code of a class: a field or constant of the class or an ancestor, else a constant of
-    /// the outer class.
+    /// The meaning of a simple name in the code of a class: a field or constant of the class or an ancestor, else a
+    /// constant of the outer class.
     pub fn field_meant(&self, class: ClassId, name: &[u8]) -> Option<Field>
         ensures stands { (files : List Arena) → AreMembers files self.now → IfSome result (IsField files) }
         ensures shown { (files : List Arena) → AreMembers files self.now → option_map (field_shown files) result ≡ field_meant (table_in files) class name.now }
@@ -55,13 +42,5 @@ impl Members {
             Some(found) => Some(found),
             None => self.constant_of(self.outer_class(class), name),
         }
-    }
-
-    /// The static method of a name, where the nearest of the name is static.
-    pub fn static_method_named(&self, class: ClassId, name: &[u8]) -> Option<Method>
-        ensures stands { (files : List Arena) → AreMembers files self.now → IfSome result (IsMethod files) }
-        ensures shown { (files : List Arena) → AreMembers files self.now → option_map (method_shown files) result ≡ option_and_then static_only (method_named (table_in files) class name.now) }
-    {
-        static_method(self.method_named(class, name))
     }
 }

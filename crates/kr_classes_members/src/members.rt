@@ -1,6 +1,5 @@
 // The classes with their members.
-ghost use Rattle.std.specs.Prelude.{◌≡◌, ◌<◌, List, Some, None, IfOk, length, map};
-ghost use Rattle.kr_ast.specs.Arena.{Arena};
+ghost use Rattle.std.specs.Prelude.{◌≡◌, ◌<◌, IfOk};
 ghost use Rattle.kr_classes_table.specs.Table.{class_of};
 ghost use Rattle.kr_classes_names.specs.Shown.{AreHeads, IsHeading, heading_shown};
 ghost use Rattle.kr_classes_members.specs.Shown.{headings_in};

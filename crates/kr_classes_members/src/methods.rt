@@ -1,6 +1,6 @@
 // The methods and constructors that a class declares itself.
-ghost use Rattle.std.specs.Prelude.{◌≡◌, ◌<◌, ◌^◌, ◌∷◌, [], List, None, Some, IfOk, IfSome, length, map, flat_map, All, option_map, option_to_list};
-ghost use Rattle.kr_ast.specs.Arena.{Arena, AreNamesIn, name_in, tree_in};
+ghost use Rattle.std.specs.Prelude.{◌≡◌, ◌<◌, ◌∷◌, [], None, Some, IfOk, IfSome, length, map, flat_map, All, option_map, option_to_list};
+ghost use Rattle.kr_ast.specs.Arena.{AreNamesIn, name_in, tree_in};
 ghost use Rattle.kr_classes_table.specs.Table.{constructors_in, methods_in, method_with};
 ghost use Rattle.kr_classes_names.specs.Listed.{IsIndexOf};
 ghost use Rattle.kr_ast.specs.Files.{file_at};

@@ -1,4 +1,4 @@
-// What the class table says of a class by its number: its superclass, its outer class, its own members, its line.
+// Queries on a class by its number: its superclass, its outer class, its own members, its line.
 ghost use Rattle.std.specs.Prelude.{◌≡◌, List, Some, None, IfSome, length, map, flat_map, All, find, bytes_eq, option_and_then, option_map, option_to_list, option_copied, slice_get};
 ghost use Rattle.std.specs.List.{position_from};
 ghost use Rattle.kr_ast.specs.Arena.{Arena};
@@ -62,7 +62,7 @@ impl Members {
         }
     }
 
-    /// The class that a class stands in.
+    /// The class that contains a class.
     pub fn outer_class(&self, class: ClassId) -> Option<ClassId>
         ensures { (files : List Arena) → AreMembers files self.now → result ≡ outer_class (table_in files) class }
     {

@@ -1,6 +1,6 @@
 -- The number of a class by its name.
-use Rattle.std.proofs.Common.{◌≡◌, refl, sym, ap, ◌∙◌, ℕ, zero, suc, ◌+◌, ◌<◌, Bool, true, false, List, [], ◌∷◌, length, map, get_or, bytes_eq, if◌then◌else◌, arith}
-use Rattle.std.specs.Prelude.{Option, Some, None, unwrap_or, option_and_then, nat_eq}
+use Rattle.std.proofs.Common.{◌≡◌, refl, sym, ap, ◌∙◌, ℕ, zero, suc, ◌+◌, ◌<◌, true, false, List, [], ◌∷◌, length, map, get_or, bytes_eq, if◌then◌else◌, arith}
+use Rattle.std.specs.Prelude.{Option, Some, None, option_and_then, nat_eq}
 use Rattle.std.specs.List.{position_from}
 use Rattle.std.proofs.Math.ListN.{get_or-map}
 use Rattle.std.proofs.lemmas.Slice.Eq.{bytes_eq-Decides}
@@ -8,6 +8,7 @@ use Rattle.kr_base.specs.declared.place.Place.{Place}
 use Rattle.kr_ast.specs.Arena.{Arena}
 use Rattle.kr_ast.specs.Tree as trees
 use Rattle.kr_classes_table.specs.Table.{Heading, number_from, number_of, outer_of, is_number, class_named}
+use Rattle.kr_classes_table.proofs.Tables.{bounded_from}
 use Rattle.kr_classes_names.specs.declared.headings.Heading.{Heading as Kept}
 use Rattle.kr_classes_names.specs.Shown.{heading_shown}
 
@@ -18,17 +19,6 @@ pub number_position : (k : ℕ) (hs : List Heading) (n : List ℕ) → position_
 number_position k [] n = refl
 number_position k (h ∷ hs) n =
     ap (λ r. if bytes_eq n h.name then Some k else r) (number_position (k + 1) hs n) ∙ ap (λ b. if b then Some k else number_from (k + 1) hs n) (turned n h.name)
-
-some_value : {A : Type 0} (a b : A) → Some a ≡ Some b → a ≡ b
-some_value a b e = ap (λ o. unwrap_or o a) e
-
-below_step : (k m c : ℕ) (b : Bool) (o : Option ℕ) → (o ≡ Some c → c < k + 1 + m) → (if b then Some k else o) ≡ Some c → c < k + suc m
-below_step k m c true o f e = let s : k ≡ c = some_value k c e in omega (arith, s)
-below_step k m c false o f e = omega (arith, f e)
-
-pub number_below : (k : ℕ) (hs : List Heading) (n : List ℕ) (c : ℕ) → number_from k hs n ≡ Some c → c < k + length hs
-number_below k [] n c e = absurd (cc (e))
-number_below k (h ∷ hs) n c e = below_step k (length hs) c (bytes_eq h.name n) (number_from (k + 1) hs n) (number_below (k + 1) hs n c) e
 
 pub outer_at : (hs : List Heading) (c : ℕ) (d : Heading) → c < length hs → outer_of hs c ≡ (get_or hs c d).outer
 outer_at [] c d l = absurd (omega (arith, l))
@@ -57,4 +47,4 @@ pub is_other : (a b : ℕ) → (a ≡ b → ⊥) → nat_eq a b ≡ false
 is_other a b e = grind (arith, e)
 
 pub some_below : (hs : List Heading) (n : List ℕ) (c : ℕ) → Some c ≡ number_of hs n → c < length hs
-some_below hs n c e = let b = number_below 0 hs n c (sym e) in omega (arith, b)
+some_below hs n c e = let b = bounded_from 0 hs n c (sym e) in omega (arith, b)

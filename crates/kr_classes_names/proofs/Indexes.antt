@@ -11,7 +11,7 @@ pub looked : {K : Type 0} (f : K → List ℕ) (q : List ℕ) (es : List (K × �
 looked f q [] = refl
 looked f q (e ∷ es) = ap (λ r. if bytes_eq q (f e.0) then Some e.1 else r) (looked f q es)
 
-choice_or : (b : Bool) (x : ℕ) (r s : Option ℕ) → (if b then Some x else or_else r s) ≡ or_else (if b then Some x else r) s
+pub choice_or : (b : Bool) (x : ℕ) (r s : Option ℕ) → (if b then Some x else or_else r s) ≡ or_else (if b then Some x else r) s
 choice_or true x r s = refl
 choice_or false x r s = refl
 

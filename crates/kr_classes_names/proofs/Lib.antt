@@ -1,3 +1,10 @@
 pub mod Indexes
 pub mod Walks
 pub mod ClassNumbers
+pub mod Equality
+pub mod Apart
+pub mod Made
+pub mod Same
+pub mod Growing
+pub mod Base
+pub mod Totals

@@ -1,2 +1,5 @@
 pub mod Listed
 pub mod Shown
+pub mod ListedTypes
+pub mod Types
+pub mod Numbers

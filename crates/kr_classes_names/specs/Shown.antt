@@ -1,8 +1,7 @@
 -- Between crates: what the code keeps of classes, as the class table has it.
-use Rattle.std.specs.Prelude.{◌≡◌, ℕ, ◌<◌, ◌^◌, List, [], ◌∷◌, length, map, All, Option, slice_index_or}
+use Rattle.std.specs.Prelude.{◌≡◌, ℕ, ◌<◌, ◌^◌, List, [], ◌∷◌, length, map, All, Option}
 use Rattle.kr_ast.specs.Arena.{Arena, AreNamesIn, name_in, root, tree_in}
-use Rattle.kr_ast.specs.Files.{file_at, tree_of_node}
-use Rattle.kr_ast.specs.Tree.{Tree}
+use Rattle.kr_ast.specs.Files.{file_at}
 use Rattle.kr_classes_table.specs.Table as table
 use Rattle.kr_classes_table.specs.Table.{items, class_named, headings_of}
 use Rattle.kr_classes_names.specs.Listed.{IsIndexOf}

@@ -1,4 +1,4 @@
-// What the names of classes mean.
+// The meaning of class names.
 ghost use Rattle.std.specs.Prelude.{◌≡◌, ◌<◌, ◌^◌, List, Some, None, IfOk, length, map, All};
 ghost use Rattle.kr_ast.specs.Arena.{Arena, root, tree_in};
 ghost use Rattle.kr_classes_table.specs.Table.{class_named, headings_of, number_of};

@@ -11,7 +11,7 @@ use kr_base::{NoMemory, Place};
 use kr_classes_table::ClassId;
 use std::alloc::Global;
 
-/// What stands at the head of a class, by nodes of its file's tree: what it extends, and the list of its members.
+/// The head of a class, by nodes of its file's tree: the extended class, and the list of its members.
 #[derive(Clone, Copy)]
 pub struct Heading {
     pub file: u32,

@@ -1,13 +1,19 @@
-//! What the names of classes mean: the heads of all classes of the files, numbered in file and source order, which class a
-//! name or a type's node means, and the superclass of each.
+//! Names of classes and types by number: the classes that the sources declare, and each type that the sources name or that typing makes of these.
 #![tactic(auto)]
 
 mod class_names;
+mod form;
 mod headings;
 mod lists;
 mod names;
+mod numbers;
+mod spellings;
+mod types;
 
 pub use class_names::{Heads, superclasses};
+pub use form::TypeForm;
 pub use headings::Heading;
 pub use lists::items;
 pub use names::Index;
+pub use numbers::NodeTypes;
+pub use types::Types;

@@ -1,4 +1,4 @@
-// Where names stand in a list, found in a time that hardly grows with their number.
+// The index of names in a list, in nearly constant time.
 ghost use Rattle.std.specs.Prelude.{◌≡◌, ◌++◌, ◌∷◌, [], List, ℕ, IfOk, length};
 ghost use Rattle.kr_classes_names.specs.Listed.{IsIndexOf, place_of};
 
@@ -7,7 +7,7 @@ use kr_base::NoMemory;
 use std::alloc::Global;
 use std::marker::Model;
 
-/// Where each of some names stands first among them.
+/// The index of the first occurrence of each name.
 #[derive(Drop)]
 pub struct Index {
     first: IndexMap<Vec<u8>, u32>,
@@ -30,14 +30,14 @@ impl Index {
         }
     }
 
-    /// Where the name stands first.
+    /// The index of the first occurrence.
     pub fn find(&self, name: &[u8]) -> Option<u32>
         ensures { result ≡ place_of name.now self.now }
     {
         self.first.get(name).copied()
     }
 
-    /// Notes that a name stands behind the others.
+    /// Notes that a name comes at an index after all others.
     pub fn add(&mut self, alloc: Global, name: &[u8], at: u32) -> Result<(), NoMemory>
         ensures { IfOk result (λ none. (names : List (List ℕ)) → IsIndexOf names self.old → at ≡ length names → IsIndexOf (names ++ name.now ∷ []) self.new) }
     {

@@ -8,7 +8,7 @@ use Rattle.kr_classes_table.specs.Numbers.{Bits32, whole_of, wrap}
 whole_of_is : (n : ℕ) → cast_signed w32 n ≡ whole_of Bits32 n
 whole_of_is n = ap (λ k. if nat_lt n 2147483648 then pos n else negsuc k) (omega arith)
 
--- what is left of a number in an int's 32 bits
+-- the lowest 32 bits of a number as an `int`
 wrap_is : (z : ℤ) → int_wrap w32 z ≡ wrap Bits32 z
 unfolding int_wrap
 wrap_is (pos a) = whole_of_is (a % 4294967296)

@@ -1,5 +1,5 @@
--- Between crates: what the operators give, worked by hand from the Java Language Specification 15.15 to 15.24, most of it at the
--- edges of the ints.
+-- Between crates: results of operators, worked by hand from the Java Language Specification 15.15 to 15.24, mostly at
+-- the limits of `int`.
 use Rattle.std.specs.Prelude.{◌≡◌, ℤ, pos, negsuc, true, false, List, [], ◌∷◌, Some, None, Ok, Err}
 use Rattle.kr_ast.specs.declared.node.UnaryOperator.TheVariants.{Plus, Minus, Complement, Not}
 use Rattle.kr_ast.specs.declared.node.BinaryOperator.{BinaryOperator}
@@ -155,7 +155,7 @@ pub record WorkedOperators : Type 0 where
   pub none_divided : binary_value Divide (Some (Int (pos 1))) (Some (Int (pos 0))) ≡ None
   pub both_needed : binary_value BitAnd (Some (Truth false)) None ≡ None
   pub left_needed : binary_value Or None (Some (Truth true)) ≡ None
-  -- of `?:` only the arm that is chosen counts
+  -- only the chosen arm of `?:` matters
   pub chosen_first : chosen (Some (Truth true)) (Some (Int (pos 1))) None ≡ Some (Int (pos 1))
   pub chosen_second : chosen (Some (Truth false)) None (Some (Int (pos 2))) ≡ Some (Int (pos 2))
   pub chosen_without : chosen (Some (Truth true)) None (Some (Int (pos 2))) ≡ None

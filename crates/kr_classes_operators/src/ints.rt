@@ -1,4 +1,4 @@
-// The operators that give an int: they wrap in its width.
+// Operators with an `int` result; they wrap at 32 bits.
 ghost use Rattle.std.specs.Prelude.{◌≡◌, ◌≢◌, ◌*◌, ◌/◌, ◌%◌, ◌^◌, ◌+ℤ◌, ◌-ℤ◌, ◌*ℤ◌, neg_ℤ, pos, int_div, int_rem, bit_and, bit_or, bit_xor};
 ghost use Rattle.kr_classes_table.specs.Numbers.{Bits32, bits, complement, distance, shifted_right, span, whole_of, wrap};
 
@@ -62,7 +62,7 @@ pub(crate) fn left_shift(a: i32, b: i32) -> i32
     a.wrapping_shl(b.cast_unsigned())
 }
 
-/// It keeps the sign.
+/// Keeps the sign.
 #[inline(always)]
 pub(crate) fn right_shift(a: i32, b: i32) -> i32
     ensures { result ≡ wrap Bits32 (shifted_right a (distance Bits32 b)) }
@@ -70,7 +70,7 @@ pub(crate) fn right_shift(a: i32, b: i32) -> i32
     a.wrapping_shr(b.cast_unsigned())
 }
 
-/// It fills with zeros.
+/// Fills with zeros.
 #[inline(always)]
 pub(crate) fn unsigned_right_shift(a: i32, b: i32) -> i32
     ensures { result ≡ whole_of Bits32 (bits Bits32 a / 2 ^ distance Bits32 b) }

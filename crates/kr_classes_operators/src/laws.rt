@@ -1,4 +1,4 @@
-// What the operators give at the edges of the ints.
+// The operators' results at the limits of `int`.
 ghost use Rattle.kr_classes_operators.specs.Worked.{WorkedOperators};
 
 /// Operators on values, worked by hand.

@@ -1,5 +1,4 @@
-//! Operators on values (Java Language Specification 15.15 to 15.24): by them the constants of a program are evaluated, and its
-//! code is run.
+//! Operators on values (Java Language Specification 15.15 to 15.24), for constants and for running code.
 #![tactic(auto)]
 
 mod ints;

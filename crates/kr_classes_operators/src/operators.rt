@@ -64,7 +64,7 @@ fn of_truths(operator: BinaryOperator, a: bool, b: bool) -> Result<Value, Operat
     }
 }
 
-/// An operator on two references that are the same, or aren't.
+/// An operator on two references, by whether they are equal.
 #[inline(always)]
 fn of_objects(operator: BinaryOperator, same: bool) -> Result<Value, OperatorError>
     ensures { result ≡ of_references operator same }

@@ -3,6 +3,7 @@ use Rattle.std.proofs.Common.{◌≡◌, refl, sym, ap, ◌∙◌, subst, inl, i
 use Rattle.std.specs.Prelude.{Option, Some, None}
 use Rattle.std.specs.List.{list_any, IsDistinct, AllByRecursion}
 use Rattle.std.proofs.lemmas.Map.Steps.{length-le_from_distinct_below}
+use Rattle.std.proofs.lemmas.Bool.{or_right}
 use Rattle.kr_classes_table.specs.Table.{Table, is_among, line_within, super_of}
 use Rattle.kr_classes_table.specs.Ancestors.{IsClosed, AncestorsLaw}
 
@@ -20,10 +21,6 @@ right_false false b e = e
 one_of : (a b : Bool) → a || b ≡ true → (a ≡ true) ⊎ (b ≡ true)
 one_of true b e = inl refl
 one_of false b e = inr e
-
-or_right : (a b : Bool) → b ≡ true → a || b ≡ true
-or_right true b e = refl
-or_right false b e = e
 
 or_left : (a b : Bool) → a ≡ true → a || b ≡ true
 or_left true b e = refl

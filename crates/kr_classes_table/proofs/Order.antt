@@ -2,10 +2,10 @@
 use Rattle.std.proofs.Common.{◌≡◌, ℕ, Bool, true, false, nat_lt, rules, arith}
 use Rattle.kr_classes_table.specs.Rules.{Fault, is_before, less_or}
 
-number : (a b c : ℕ) → nat_lt a b ≡ false → nat_lt b c ≡ false → nat_lt a c ≡ false
+pub number : (a b c : ℕ) → nat_lt a b ≡ false → nat_lt b c ≡ false → nat_lt a c ≡ false
 number a b c p q = grind (arith, rules)
 
-level : (a b c : ℕ) (r s t : Bool) → (r ≡ false → s ≡ false → t ≡ false) → less_or a b r ≡ false → less_or b c s ≡ false → less_or a c t ≡ false
+pub level : (a b c : ℕ) (r s t : Bool) → (r ≡ false → s ≡ false → t ≡ false) → less_or a b r ≡ false → less_or b c s ≡ false → less_or a c t ≡ false
 level a b c r s t k p q = grind (arith, rules, k)
 
 pub irreflexive : (f : Fault) → is_before f f ≡ false

@@ -1,11 +1,11 @@
--- Classes that no file declares stand behind those of the files.
+-- Predefined classes come after those of the files.
 use Rattle.std.proofs.Common.{◌≡◌, sym, ap, ◌∙◌, ℕ, ◌+◌, List, [], ◌∷◌, ◌++◌, length, append_assoc, append-nil, length-append, zero-add, arith}
 use Rattle.std.specs.Prelude.{None}
 use Rattle.kr_ast.specs.Tree.{Tree}
 use Rattle.kr_classes_table.specs.Table.{headings_from, heading_of, with_nested}
 use Rattle.kr_classes_table.specs.Laws.{PredefinedLaw}
 
--- headings of more items stand behind those before them
+-- headings of more items come after those of earlier ones
 pub headings_append : (k : ℕ) (ts us : List Tree) → headings_from k (ts ++ us) ≡ headings_from k ts ++ headings_from (k + length (headings_from k ts)) us
 headings_append k [] us = ap (λ n. headings_from n us) (omega arith)
 headings_append k (t ∷ ts) us =

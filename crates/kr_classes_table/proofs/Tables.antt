@@ -1,7 +1,9 @@
 -- The table of files that break no class rule.
-use Rattle.std.proofs.Common.{◌≡◌, refl, sym, ap, subst, inl, inr, ◌⊎◌, ℕ, zero, suc, ◌+◌, ◌<◌, ◌≤◌, Bool, true, false, List, [], ◌∷◌, ◌++◌, length, arith, if◌then◌else◌}
-use Rattle.std.specs.Prelude.{Option, Some, None, bytes_eq, option_and_then, unwrap_or}
+use Rattle.std.proofs.Common.{◌≡◌, refl, sym, ap, subst, inl, inr, ◌⊎◌, ℕ, zero, suc, ◌+◌, ◌<◌, ◌≤◌, Bool, true, false, List, [], ◌∷◌, length, arith, if◌then◌else◌}
+use Rattle.std.specs.Prelude.{Option, Some, None, bytes_eq, option_and_then}
+use Rattle.std.proofs.lemmas.Option.{same_Some}
 use Rattle.kr_base.specs.declared.place.Place.{Place}
+use Rattle.kr_base.proofs.ListLemmas.{append_is_nil}
 use Rattle.kr_ast.specs.Tree as trees
 use Rattle.kr_ast.specs.Tree.{Tree}
 use Rattle.kr_classes_table.specs.Table.{Table, Class, Heading, table_of, headings_of, classes_from, class_at, number_from, number_of, class_named, is_number, outer_of, ancestors, is_among, line_within}
@@ -10,23 +12,20 @@ use Rattle.kr_classes_table.specs.Ancestors.{IsAcyclic, IsClosed, TableLaw}
 use Rattle.kr_classes_table.proofs.Least.{is_least}
 use Rattle.kr_classes_table.proofs.Ancestors.{ancestors_law}
 
-some_value : {A : Type 0} (a b : A) → Some a ≡ Some b → a ≡ b
-some_value a b e = ap (λ o. unwrap_or o a) e
-
-bounded_step : (k m c : ℕ) (b : Bool) (o : Option ℕ) → (o ≡ Some c → c < k + 1 + m) → (if b then Some k else o) ≡ Some c → c < k + suc m
-bounded_step k m c true o f e = let s : k ≡ c = some_value k c e in omega (arith, s)
+pub bounded_step : (k m c : ℕ) (b : Bool) (o : Option ℕ) → (o ≡ Some c → c < k + 1 + m) → (if b then Some k else o) ≡ Some c → c < k + suc m
+bounded_step k m c true o f e = let s : k ≡ c = same_Some k c e in omega (arith, s)
 bounded_step k m c false o f e = omega (arith, f e)
 
 -- a number that a name has is that of a heading
-bounded_from : (k : ℕ) (hs : List Heading) (n : List ℕ) (c : ℕ) → number_from k hs n ≡ Some c → c < k + length hs
+pub bounded_from : (k : ℕ) (hs : List Heading) (n : List ℕ) (c : ℕ) → number_from k hs n ≡ Some c → c < k + length hs
 bounded_from k [] n c e = absurd (cc (e))
 bounded_from k (h ∷ hs) n c e = bounded_step k (length hs) c (bytes_eq h.name n) (number_from (k + 1) hs n) (bounded_from (k + 1) hs n c) e
 
-chosen : (b : Bool) (c d : ℕ) → (if b then Some c else None) ≡ Some d → c ≡ d
-chosen true c d e = some_value c d e
+pub chosen : (b : Bool) (c d : ℕ) → (if b then Some c else None) ≡ Some d → c ≡ d
+chosen true c d e = same_Some c d e
 chosen false c d e = absurd (cc (e))
 
-within : (n : ℕ) (test : ℕ → Bool) (o : Option ℕ) (d : ℕ) → ((c : ℕ) → o ≡ Some c → c < n) → option_and_then (λ c. if test c then Some c else None) o ≡ Some d → d < n
+pub within : (n : ℕ) (test : ℕ → Bool) (o : Option ℕ) (d : ℕ) → ((c : ℕ) → o ≡ Some c → c < n) → option_and_then (λ c. if test c then Some c else None) o ≡ Some d → d < n
 within n test None d f e = absurd (cc (e))
 within n test (Some c) d f e = subst (λ x. x < n) (chosen (test c) c d e) (f c refl)
 
@@ -36,7 +35,7 @@ named hs (trees.QualifiedType p o n) d e =
     within (length hs) (λ c. is_number (outer_of hs c) (number_of hs o)) (number_of hs n) d (λ c s. let b = bounded_from 0 hs n c s in omega (arith, b)) e
 named hs t d e = absurd (cc (e))
 
-long : (all : List Heading) (k : ℕ) (hs : List Heading) → length (classes_from all k hs) ≡ length hs
+pub long : (all : List Heading) (k : ℕ) (hs : List Heading) → length (classes_from all k hs) ≡ length hs
 long all k [] = refl
 long all k (h ∷ hs) = ap suc (long all (k + 1) hs)
 
@@ -55,11 +54,7 @@ third_none None None (Some f) os e = absurd (cc (e))
 third_none None (Some f) z os e = absurd (cc (e))
 third_none (Some f) y z os e = absurd (cc (e))
 
-both_empty : {A : Type 0} (xs ys : List A) → xs ++ ys ≡ [] → (xs ≡ []) × (ys ≡ [])
-both_empty [] ys e = (refl, e)
-both_empty (x ∷ xs) ys e = absurd (cc (e))
-
-unbroken : (b : Bool) (r : ℕ) (p : Place) → break_if b r p ≡ [] → b ≡ false
+pub unbroken : (b : Bool) (r : ℕ) (p : Place) → break_if b r p ≡ [] → b ≡ false
 unbroken true r p e = absurd (cc (e))
 unbroken false r p e = refl
 
@@ -69,19 +64,19 @@ at_or_behind k c l = grind (arith, l)
 each : (t : Table) (k : ℕ) (ds : List Class) (c : ℕ) → each_class (C3 t) k ds ≡ [] → k ≤ c → c < k + length ds → is_among c (ancestors t c) ≡ false
 each t k [] c e l m = absurd (omega (arith, l, m))
 each t k (d ∷ ds) c e l m =
-    let parts = both_empty (C3 t k d) (each_class (C3 t) (k + 1) ds) e in
+    let parts = append_is_nil (C3 t k d) (each_class (C3 t) (k + 1) ds) e in
     elim (at_or_behind k c l) [
       | inl s ↦ subst (λ x. is_among x (ancestors t x) ≡ false) s (unbroken (is_among k (ancestors t k)) 3 d.place parts.0)
       | inr b ↦ each t (k + 1) ds c parts.1 b (omega (arith, m))
     ]
 
 -- a number past the table has no superclass
-past : (ds : List Class) (c : ℕ) → length ds ≤ c → class_at ds c ≡ None
+pub past : (ds : List Class) (c : ℕ) → length ds ≤ c → class_at ds c ≡ None
 past [] c l = refl
 past (d ∷ ds) zero l = absurd (omega (arith, l))
 past (d ∷ ds) (suc c) l = past ds c (omega (arith, l))
 
-no_line : (n : ℕ) (t : Table) (c : ℕ) → is_among c (line_within n t None) ≡ false
+pub no_line : (n : ℕ) (t : Table) (c : ℕ) → is_among c (line_within n t None) ≡ false
 no_line zero t c = refl
 no_line (suc n) t c = refl
 

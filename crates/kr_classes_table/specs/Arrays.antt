@@ -1,6 +1,6 @@
--- To be believed: the array types that a program names, in order: their numbers. Each element's type that is one stands before
--- its array's.
-use Rattle.std.specs.Prelude.{ℕ, ◌+◌, Bool, true, false, ◌||◌, List, [], ◌∷◌, ◌++◌, flat_map, if◌then◌else◌, Option, Some, None}
+-- To be believed: the array types that a program names, numbered in order. An element type that is an array comes
+-- before its array.
+use Rattle.std.specs.Prelude.{ℕ, ◌+◌, Bool, false, ◌||◌, List, [], ◌∷◌, ◌++◌, flat_map, if◌then◌else◌, Option, Some, None}
 use Rattle.kr_ast.specs.Tree as trees
 use Rattle.kr_ast.specs.Tree.{Tree}
 use Rattle.kr_classes_table.specs.Nodes.{nodes}
@@ -25,7 +25,7 @@ abbrev pub is_listed : JavaType → List JavaType → Bool
 is_listed t [] = false
 is_listed t (u ∷ us) = is_same t u || is_listed t us
 
--- each of them once, where it stands first
+-- each of them once, at its first occurrence
 abbrev pub once : List JavaType → List JavaType → List JavaType
 once seen [] = []
 once seen (t ∷ ts) = if is_listed t seen then once seen ts else t ∷ once (t ∷ seen) ts

@@ -47,7 +47,7 @@ or_else None b = b
 abbrev pub outer_class : Table → ℕ → Option ℕ
 outer_class t c = option_and_then (λ d. d.outer) (class_at t.classes c)
 
--- what a simple name means in the code of a class where no local has it: a field or constant of the class or an
+-- the meaning of a simple name in the code of a class that no local has: a field or constant of the class or an
 -- ancestor, else a constant of the outer class
 abbrev pub field_meant : Table → ℕ → List ℕ → Option Field
 field_meant t c n = or_else (field_named t c n) (option_and_then (λ o. option_and_then constant_only (field_named t o n)) (outer_class t c))

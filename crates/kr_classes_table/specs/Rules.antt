@@ -2,7 +2,7 @@
 use Rattle.std.specs.Prelude.{ℕ, ◌+◌, ◌-◌, Bool, true, false, ◌&&◌, ◌||◌, not, List, [], ◌∷◌, ◌++◌, length, map, drop, flat_map, nat_eq, nat_lt, bytes_eq, if◌then◌else◌, Option, Some, None, option_to_list, is_none, codes}
 use Rattle.kr_base.specs.declared.place.Place.{Place}
 use Rattle.kr_ast.specs.Tree as trees
-use Rattle.kr_ast.specs.Tree.{Tree, Nil, Cons}
+use Rattle.kr_ast.specs.Tree.{Tree}
 use Rattle.kr_classes_table.specs.Types.{JavaType, is_same, is_reference}
 use Rattle.kr_classes_table.specs.Table.{Table, Class, Field, Parameter, Method, ancestors, is_among, own_fields, method_on, fields_of, is_assignable}
 
@@ -46,7 +46,7 @@ abbrev pub is_name_among : List ℕ → List (List ℕ) → Bool
 is_name_among n [] = false
 is_name_among n (m ∷ ms) = bytes_eq n m || is_name_among n ms
 
--- each named thing whose name stands before it
+-- each item whose name occurred before
 abbrev pub repeated : ℕ → List (List ℕ) → List (List ℕ × Place) → List Fault
 repeated r seen [] = []
 repeated r seen ((n, p) ∷ more) = break_if (is_name_among n seen) r p ++ repeated r (n ∷ seen) more
@@ -61,7 +61,7 @@ extended_at (trees.NamedType p n) = p ∷ []
 extended_at (trees.QualifiedType p o n) = p ∷ []
 extended_at _ = []
 
--- C2: `extends` names no class; at the name behind it
+-- C2: `extends` names no class; at the name after it
 abbrev pub C2 : Table → ℕ → Class → List Fault
 C2 t c d = flat_map (break_if (is_none d.super) 2) (extended_at d.extended)
 
@@ -107,7 +107,7 @@ result_fits t s u = is_same s u || (is_reference s && is_reference u && is_assig
 abbrev pub C7 : Table → ℕ → Class → List Fault
 C7 t c d = flat_map (overrides t c 7 (λ m above. (if m.is_static then above.is_static else not above.is_static) && result_fits t m.result above.result)) d.methods
 
--- an own field past so many in the class
+-- own fields beyond a count
 abbrev pub past : ℕ → List Field → List Fault
 past n fs = flat_map (λ f. break_if true 8 f.place) (drop n fs)
 

@@ -3,12 +3,12 @@ use Rattle.std.specs.Prelude.{ℕ, zero, suc, ◌+◌, Bool, true, false, ◌||�
 use Rattle.kr_base.specs.declared.place.Place.{Place}
 use Rattle.kr_ast.specs.declared.node.Primitive.TheVariants.{Int, Boolean, Void}
 use Rattle.kr_ast.specs.Tree as trees
-use Rattle.kr_ast.specs.Tree.{Tree, Nil, Cons}
+use Rattle.kr_ast.specs.Tree.{Tree, Cons}
 use Rattle.kr_classes_table.specs.Types.{JavaType, IntType, BooleanType, NullType, VoidType, ClassType, ArrayType, SetType, ListType, InferredType, UnknownType, AppliedType, is_same, is_reference}
 
 -- ---- names of classes
 
--- what stands at the head of a class: the outer class's number, the class that it extends as it is written, its members
+-- the head of a class: the outer class's number, the extended class as written, the members
 pub record Heading : Type 0 where
   pub name : List ℕ
   pub place : Place
@@ -39,7 +39,7 @@ headings_from k (t ∷ ts) = let own = with_nested k (heading_of None t) in own 
 abbrev pub predefined : List Tree
 predefined = []
 
--- they stand behind the classes of the files, which so keep their numbers
+-- predefined classes come after those of the files, which keep their numbers
 abbrev pub with_predefined : List Tree → List Tree → List Tree
 with_predefined own [] = own
 with_predefined own (t ∷ ts) = own ++ t ∷ ts

@@ -1,16 +1,16 @@
 // Numbers that name what a program declares.
 
-/// A class, by its number: how many stand before it in file and source order.
+/// A class, by the number of classes before it in file and source order.
 pub type ClassId = u32;
 
-/// A field or constant, by its number: how many stand before it, class by class.
+/// A field or constant, by the number of those before it, class by class.
 pub type FieldId = u32;
 
-/// A method, by its number: how many stand before it, class by class.
+/// A method, by the number of those before it, class by class.
 pub type MethodId = u32;
 
-/// A type, by its number in a list in which each stands once.
+/// A type, by its index in a list without duplicates.
 pub type TypeId = u32;
 
-/// A name, by its number in a list in which each stands once.
+/// A name, by its index in a list without duplicates.
 pub type NameId = u32;

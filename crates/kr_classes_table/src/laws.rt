@@ -1,4 +1,4 @@
-// What holds of the class table and the class rules.
+// Theorems on the class table and the class rules.
 ghost use Rattle.kr_classes_table.specs.Laws.{LeastLaw, PredefinedLaw};
 ghost use Rattle.kr_classes_table.specs.Ancestors.{AncestorsLaw, TableLaw};
 
@@ -20,7 +20,7 @@ pub fn table_law()
     ensures { TableLaw }
 {}
 
-/// Classes that no file declares stand behind those of the files, whose numbers stay.
+/// Predefined classes come after those of the files, whose numbers stay.
 #[tactic(auto, using(crate::proofs::Predefined::predefined_law))]
 pub fn predefined_law()
     ensures { PredefinedLaw }

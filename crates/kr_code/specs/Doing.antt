@@ -10,7 +10,7 @@ use Rattle.kr_mean.specs.Steps.{State, Run, say, give, stop, ◌>>=◌, ◌>>◌
 use Rattle.kr_mean.specs.Operators.{operated, operated_alone}
 use Rattle.kr_mean.specs.declared.flow.Flow.{Flow}
 use Rattle.kr_mean.specs.declared.flow.Flow.TheVariants.{Next, Broke, Continued, Left, Gave}
-use Rattle.kr_mean.specs.Meaning.{then_on, then_round, then_update, returned, completed, choose, Change, change_to, stepped}
+use Rattle.kr_mean.specs.Meaning.{then_on, then_round, then_update, returned, completed, choose, Change, change_to, stepped, compound}
 use Rattle.kr_code.specs.declared.code.Code.{Code}
 use Rattle.kr_code.specs.declared.code.MethodCode.{MethodCode}
 use Rattle.kr_code.specs.declared.code.ClassCode.{ClassCode}
@@ -30,7 +30,7 @@ use Rattle.kr_code.specs.Tables.{node_at, expression_of, statement_of, declarato
 use Rattle.kr_code.specs.Collections.{name_of, new_collection}
 use Rattle.kr_code.specs.Steps.{load_named, store_field, store_initial, store_item, cast_to, instance_of}
 
--- what the nodes of code do, as expressions and as statements, and what a loop does
+-- the meaning of nodes of code, as expressions and as statements, and of a loop
 pub record Doing : Type 0 where
   pub value : ℕ → Run Value
   pub exec : ℕ → Run Flow
@@ -195,12 +195,6 @@ changed code d (variables.Element a i t) f = do
   store_item code t o j c.new
   give c.given
 
-abbrev pub compound : BinaryOperator → Run Value → Value → Run Change
-compound o m v = do
-  w ← m
-  x ← say (operated o v w)
-  give (change_to x)
-
 -- ---- expressions, after their unit
 
 abbrev pub value_done : Code → Doing → Expression → Run Value
@@ -330,7 +324,7 @@ rounds_of d test body = do
   v ← test
   choose v (body >>= (λ flow. then_round flow (d.loop test body))) (give Next)
 
--- what nodes do is what they do by what their parts do
+-- the meaning of nodes follows from that of their parts
 pub record IsMeaning (code : Code) (d : Doing) : Type 0 where
   pub value_is : (i : ℕ) (s : State) → d.value i s ≡ (tick >> value_done code d (expression_of (node_at code i))) s
   pub exec_is : (i : ℕ) (s : State) → d.exec i s ≡ statement_done code d (statement_of (node_at code i)) s

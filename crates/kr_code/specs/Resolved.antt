@@ -38,7 +38,7 @@ use Rattle.kr_code.specs.declared.statement.Declarator.{Declarator}
 use Rattle.kr_code.specs.Collections.{call_named}
 use Rattle.kr_code.specs.Tables.{node_at, expression_of, statement_of, declarator_of, initialiser_of, listed, values_in, method_at, class_at, position_in, spot_in, method_in, is_instance}
 
--- What numbers stand for: names, fields that are stored, methods, types; and of each node the tree with its scope.
+-- The meaning of numbers: names, fields that are stored, methods, types; and of each node the tree with its scope.
 pub record Numbering : Type 0 where
   pub name : ℕ → List ℕ
   pub field : ℕ → Field
@@ -46,7 +46,7 @@ pub record Numbering : Type 0 where
   pub type : ℕ → JavaType
   pub origin : ℕ → meaning.Node
 
--- the node stands for the tree
+-- the node is that of the tree
 abbrev pub IsPart : Numbering → Scope → Tree → ℕ → Type 0
 IsPart n s t i = n.origin i ≡ record { scope = s; tree = t }
 
@@ -86,7 +86,7 @@ is_uncreatable (SetType t) = false
 is_uncreatable (ListType t) = false
 is_uncreatable t = true
 
--- what is no expression
+-- nodes that are no expressions
 abbrev pub is_no_expression : Tree → Bool
 is_no_expression (trees.Number p k) = false
 is_no_expression (trees.Truth p b) = false
@@ -112,7 +112,7 @@ is_no_expression (trees.Result p) = false
 is_no_expression (trees.Old p e) = false
 is_no_expression t = true
 
--- the constant that a name stands for, where it has a value
+-- the constant that a name means, where it has a value
 abbrev pub constant_meant : Scope → Option Field → Option Value
 constant_meant s f = constant_value s.values f
 
@@ -136,7 +136,7 @@ pub data IsExpression (program : Program) (code : Code) (n : Numbering) (s : Sco
   own_field : (p : Place) (x : List ℕ) (f : Field) (name : ℕ) → meant s x ≡ FieldName f → f.is_static ≡ false → n.name name ≡ f.name
       → IsExpression program code n s (trees.Variable p x) (expressions.OwnField name)
   no_name : (p : Place) (x : List ℕ) → meant s x ≡ NoName → IsExpression program code n s (trees.Variable p x) expressions.Stuck
-  -- behind a dot
+  -- after a dot
   class_constant : (p : Place) (e : Tree) (x : List ℕ) (c : ℕ) (v : Value) → class_before s e ≡ Some c → constant_meant s (constant_of s.table (Some c) x) ≡ Some v
       → IsExpression program code n s (trees.FieldAccess p e x) (expressions.Literal v)
   no_class_constant : (p : Place) (e : Tree) (x : List ℕ) (c : ℕ) → class_before s e ≡ Some c → constant_meant s (constant_of s.table (Some c) x) ≡ None
@@ -209,7 +209,7 @@ pub data IsExpression (program : Program) (code : Code) (n : Numbering) (s : Sco
 
 -- ---- statements
 
--- what is no statement
+-- nodes that are no statements
 abbrev pub is_no_statement : Tree → Bool
 is_no_statement (trees.Empty p) = false
 is_no_statement (trees.Block p ts) = false
@@ -319,8 +319,8 @@ IsMaybeMethod code n m k = ⊥
 
 -- ---- the whole
 
--- The tables say what the program does: which name is `length`, where objects have fields, which method they run, of which
--- types they are; what is behind a table's end is never there.
+-- The tables have the facts of the program: which name is `length`, the positions of fields in objects, which method objects
+-- run, of which types they are; past a table's end nothing is.
 pub record AreTables (program : Program) (code : Code) (n : Numbering) : Type 0 where
   pub length_name : (k : ℕ) → bytes_eq (n.name k) (codes "length") ≡ nat_eq k 0
   pub positions : (k c : ℕ) → position_in code k c ≡ field_position program c (n.name k)
@@ -332,7 +332,7 @@ pub record AreTables (program : Program) (code : Code) (n : Numbering) : Type 0 
   -- the classes that a class's line has are there
   pub lines : (c : ℕ) (k : ClassCode) → class_at code c ≡ Some k → All (λ d. IsSome (class_at code d)) (listed code k.line)
 
--- Code of a program: each node is the resolved form of what it stands for, as an expression and as a statement.
+-- Code of a program: each node is the resolved form of its tree, as an expression and as a statement.
 pub record IsCodeOf (program : Program) (code : Code) (n : Numbering) : Type 0 where
   pub tables : AreTables program code n
   pub expressions : (i : ℕ) → IsExpression program code n (n.origin i).scope (n.origin i).tree (expression_of (node_at code i))

@@ -1,5 +1,5 @@
--- Between crates: what code has at an index, and what its tables say of an object's class. What isn't there is stuck, or none.
-use Rattle.std.specs.Prelude.{ℕ, Bool, false, List, [], map, take, drop, Option, Some, None}
+-- Between crates: what code has at an index, and its tables' entries for an object's class. A missing index is stuck, or none.
+use Rattle.std.specs.Prelude.{ℕ, ◌==◌, Bool, false, List, [], map, take, drop, Option, Some, None}
 use Rattle.std.specs.Prelude.{slice_get}
 use Rattle.std.proofs.Common.{get_or}
 use Rattle.std.specs.declared.vec.Vec.{Vec}
@@ -62,7 +62,7 @@ class_at code c = slice_get code.classes.items c
 abbrev pub row_items : {A : Type 0} → Vec A Global → List A
 row_items row = row.items
 
--- what a table of rows has
+-- the items of a table of rows
 abbrev pub cell : {A : Type 0} → A → List (Vec A Global) → ℕ → ℕ → A
 cell none rows r c = get_or (get_or (map row_items rows) r []) c none
 
@@ -80,8 +80,13 @@ abbrev pub method_in : Code → ℕ → values.Class → Option ℕ
 method_in code m (Object c) = cell None code.dispatch.items m c
 method_in code m class = None
 
--- whether what is of a class is an instance of a type
+-- whether a number, if there is one, is this one
+abbrev pub is_numbered : ℕ → Option ℕ → Bool
+is_numbered t None = false
+is_numbered t (Some n) = n == t
+
+-- whether what is of a class is an instance of a type: the arrays of a class are instances of one
 abbrev pub is_instance : Code → ℕ → values.Class → Bool
 is_instance code t (Object c) = cell false code.instances.items t c
-is_instance code t (Array k) = cell false code.array_instances.items t k
+is_instance code t (Array k) = is_numbered t (get_or code.array_types.items k None)
 is_instance code t class = false

@@ -2,7 +2,7 @@
 ghost use Rattle.std.specs.Prelude.{◌≤◌, vec_len};
 
 use crate::{Declarator, Expression, Nodes, Statement};
-use kr_classes_table::{FieldId, MethodId};
+use kr_classes_table::{FieldId, MethodId, TypeId};
 use kr_value::Value;
 
 /// A field with an initial value, as one that is stored.
@@ -53,7 +53,7 @@ pub struct ClassCode {
 
 /// The nodes, the links of lists to their nodes, values, methods and classes by their numbers, and the tables: where the objects
 /// of a class have the field of a name, where they have a field that is stored, which method they run in place of one,
-/// and which classes and array types are instances of a type. The name with the number 0 is `length`.
+/// which classes are instances of a type, and the type of the arrays of each class. The name with the number 0 is `length`.
 #[derive(Drop)]
 pub struct Code {
     pub nodes: Vec<Node>,
@@ -65,7 +65,7 @@ pub struct Code {
     pub spots: Vec<Vec<Option<u32>>>,
     pub dispatch: Vec<Vec<Option<MethodId>>>,
     pub instances: Vec<Vec<bool>>,
-    pub array_instances: Vec<Vec<bool>>,
+    pub array_types: Vec<Option<TypeId>>,
     /// A link has a number.
     pub ghost small: { vec_len links ≤ 4294967295 },
 }

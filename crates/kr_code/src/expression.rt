@@ -13,10 +13,10 @@ pub struct Nodes {
     pub count: u32,
 }
 
-/// What is called with arguments.
+/// The target of a call with arguments.
 #[derive(Clone, Copy)]
 pub enum Callee {
-    /// Nothing that is known: the run is stuck behind the arguments.
+    /// Nothing that is known: the run is stuck after the arguments.
     Unknown,
     /// A static method.
     Static(MethodId),
@@ -32,7 +32,7 @@ pub enum Callee {
     NewList,
 }
 
-/// What is written.
+/// The target of a write.
 #[derive(Clone, Copy)]
 pub enum Variable {
     Unknown,

@@ -1,6 +1,7 @@
 // Looking things up in code.
 ghost use Rattle.std.specs.Prelude.{◌≡◌, ◌∷◌, [], None, false, IfOk, MatchOption};
-ghost use Rattle.kr_code.specs.Tables.{node_at, declarator_of, initialiser_of, listed, values_in, method_at, class_at, row_items, cell, position_in, spot_in, method_in, is_instance};
+ghost use Rattle.std.proofs.Common.{get_or};
+ghost use Rattle.kr_code.specs.Tables.{node_at, declarator_of, initialiser_of, listed, values_in, method_at, class_at, row_items, cell, position_in, spot_in, method_in, is_instance, is_numbered};
 
 use crate::{ClassCode, Code, Declarator, Expression, Initialiser, MethodCode, Node, Nodes};
 use kr_base::NoMemory;
@@ -26,6 +27,18 @@ fn mark_in(rows: &Vec<Vec<bool>>, row: u32, column: u32) -> bool
     match rows.get(row as usize) {
         Some(marks) => match marks.get(column as usize) {
             Some(mark) => *mark,
+            None => false,
+        },
+        None => false,
+    }
+}
+
+fn is_number_at(numbers: &Vec<Option<u32>>, at: u32, number: u32) -> bool
+    ensures { result ≡ is_numbered number (get_or numbers.now.items at None) }
+{
+    match numbers.get(at as usize) {
+        Some(found) => match *found {
+            Some(own) => own == number,
             None => false,
         },
         None => false,
@@ -126,7 +139,7 @@ impl Code {
     {
         match class {
             Class::Object(number) => mark_in(&self.instances, type_number, number),
-            Class::Array(number) => mark_in(&self.array_instances, type_number, number),
+            Class::Array(number) => is_number_at(&self.array_types, number, type_number),
             _ => false,
         }
     }

@@ -5,7 +5,7 @@ use Rattle.std.specs.List.{AllZip, range_with_len}
 use Rattle.kr_value.specs.declared.value.Value.{Value}
 use Rattle.kr_classes_table.specs.Table as tables
 use Rattle.kr_classes_table.specs.Table.{Table, fields_of, line_of, own_fields}
-use Rattle.kr_classes_types.specs.Listed.{IsGrown}
+use Rattle.kr_classes_names.specs.ListedTypes.{IsGrown}
 use Rattle.kr_types.specs.declared.program.Program.{Program}
 use Rattle.kr_mean.specs.Program.{constructor_of, declared_fields, default_of, program_with}
 use Rattle.kr_code_members.specs.Nodes.{run_program, table}
@@ -18,8 +18,8 @@ use Rattle.kr_code.specs.declared.code.Constructor as made
 use Rattle.kr_code.specs.declared.code.Initialiser.{Initialiser}
 use Rattle.kr_code.specs.declared.expression.Nodes.{Nodes}
 use Rattle.kr_code.specs.Resolved.{AreInitialisers, initialised_fields}
-use Rattle.kr_classes_roster.specs.Rosters.{all_fields, fields_of_class, first_of}
-use Rattle.kr_classes_roster.proofs.Sections.{one_more}
+use Rattle.kr_classes_members.specs.Rosters.{all_fields, fields_of_class, first_of}
+use Rattle.kr_classes_members.proofs.Sections.{one_more}
 use Rattle.kr_code_lowering.specs.Origins.{Final, numbering_of}
 use Rattle.kr_code_lowering.specs.Sites.{Becomes}
 use Rattle.kr_code_lowering.proofs.Growth.{grown_none, grown_on}

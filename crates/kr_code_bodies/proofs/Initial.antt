@@ -11,14 +11,14 @@ use Rattle.kr_ast.specs.declared.node.Node as ast
 use Rattle.kr_ast.specs.declared.node.Node.TheVariants as syntax
 use Rattle.kr_base.specs.declared.place.Place.{Place}
 use Rattle.kr_classes_table.specs.Table as tables
-use Rattle.kr_classes_table.specs.Table.{Table, own_fields}
+use Rattle.kr_classes_table.specs.Table.{Table, own_fields, is_instance}
 use Rattle.kr_types_meaning.specs.Running.{running}
-use Rattle.kr_classes_types.specs.Listed.{IsGrown}
+use Rattle.kr_classes_names.specs.ListedTypes.{IsGrown}
 use Rattle.kr_types.specs.declared.program.Program.{Program}
 use Rattle.kr_types.specs.Programs.{IsProgram}
 use Rattle.kr_types_meaning.specs.Scopes.{Scope, scope_of, static_if}
 use Rattle.kr_classes_table.specs.Constants.{values_of}
-use Rattle.kr_mean.specs.Program.{class_scope, instance_only}
+use Rattle.kr_mean.specs.Program.{class_scope}
 use Rattle.kr_code_members.specs.Nodes.{run_program, table, IsFieldNode}
 use Rattle.kr_code_members.specs.declared.nodes.FieldNode.{FieldNode}
 use Rattle.kr_code.specs.declared.code.Code.{Code}
@@ -27,24 +27,24 @@ use Rattle.kr_code.specs.declared.code.Node.TheVariants as nodes
 use Rattle.kr_code.specs.declared.code.Initialiser.{Initialiser}
 use Rattle.kr_code.specs.Tables.{initialiser_of, node_at}
 use Rattle.kr_code.specs.Resolved.{AreInitialisers, IsInitialiser, IsPart, has_initial, initial_or_none}
-use Rattle.kr_classes_roster.specs.Rosters.{all_fields, field_numbered, fields_of_class, first_of, no_field}
-use Rattle.kr_classes_roster.proofs.Sections.{section}
+use Rattle.kr_classes_members.specs.Rosters.{all_fields, field_numbered, fields_of_class, first_of, no_field}
+use Rattle.kr_classes_members.proofs.Sections.{section}
 use Rattle.kr_code_lowering.specs.declared.site.Site.{Site}
 use Rattle.kr_code_lowering.specs.Origins.{Final, numbering_of}
 use Rattle.kr_code_lowering.specs.Sites.{IsHere, arena_at, scope_at, tree_at}
 use Rattle.kr_code_lowering.proofs.Growth.{got_grown}
 use Rattle.kr_code_lowering.proofs.Parts.{part_number}
 use Rattle.kr_code_bodies.specs.Made.{IsInitial}
-use Rattle.kr_code_bodies.proofs.There.{got_right}
 use Rattle.kr_code_bodies.proofs.Declared.{IsSiteOf, site_scope, site_tree}
+use Rattle.kr_base.proofs.ListLemmas.{slice_get-append_add}
 
 -- ---- one field
 
 -- a static field's initial value is none of an object's
-pub none_static : (p : Program) (f : tables.Field) → f.is_static ≡ true → AllZip (IsInitial p) (flat_map has_initial (instance_only f)) []
+pub none_static : (p : Program) (f : tables.Field) → f.is_static ≡ true → AllZip (IsInitial p) (flat_map has_initial (is_instance f)) []
 none_static p f e = subst (λ (b : Bool). AllZip (IsInitial p) (flat_map has_initial (if b then [] else f ∷ [])) []) (sym e) tt
 
-instance_is : (f : tables.Field) → f.is_static ≡ false → flat_map has_initial (instance_only f) ≡ has_initial f
+instance_is : (f : tables.Field) → f.is_static ≡ false → flat_map has_initial (is_instance f) ≡ has_initial f
 instance_is f e = ap (λ (b : Bool). flat_map has_initial (if b then [] else f ∷ [])) e ∙ append-nil (has_initial f)
 
 tree_there : (f : tables.Field) (text : List ℕ) (look : ℕ → Tree) (pl : Place) (n : ast.Node) → (n ≡ syntax.Nil → ⊥) → initial_or_none f (tree_of text look pl n) ≡ f ∷ []
@@ -57,15 +57,15 @@ instance_scope b s h e = ap (λ (x : Bool). static_if x s) (e ∙ sym h)
 
 module _ (p : Program) (program : IsProgram p) (n : FieldNode) (s : Site) (is : IsSiteOf p s n.file n.initial) (e : Entry) (at : IsHere p s e) (f : tables.Field) (field : IsFieldNode p f n) where
   -- it is absent
-  pub none_written : f.is_static ≡ false → e.node ≡ syntax.Nil → AllZip (IsInitial p) (flat_map has_initial (instance_only f)) []
+  pub none_written : f.is_static ≡ false → e.node ≡ syntax.Nil → AllZip (IsInitial p) (flat_map has_initial (is_instance f)) []
   none_written st it =
       let t : f.initial ≡ trees.Nil = sym field.initial ∙ site_tree p s n.file n.initial is ∙ at.tree ∙ ap (tree_of (arena_at p s).text (tree_in (arena_at p s)) e.place) it in
       subst (λ (fs : List tables.Field). AllZip (IsInitial p) fs []) (sym (instance_is f st ∙ ap (initial_or_none f) t)) tt
 
-  pub written : f.is_static ≡ false → (e.node ≡ syntax.Nil → ⊥) → (number : ℕ) → field_numbered (table p) number ≡ f → AllZip (IsInitial p) (flat_map has_initial (instance_only f)) (record { field = number; value = s.first + s.node } ∷ [])
+  pub written : f.is_static ≡ false → (e.node ≡ syntax.Nil → ⊥) → (number : ℕ) → field_numbered (table p) number ≡ f → AllZip (IsInitial p) (flat_map has_initial (is_instance f)) (record { field = number; value = s.first + s.node } ∷ [])
   written st it number numbered =
       let t : f.initial ≡ tree_at p s = sym field.initial ∙ site_tree p s n.file n.initial is in
-      let one : flat_map has_initial (instance_only f) ≡ f ∷ [] = instance_is f st ∙ ap (initial_or_none f) (t ∙ at.tree) ∙ tree_there f (arena_at p s).text (tree_in (arena_at p s)) e.place e.node it in
+      let one : flat_map has_initial (is_instance f) ≡ f ∷ [] = instance_is f st ∙ ap (initial_or_none f) (t ∙ at.tree) ∙ tree_there f (arena_at p s).text (tree_in (arena_at p s)) e.place e.node it in
       let made : Initialiser = record { field = number; value = s.first + s.node } in
       let c : Scope = class_scope (run_program p []) f.class in
       let runs : running (scope_at p s) ≡ c = ap running (site_scope p s n.file n.initial is) ∙ field.scope ∙ instance_scope f.is_static (scope_of (table p) (values_of (table p)) f.class) refl st in
@@ -84,11 +84,11 @@ own_number t c j d l =
 
 -- ---- nodes
 
--- the nodes behind are those of the initial values
+-- the nodes after these are those of the initial values
 pub nodes_behind : (old new : List Node) (xs : List Initialiser) (code : Code) → new ≡ old ++ map nodes.Initialiser xs → IsGrown new code.nodes.items → (k : ℕ) (x : Initialiser) → slice_get xs k ≡ Some x → initialiser_of (node_at code (length old + k)) ≡ Some x
 nodes_behind old new xs code e g k x i =
     let made : slice_get new (length old + k) ≡ Some (nodes.Initialiser x) =
-    ap (λ (ns : List Node). slice_get ns (length old + k)) e ∙ got_right old (map nodes.Initialiser xs) k ∙ slice_get-map nodes.Initialiser xs k ∙ ap (option_map nodes.Initialiser) i in
+    ap (λ (ns : List Node). slice_get ns (length old + k)) e ∙ slice_get-append_add old (map nodes.Initialiser xs) k ∙ slice_get-map nodes.Initialiser xs k ∙ ap (option_map nodes.Initialiser) i in
     ap initialiser_of (get_or_from_slice_get code.nodes.items (length old + k) (nodes.Initialiser x) _ (got_grown new code.nodes.items (length old + k) (nodes.Initialiser x) g made))
 
 pub initialisers_are : (p : Program) (arrays : List ℕ) (code : Code) (final : Final) (fs : List tables.Field) (xs : List Initialiser) (base : ℕ) → AllZip (IsInitial p) fs xs → ((k : ℕ) (x : Initialiser) → slice_get xs k ≡ Some x → initialiser_of (node_at code (base + k)) ≡ Some x)

@@ -1,4 +1,4 @@
--- Names by their numbers: `length` is the first alone, and the name that stands for the others is no field's.
+-- Names by their numbers: `length` is the first alone, and the name used for the others is no field's.
 use Rattle.std.proofs.Common.{◌≡◌, All, subst, refl, sym, ap, ◌∙◌, ℕ, zero, suc, ◌+◌, ◌<◌, ◌≤◌, Bool, true, false, nat_eq, List, [], ◌∷◌, length, get_or, arith, length-append, ◌⊎◌, inl, inr, bytes_eq, if◌then◌else◌}
 use Rattle.std.specs.Prelude.{Some, None, codes, flat_map, reverse, slice_get}
 use Rattle.std.proofs.lemmas.List.{get_or_past}
@@ -8,11 +8,11 @@ use Rattle.std.proofs.lemmas.Slice.Eq.{bytes_eq-Decides}
 use Rattle.kr_ast.specs.Arena.{Arena}
 use Rattle.kr_classes_table.specs.Table.{Table, Field, fields_of, is_instance, line_of, own_fields}
 use Rattle.kr_classes_members.specs.Shown.{table_in}
-use Rattle.kr_classes_types.specs.Listed.{AreApart}
+use Rattle.kr_classes_names.specs.ListedTypes.{AreApart}
 use Rattle.kr_classes_names.proofs.ClassNumbers.{is_other}
 use Rattle.kr_mean.specs.Program.{position_from}
-use Rattle.kr_classes_roster.specs.Rosters.{all_fields, fields_of_class, first_of, no_field, no_name}
-use Rattle.kr_classes_roster.proofs.Sections.{section}
+use Rattle.kr_classes_members.specs.Rosters.{all_fields, fields_of_class, first_of, no_field, no_name}
+use Rattle.kr_classes_members.proofs.Sections.{section}
 use Rattle.kr_code_bodies.specs.Tabled.{IsPosition, name_numbered}
 use Rattle.kr_code_bodies.proofs.Initial.{own_number}
 

@@ -1,4 +1,4 @@
--- What stands behind the last class, and what a number without field or method has.
+-- Numbers past the last class, and numbers without field or method.
 use Rattle.std.proofs.Common.{◌≡◌, refl, sym, ap, ℕ, ◌<◌, ◌≤◌, Bool, true, false, List, [], length, arith, ◌⊎◌, inl, inr, if◌then◌else◌}
 use Rattle.std.specs.Prelude.{Option, None}
 use Rattle.std.proofs.lemmas.List.Elements.{All-nil}
@@ -6,7 +6,7 @@ use Rattle.kr_ast.specs.Arena.{Arena}
 use Rattle.kr_classes_table.specs.Table.{Field, Method, is_below, method_named}
 use Rattle.kr_classes_members.specs.Shown.{IsField, table_in}
 use Rattle.kr_mean.specs.Program.{field_position, position_from}
-use Rattle.kr_classes_roster.specs.Rosters.{no_field, no_method}
+use Rattle.kr_classes_members.specs.Rosters.{no_field, no_method}
 use Rattle.kr_code_bodies.specs.Tabled.{AreFieldsOf, IsOverrider, IsPosition, IsSpot, program_in}
 use Rattle.kr_code_bodies.proofs.Lines.{fields_past, methods_past, never_below}
 
@@ -30,7 +30,7 @@ module _ (files : List Arena) (c : ℕ) where
   pub overrider_past : length (table_in files).classes ≤ c → (m : Method) → IsOverrider files m c None
   overrider_past l m = record { within = tt; shown = sym (no_choice (is_below (table_in files) c m.class) (method_named (table_in files) c m.name) (methods_past (table_in files) c l m.name)) }
 
-  -- what is of no class is nowhere
+  -- a member of no class is nowhere
   pub no_spot : IsSpot files (no_field (table_in files)) c None
   no_spot = elim (let d : (c < length (table_in files).classes) ⊎ (length (table_in files).classes ≤ c) = grind arith in d) [
     | inl h ↦ sym (not_chosen (is_below (table_in files) c (length (table_in files).classes)) (field_position (program_in files []) c []) (never_below files c (length (table_in files).classes) h (omega arith)))

@@ -8,8 +8,8 @@ use Rattle.kr_classes_members.specs.declared.fields.Field.{Field}
 use Rattle.kr_classes_members.specs.declared.methods.Method.{Method}
 use Rattle.kr_classes_members.specs.Shown.{field_shown, method_shown, table_in}
 use Rattle.kr_code.specs.Tables.{row_items}
-use Rattle.kr_classes_roster.specs.declared.roster.Roster.{Roster}
-use Rattle.kr_classes_roster.specs.Rosters.{IsRoster, all_fields, all_methods, field_numbered, method_numbered, no_field, no_method, no_name}
+use Rattle.kr_classes_members.specs.declared.roster.Roster.{Roster}
+use Rattle.kr_classes_members.specs.Rosters.{IsRoster, all_fields, all_methods, field_numbered, method_numbered, no_field, no_method, no_name}
 use Rattle.kr_code_bodies.specs.Tabled.{name_numbered}
 
 module _ (files : List Arena) (r : Roster) (is : IsRoster files r) (k : ℕ) where

@@ -27,7 +27,7 @@ column_more {A = A} none P n row new x front e h = record {
         let at : c ≡ length row = s ∙ sym front.count in
         subst (λ (k : ℕ). P k (get_or (row ++ x ∷ []) k none)) (sym at) (subst (λ (y : A). P (length row) y) (sym (get_or-append_seam row x [] none)) (subst (λ (k : ℕ). P k x) (sym front.count) h))
 
--- nothing is asked of the columns behind but of what isn't there
+-- later columns matter only for what isn't there
 pub whole_row : {A : Type 0} (none : A) (P : ℕ → A → Type 0) (n : ℕ) (row : List A) → IsFront none P n row → ((c : ℕ) → n ≤ c → P c none) → IsRow none P row
 whole_row {A = A} none P n row front behind c = elim (let d : (c < n) ⊎ (n ≤ c) = grind arith in d) [
   | inl l ↦ front.each c l

@@ -1,10 +1,9 @@
--- What stands in a list that grows.
+-- Items of a list that grows.
 use Rattle.std.proofs.Common.{◌≡◌, sym, ap, ◌∙◌, ℕ, zero, suc, ◌+◌, ◌-◌, ◌<◌, List, [], ◌∷◌, ◌++◌, length, length-append, map, take, drop, get_or, append_assoc, add-one, arith}
-use Rattle.std.specs.Prelude.{slice_get}
 use Rattle.std.specs.List.{range_with_len}
 use Rattle.std.proofs.Math.Seq.{drop-append_seam}
 use Rattle.std.proofs.lemmas.List.{map-append, take_more}
-use Rattle.kr_classes_types.specs.Listed.{IsGrown}
+use Rattle.kr_classes_names.specs.ListedTypes.{IsGrown}
 use Rattle.kr_types.specs.declared.program.Program.{Program}
 use Rattle.kr_code.specs.declared.code.Code.{Code}
 use Rattle.kr_code.specs.declared.code.Node.{Node}
@@ -15,7 +14,7 @@ use Rattle.kr_code_lowering.specs.Sites.{Becomes}
 use Rattle.kr_code_lowering.proofs.Growth.{grown_on, take_grown}
 use Rattle.kr_code_bodies.specs.Made.{AddsInitialisers, AreThere}
 
--- the items behind those before them
+-- the items after those before them
 pub there_behind : {A : Type 0} (old new items : List A) (ns : Nodes) → new ≡ old ++ items → ns.first ≡ length old → ns.count ≡ length new - ns.first → AreThere new ns items
 there_behind old new items ns e f n more g =
     let k = ns.first in
@@ -41,10 +40,6 @@ adds_on old mid new a b = record {
 
 pub adds_grown : (old new : List Node) → AddsInitialisers old new → IsGrown old new
 adds_grown old new a = record { more = map nodes.Initialiser a.added; items = a.items }
-
-pub got_right : {A : Type 0} (xs ys : List A) (i : ℕ) → slice_get (xs ++ ys) (length xs + i) ≡ slice_get ys i
-got_right [] ys i = let e : 0 + i ≡ i = omega arith in ap (slice_get ys) e
-got_right (x ∷ xs) ys i = let e : suc (length xs) + i ≡ suc (length xs + i) = omega arith in ap (slice_get (x ∷ (xs ++ ys))) e ∙ got_right xs ys i
 
 range_more : (a n : ℕ) → range_with_len a (suc n) ≡ range_with_len a n ++ (a + n) ∷ []
 range_more a zero = ap (λ (m : ℕ). m ∷ []) (omega arith)

@@ -2,7 +2,7 @@
 use Rattle.std.specs.Prelude.{◌≡◌, ℕ, List, [], ◌++◌, take, drop, map, All, IsSome, Option, Some}
 use Rattle.kr_value.specs.declared.value.Value.{Value}
 use Rattle.kr_classes_table.specs.Table as tables
-use Rattle.kr_classes_types.specs.Listed.{IsGrown}
+use Rattle.kr_classes_names.specs.ListedTypes.{IsGrown}
 use Rattle.kr_types.specs.declared.program.Program.{Program}
 use Rattle.kr_code_members.specs.Nodes.{run_program, table}
 use Rattle.kr_mean.specs.Program as meaning
@@ -17,13 +17,13 @@ use Rattle.kr_code.specs.declared.code.Initialiser.{Initialiser}
 use Rattle.kr_code.specs.declared.expression.Nodes.{Nodes}
 use Rattle.kr_code.specs.Tables.{class_at, listed, method_at}
 use Rattle.kr_code.specs.Resolved.{Numbering, IsClassCode, IsMaybeConstructor, IsMethodCode, IsPart}
-use Rattle.kr_classes_roster.specs.Rosters.{field_numbered, method_numbered}
+use Rattle.kr_classes_members.specs.Rosters.{field_numbered, method_numbered}
 use Rattle.kr_code_lowering.specs.Origins.{Final, numbering_of}
 use Rattle.kr_code_lowering.specs.Sites.{Becomes}
 
 -- ---- while it is made
 
--- these stand there, also when there are more
+-- these are there, also when there are more
 abbrev pub AreThere : {A : Type 0} → List A → Nodes → List A → Type 0
 AreThere xs ns items = (more : List _) → IsGrown xs more → take ns.count (drop ns.first more) ≡ items
 
@@ -55,7 +55,7 @@ pub record IsClassMade (p : Program) (arrays : List ℕ) (known : List (List ℕ
 
 -- ---- in the end
 
--- the nodes behind those before them are initial values
+-- the nodes after those before them are initial values
 pub record AddsInitialisers (old new : List Node) : Type 0 where
   pub added : List Initialiser
   pub items : new ≡ old ++ map nodes.Initialiser added

@@ -1,4 +1,4 @@
--- Between crates: tables with their rows: what stands in each column, also where a row or the table has ended.
+-- Between crates: tables with their rows: the entry in each column, also past the end of a row or of the table.
 use Rattle.std.specs.Prelude.{ℕ, List}
 use Rattle.std.proofs.Common.{get_or}
 use Rattle.std.specs.declared.vec.Vec.{Vec}

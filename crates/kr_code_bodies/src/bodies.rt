@@ -1,10 +1,10 @@
 // The code of methods and classes.
 ghost use Rattle.std.specs.Prelude.{◌≡◌, ◌<◌, ◌^◌, ℕ, List, Some, IfOk, length, slice_get};
-ghost use Rattle.kr_classes_types.specs.Listed.{IsGrown};
+ghost use Rattle.kr_classes_names.specs.ListedTypes.{IsGrown};
 ghost use Rattle.kr_types.specs.Programs.{IsProgram};
 ghost use Rattle.kr_code_members.specs.Nodes.{AreMemberNodes, IsClassNodes, run_program, table};
 ghost use Rattle.kr_code_members.specs.declared.nodes.ClassNodes.{ClassNodes as Found};
-ghost use Rattle.kr_classes_roster.specs.Rosters.{IsRoster, all_fields, all_methods};
+ghost use Rattle.kr_classes_members.specs.Rosters.{IsRoster, all_fields, all_methods};
 ghost use Rattle.kr_code.specs.declared.code.Code.{Code};
 ghost use Rattle.kr_code.specs.declared.code.ClassCode.{ClassCode as Made};
 ghost use Rattle.kr_code_lowering.specs.Origins.{Final, numbering_of};
@@ -14,7 +14,7 @@ ghost use Rattle.kr_code_bodies.specs.Made.{AddsInitialisers, AreBodies, IsClass
 use crate::classes::class_code;
 use crate::methods::method_codes;
 use kr_base::NoMemory;
-use kr_classes_roster::Roster;
+use kr_classes_members::Roster;
 use kr_code::{ClassCode, MethodCode, Node};
 use kr_code_lowering::Links;
 use kr_code_members::{ClassNodes, MemberNodes};
@@ -67,8 +67,8 @@ fn class_codes(
     Ok(Classes { classes, values })
 }
 
-/// The code of the methods and classes of a program, with the initial values of fields as nodes, and links, behind those
-/// before them. The error says that memory is short, or that there are too many of something for its numbers.
+/// The code of the methods and classes of a program, with the initial values of fields as nodes, and links, after those before
+/// them. Err: out of memory, or too many of something for its numbers.
 pub fn bodies_of(
     alloc: Global,
     program: &Program,

@@ -1,9 +1,9 @@
 // The code of classes.
 ghost use Rattle.std.specs.Prelude.{◌≡◌, ◌<◌, ◌≤◌, ◌^◌, ℕ, List, IfOk, length};
-ghost use Rattle.kr_classes_types.specs.Listed.{IsGrown};
+ghost use Rattle.kr_classes_names.specs.ListedTypes.{IsGrown};
 ghost use Rattle.kr_types.specs.Programs.{IsProgram};
 ghost use Rattle.kr_code_members.specs.Nodes.{IsClassNodes, table};
-ghost use Rattle.kr_classes_roster.specs.Rosters.{all_fields, fields_of_class, first_of};
+ghost use Rattle.kr_classes_members.specs.Rosters.{all_fields, fields_of_class, first_of};
 ghost use Rattle.kr_code_bodies.specs.Made.{AddsInitialisers, IsClassMade};
 
 use crate::ancestor_lines::add_line;
@@ -19,8 +19,8 @@ use kr_types::Program;
 use kr_value::Value;
 use std::alloc::Global;
 
-/// The code of a class; its own fields have numbers from the given one on. Its values, links and initial values stand
-/// behind those before them.
+/// The code of a class; its own fields have numbers from the given one on. Its values, links and initial values come after
+/// those before them.
 pub(crate) fn class_code(
     alloc: Global,
     program: &Program,

@@ -2,14 +2,13 @@
 ghost use Rattle.std.specs.Prelude.{IfOk, None};
 ghost use Rattle.kr_classes_members.specs.Shown.{IsMethod, method_shown, table_in};
 ghost use Rattle.kr_classes_members.specs.Kept.{AreMembers};
-ghost use Rattle.kr_classes_roster.specs.Rosters.{IsRoster, method_numbered};
+ghost use Rattle.kr_classes_members.specs.Rosters.{IsRoster, method_numbered};
 ghost use Rattle.kr_code_bodies.specs.Rows.{AreRows, IsRow};
 ghost use Rattle.kr_code_bodies.specs.Tabled.{IsOverrider};
 
 use kr_ast::{Tree, tree_of};
 use kr_base::NoMemory;
-use kr_classes_members::{Members, Method};
-use kr_classes_roster::Roster;
+use kr_classes_members::{Members, Method, Roster};
 use kr_classes_table::{ClassId, MethodId};
 use std::alloc::Global;
 

@@ -18,7 +18,7 @@ pub(crate) struct ObjectFields {
     pub(crate) classes: Vec<Vec<Field>>,
 }
 
-/// Where the first field of a name stands.
+/// The position of the first field of a name.
 fn position_among(trees: &[Tree], fields: &[Field], name: &[u8]) -> Option<u32>
     requires stand { All (IsField trees.now) fields.now }
     requires few { length fields.now < 2 ^ 32 }
@@ -33,7 +33,7 @@ fn position_among(trees: &[Tree], fields: &[Field], name: &[u8]) -> Option<u32>
 }
 
 impl ObjectFields {
-    /// The error says that memory is short, or that there are 2^32 of something.
+    /// Err: out of memory, or 2^32 of something.
     pub(crate) fn read(alloc: Global, members: &Members) -> Result<ObjectFields, NoMemory>
         ensures { (files : List Arena) → AreMembers files members.now → IfOk result (AreObjectFields files) }
     {

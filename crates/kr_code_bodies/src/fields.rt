@@ -2,14 +2,14 @@
 ghost use Rattle.std.specs.Prelude.{[], ◌≡◌, ◌<◌, ◌^◌, ◌++◌, IfOk, length, map, flat_map, option_to_list};
 ghost use Rattle.std.specs.List.{AllZip, range_with_len};
 ghost use Rattle.kr_classes_table.specs.Table as tables;
-ghost use Rattle.kr_classes_table.specs.Table.{own_fields};
-ghost use Rattle.kr_classes_types.specs.Listed.{IsGrown};
+ghost use Rattle.kr_classes_table.specs.Table.{own_fields, is_instance};
+ghost use Rattle.kr_classes_names.specs.ListedTypes.{IsGrown};
 ghost use Rattle.kr_types.specs.Programs.{IsProgram};
-ghost use Rattle.kr_mean.specs.Program.{declared_fields, instance_only};
+ghost use Rattle.kr_mean.specs.Program.{declared_fields};
 ghost use Rattle.kr_code_members.specs.Nodes.{IsFieldNode, IsThere, run_program, table};
 ghost use Rattle.kr_code.specs.declared.code.Node.TheVariants as made;
 ghost use Rattle.kr_code.specs.Resolved.{has_initial, initialised_fields};
-ghost use Rattle.kr_classes_roster.specs.Rosters.{all_fields, field_numbered, fields_of_class, first_of};
+ghost use Rattle.kr_classes_members.specs.Rosters.{all_fields, field_numbered, fields_of_class, first_of};
 ghost use Rattle.kr_code_bodies.specs.Made.{AreThere, IsInitial};
 
 use kr_ast::Node;
@@ -25,7 +25,7 @@ use std::alloc::Global;
 fn initialiser_at(program: &Program, node: FieldNode, field: FieldId) -> Option<Initialiser>
     requires program { IsProgram program.now }
     requires there { IsThere program.now node.file node.initial }
-    ensures { (f : tables.Field) → IsFieldNode program.now f node → field_numbered (table program.now) field ≡ f → AllZip (IsInitial program.now) (flat_map has_initial (instance_only f)) (option_to_list result) }
+    ensures { (f : tables.Field) → IsFieldNode program.now f node → field_numbered (table program.now) field ≡ f → AllZip (IsInitial program.now) (flat_map has_initial (is_instance f)) (option_to_list result) }
 {
     if node.is_static {
         return None;
@@ -64,7 +64,7 @@ pub(crate) fn class_initialisers(
     Ok(found)
 }
 
-/// Adds initial values as nodes, and links to them. The error says that memory is short, or that there are 2^32 - 1 nodes.
+/// Adds initial values as nodes, and links to them. Err: out of memory, or 2^32 - 1 nodes.
 pub(crate) fn add_initialisers(
     initialisers: &[Initialiser],
     nodes: &mut Vec<CodeNode>,

@@ -1,18 +1,19 @@
-// Which classes and array types are instances of a type.
-ghost use Rattle.std.specs.Prelude.{◌≡◌, ◌<◌, List, IfOk, All, false, map};
+// Which classes and arrays are instances of a type.
+ghost use Rattle.std.specs.Prelude.{◌≡◌, ◌<◌, ℕ, List, IfOk, All, None, false, map};
 ghost use Rattle.kr_ast.specs.Arena.{Arena};
-ghost use Rattle.kr_classes_table.specs.Types.{JavaType, is_same};
+ghost use Rattle.kr_classes_table.specs.Types.{JavaType};
 ghost use Rattle.kr_classes_table.specs.Table.{is_below};
 ghost use Rattle.kr_classes_members.specs.Shown.{table_in};
 ghost use Rattle.kr_classes_members.specs.Kept.{AreMembers};
-ghost use Rattle.kr_classes_types.specs.Types.{count, type_at};
+ghost use Rattle.kr_classes_names.specs.Types.{count, type_at};
+ghost use Rattle.kr_code.specs.Tables.{is_numbered};
 ghost use Rattle.kr_code_bodies.specs.Rows.{AreRows, IsRow};
-ghost use Rattle.kr_code_bodies.specs.Tabled.{IsArrayInstance, IsInstance};
+ghost use Rattle.kr_code_bodies.specs.Tabled.{IsArrayType, IsInstance, are_of};
 
 use kr_base::NoMemory;
 use kr_classes_members::Members;
+use kr_classes_names::{TypeForm, Types};
 use kr_classes_table::{ClassId, TypeId};
-use kr_classes_types::{TypeForm, Types};
 use std::alloc::Global;
 
 /// Of each class whether it is the given one or below it. The given one has a column, though no class may have the number.
@@ -66,57 +67,30 @@ pub(crate) fn instances(
     Ok(rows)
 }
 
-/// Of each array type whether it is the given type.
-fn same_arrays(
-    alloc: Global,
-    types: &Types,
-    arrays: &[TypeId],
-    number: TypeId,
-) -> Result<Vec<bool>, NoMemory>
-    requires arrays { All (λ t. t < count types.now) arrays.now }
-    requires number { number < count types.now }
-    ensures { IfOk result (λ row. row.items ≡ map (λ t. is_same (type_at types.now t) (type_at types.now number)) arrays.now) }
+/// The number of an array type; there are no arrays of any other.
+fn array_type(types: &Types, number: TypeId) -> Option<TypeId>
+    requires { number < count types.now }
+    ensures { (t : ℕ) → is_numbered t result ≡ are_of (type_at types.now number) (type_at types.now t) }
 {
-    let mut row = Vec::new(alloc);
-    for array in arrays {
-        row.push(types.is_same(*array, number))?;
-    }
-    Ok(row)
-}
-
-/// Of each array type whether its arrays are of a type.
-fn array_row(
-    alloc: Global,
-    types: &Types,
-    arrays: &[TypeId],
-    number: TypeId,
-) -> Result<Vec<bool>, NoMemory>
-    requires arrays { All (λ t. t < count types.now) arrays.now }
-    requires number { number < count types.now }
-    ensures { (files : List Arena) → IfOk result (λ row. IsRow false (IsArrayInstance files (map (type_at types.now) arrays.now) (type_at types.now number)) row.items) }
-{
+    types.distinct_law();
     match types.form(number) {
-        TypeForm::Array(_) => same_arrays(alloc, types, arrays, number),
-        _ => Ok(Vec::new(alloc)),
+        TypeForm::Array(_) => Some(number),
+        _ => None,
     }
 }
 
-/// A row for each type.
-pub(crate) fn array_instances(
+/// Of each class of arrays the type that they are instances of.
+pub(crate) fn array_types(
     alloc: Global,
     types: &Types,
     arrays: &[TypeId],
-) -> Result<Vec<Vec<bool>>, NoMemory>
+) -> Result<Vec<Option<TypeId>>, NoMemory>
     requires { All (λ t. t < count types.now) arrays.now }
-    ensures { (files : List Arena) → IfOk result (λ rows. AreRows false (λ k. IsArrayInstance files (map (type_at types.now) arrays.now) (type_at types.now k)) rows.items) }
+    ensures { (files : List Arena) → IfOk result (λ found. IsRow None (IsArrayType files types.now (map (type_at types.now) arrays.now)) found.items) }
 {
-    let count = types.len();
-    if count > 0xffff_ffff {
-        return Err(NoMemory::at_limit(count as u64));
+    let mut found = Vec::with_capacity(alloc, arrays.len())?;
+    for array in arrays {
+        found.push(array_type(types, *array))?;
     }
-    let mut rows = Vec::new(alloc);
-    for number in 0..count as u32 {
-        rows.push(array_row(alloc, types, arrays, number)?)?;
-    }
-    Ok(rows)
+    Ok(found)
 }

@@ -1,11 +1,11 @@
 // The code of methods.
 ghost use Rattle.std.specs.Prelude.{◌≡◌, ℕ, List, IfOk, Some, length, slice_get};
 ghost use Rattle.kr_classes_table.specs.Table as tables;
-ghost use Rattle.kr_classes_types.specs.Listed.{IsGrown};
+ghost use Rattle.kr_classes_names.specs.ListedTypes.{IsGrown};
 ghost use Rattle.kr_types.specs.Programs.{IsProgram};
 ghost use Rattle.kr_code_members.specs.Nodes.{IsMethodNode, IsThere, table};
 ghost use Rattle.kr_code.specs.declared.code.MethodCode.{MethodCode as Made};
-ghost use Rattle.kr_classes_roster.specs.Rosters.{method_numbered};
+ghost use Rattle.kr_classes_members.specs.Rosters.{method_numbered};
 ghost use Rattle.kr_code_bodies.specs.Made.{IsMethodMade, IsMethodNumbered};
 
 use kr_ast::Node;

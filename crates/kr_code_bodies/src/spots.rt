@@ -2,15 +2,14 @@
 ghost use Rattle.std.specs.Prelude.{IfOk, None};
 ghost use Rattle.kr_classes_members.specs.Shown.{IsField, field_shown, table_in};
 ghost use Rattle.kr_classes_members.specs.Kept.{AreMembers};
-ghost use Rattle.kr_classes_roster.specs.Rosters.{IsRoster, field_numbered};
+ghost use Rattle.kr_classes_members.specs.Rosters.{IsRoster, field_numbered};
 ghost use Rattle.kr_code_bodies.specs.Rows.{AreRows, IsRow};
 ghost use Rattle.kr_code_bodies.specs.Tabled.{AreObjectFields, IsSpot};
 
 use crate::field_lists::ObjectFields;
 use kr_ast::{Tree, tree_of};
 use kr_base::NoMemory;
-use kr_classes_members::{Field, Members};
-use kr_classes_roster::Roster;
+use kr_classes_members::{Field, Members, Roster};
 use kr_classes_table::ClassId;
 use std::alloc::Global;
 

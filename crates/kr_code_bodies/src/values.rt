@@ -1,8 +1,8 @@
-// What the fields of objects begin with.
+// The initial values of the fields of objects.
 ghost use Rattle.std.specs.Prelude.{◌≡◌, ◌≤◌, IfOk, length, map, All};
 ghost use Rattle.kr_classes_table.specs.Table.{fields_of};
 ghost use Rattle.kr_classes_members.specs.Shown.{IsField, field_shown};
-ghost use Rattle.kr_classes_types.specs.Listed.{IsGrown};
+ghost use Rattle.kr_classes_names.specs.ListedTypes.{IsGrown};
 ghost use Rattle.kr_types.specs.Programs.{IsProgram};
 ghost use Rattle.kr_mean.specs.Program.{default_of};
 ghost use Rattle.kr_code_members.specs.Nodes.{table};
@@ -17,7 +17,7 @@ use kr_types::Program;
 use kr_value::Value;
 use std::alloc::Global;
 
-/// What a field begins with.
+/// The initial value of a field.
 fn field_default(program: &Program, field: Field) -> Value
     requires program { IsProgram program.now }
     requires field { IsField program.now.trees.items field }

@@ -21,7 +21,7 @@ then_same {A} {B} m m' f f' p q s = ap (λ (o : Outcome A). go_on o.said o.after
     go (Ok a) t ps = ap (λ (o : Outcome B). after_reads ps o) (q a t)
     go (Err e) t ps = refl
 
--- what gives a value at once, and what follows
+-- a step that gives a value at once, and the steps after it
 pub given_first : {A B : Type 0} (a : A) (f : A → Run B) → Agree (give a >>= f) (f a)
 unfolding bind
 given_first a f s = refl

@@ -15,8 +15,7 @@ use Rattle.kr_mean.specs.Program.{Program, default_of, overriding, class_scope, 
 use Rattle.kr_mean.specs.Steps.{Run, ◌>>=◌, ◌>>◌, tick, within, make, store_new}
 use Rattle.kr_mean.specs.Code as meaning
 use Rattle.kr_mean.specs.Meaning as means
-use Rattle.kr_mean.specs.declared.flow.Flow.{Flow}
-use Rattle.kr_mean.specs.Meaning.{Parts, then_on, returned, completed, values_of, all, updates, run_body, super_arguments, value, execute, unbounded}
+use Rattle.kr_mean.specs.Meaning.{Parts, returned, values_of, all, updates, run_body, super_arguments, value, execute, unbounded}
 use Rattle.kr_code.specs.declared.code.Code.{Code}
 use Rattle.kr_code.specs.declared.code.MethodCode.{MethodCode}
 use Rattle.kr_code.specs.declared.code.ClassCode.{ClassCode}
@@ -25,7 +24,7 @@ use Rattle.kr_code.specs.declared.code.Initialiser.{Initialiser}
 use Rattle.kr_code.specs.declared.expression.Nodes.{Nodes}
 use Rattle.kr_code.specs.Tables.{node_at, initialiser_of, listed, values_in, method_at, class_at, method_in}
 use Rattle.kr_code.specs.Doing as doings
-use Rattle.kr_code.specs.Doing.{Doing, values_at, all_at, updates_at, run_numbered, run_on, super_values}
+use Rattle.kr_code.specs.Doing.{Doing, values_at, all_at, updates_at, run_numbered, super_values}
 use Rattle.kr_code.specs.Resolved.{Numbering, IsPart, AreParts, IsMethod, IsMethodCode, IsInitialiser, AreInitialisers, initial_or_none, initialised_fields, AreArguments, IsMaybeConstructor, IsClassCode, IsMaybeMethod, AreTables}
 use Rattle.kr_code_laws.specs.Laws.{doing_of}
 use Rattle.kr_code_laws.proofs.Agreeing.{Agree, then_same, given_first, within_same, on_same}

@@ -18,7 +18,7 @@ use Rattle.kr_mean.specs.Program.{Program, default_of, overriding}
 use Rattle.kr_mean.specs.Steps.{Run, say, give, stop, given, ◌>>=◌, ◌>>◌, get_this, read_local, element, class_or_null, class_of, load_field, store, store_element}
 use Rattle.kr_mean.specs.Operators.{operated}
 use Rattle.kr_mean.specs.Meaning as means
-use Rattle.kr_mean.specs.Meaning.{Parts, Target, LocalTarget, OwnField, FieldOf, ElementOf, NoTarget, Change, choose, values_of, constant, read_name, typed_method, run_chosen, own_call, called, method_call, super_method, create, create_array, is_primitive, binary, cast, instance, target_of, assigned, changed, compound, stepped, value_of, value, execute, unbounded}
+use Rattle.kr_mean.specs.Meaning.{Parts, Target, Change, values_of, constant, read_name, own_call, called, method_call, create, create_array, binary, cast, instance, target_of, assigned, changed, compound, stepped, value_of, value, unbounded}
 use Rattle.kr_code.specs.declared.code.Code.{Code}
 use Rattle.kr_code.specs.declared.expression.Callee.TheVariants as callees
 use Rattle.kr_code.specs.declared.expression.Variable.{Variable}
@@ -27,10 +27,10 @@ use Rattle.kr_code.specs.declared.expression.Expression.TheVariants as expressio
 use Rattle.kr_code.specs.Collections.{call_named}
 use Rattle.kr_code.specs.Tables.{listed, method_at}
 use Rattle.kr_code.specs.Doing as doings
-use Rattle.kr_code.specs.Doing.{Doing, values_at, run_numbered, run_on, array_of}
+use Rattle.kr_code.specs.Doing.{Doing, values_at, run_on, array_of}
 use Rattle.kr_code.specs.Steps.{load_named, store_field, store_item, cast_to}
 use Rattle.kr_code.specs.Resolved as resolved
-use Rattle.kr_code.specs.Resolved.{Numbering, IsPart, AreParts, IsVariable, IsMethod, IsExpression, IsMaybeMethod, is_junction, is_uncreatable, is_no_expression, constant_meant, AreTables}
+use Rattle.kr_code.specs.Resolved.{Numbering, IsPart, AreParts, IsVariable, IsMethod, IsExpression, is_junction, is_uncreatable, is_no_expression, constant_meant, AreTables}
 use Rattle.kr_code_laws.specs.Laws.{doing_of}
 use Rattle.kr_code_laws.proofs.Agreeing.{Agree, then_same, choose_same}
 use Rattle.kr_code_laws.proofs.Lookups.{loads, stores, stores_item, casts, instances}
@@ -82,7 +82,7 @@ module _ (program : Program) (code : Code) (n : Numbering) (tables : AreTables p
       then_same (d.value i) (p.value s a) _ _ (part s a i h) (λ o. then_same (d.value j) (p.value s b) _ _ (part s b j g) (λ l. then_same (element o l) (element o l) _ _ (λ state. refl) (λ v.
       then_same (f v) (f' v) _ _ (q v) (λ c. then_same (store_item code k o l c.new) (store_element program y o l c.new) _ _ (item_same k y e o l c.new) (λ u state. refl)))))
 
-  compound_same : (o : BinaryOperator) (m m' : Run Value) → Agree m m' → (v : Value) → Agree (doings.compound o m v) (compound o m' v)
+  compound_same : (o : BinaryOperator) (m m' : Run Value) → Agree m m' → (v : Value) → Agree (compound o m v) (compound o m' v)
   compound_same o m m' q v = then_same m m' _ _ q (λ w state. refl)
 
   -- ---- names
@@ -211,7 +211,7 @@ module _ (program : Program) (code : Code) (n : Numbering) (tables : AreTables p
       then_same (d.value i) (p.value s e) (λ v. class_or_null v >>= cast_to code k v) (λ v. class_or_null v >>= cast program (written s u) v) (part s e i h) (λ v. then_same (class_or_null v) (class_or_null v) _ _ (λ y. refl) (λ class y. casts program code n tables k v class y ∙ ap (λ (z : JavaType). cast program z v class y) g)) state
       ∙ ap (λ (z : Bool). (if z then p.value s e else (p.value s e >>= (λ v. class_or_null v >>= cast program (written s u) v))) state) (sym b)
   expression_same s t x (resolved.assignment r a e y i h g) = assigned_same s (target_of s a) y h (d.value i) (p.value s e) (part s e i g)
-  expression_same s t x (resolved.compound r o a e y i h g) = changed_same s (target_of s a) y h (doings.compound o (d.value i)) (compound o (p.value s e)) (λ v. compound_same o (d.value i) (p.value s e) (part s e i g) v)
+  expression_same s t x (resolved.compound r o a e y i h g) = changed_same s (target_of s a) y h (compound o (d.value i)) (compound o (p.value s e)) (λ v. compound_same o (d.value i) (p.value s e) (part s e i g) v)
   expression_same s t x (resolved.step r o a y h) = changed_same s (target_of s a) y h (stepped o) (stepped o) (λ v state. refl)
   expression_same s t x (resolved.result r) = λ state. refl
   expression_same s t x (resolved.old r e) = λ state. refl

@@ -1,4 +1,4 @@
--- What the tables of code say is what the meaning looks up in the program.
+-- The tables of code agree with the meaning's look-ups in the program.
 use Rattle.std.proofs.Common.{◌≡◌, ℕ, Bool, true, false, Option, Some, None, refl, sym, ap, ◌∙◌}
 use Rattle.std.specs.Prelude.{nat_lt, if◌then◌else◌}
 use Rattle.kr_value.specs.declared.value.Value.{Value}

@@ -18,7 +18,7 @@ use Rattle.kr_code.specs.Tables.{node_at, declarator_of, listed}
 use Rattle.kr_code.specs.Doing as doings
 use Rattle.kr_code.specs.Doing.{Doing, all_at, for_round, statement_done}
 use Rattle.kr_code.specs.Resolved as resolved
-use Rattle.kr_code.specs.Resolved.{Numbering, IsPart, AreParts, IsPartial, is_no_statement, IsDeclarator, AreDeclarators, IsStatement, AreTables}
+use Rattle.kr_code.specs.Resolved.{Numbering, IsPart, IsPartial, is_no_statement, IsDeclarator, AreDeclarators, IsStatement, AreTables}
 use Rattle.kr_code_laws.specs.Laws.{doing_of}
 use Rattle.kr_code_laws.proofs.Agreeing.{Agree, then_same, scoped_same, choose_same, on_same, round_same, update_same, loop_same}
 use Rattle.kr_code_laws.proofs.Calls.{value_part, exec_part, all_parts, updates_parts}

@@ -1,4 +1,4 @@
--- Between crates: what nodes of code do, by what they stand for.
+-- Between crates: the meaning of nodes of code, by their trees.
 use Rattle.std.specs.Prelude.{◌≡◌, ℕ, List, Some}
 use Rattle.kr_value.specs.declared.value.Value.{Value}
 use Rattle.kr_classes_table.specs.Table.{Method}

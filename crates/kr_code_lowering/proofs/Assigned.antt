@@ -24,7 +24,7 @@ use Rattle.kr_code_lowering.specs.Targets.{IsTarget}
 use Rattle.kr_code_lowering.proofs.Parts.{part_in, part_scope, tree_is}
 use Rattle.kr_code_lowering.proofs.Naming.{parts_are, resolves_at}
 
--- the target is the first part, and stands for a value
+-- the target is the first part, and is a value's
 pub target_scope : (p : Program) → IsProgram p → (s : Site) (e : Entry) (n : Node) → IsHere p s e → e.node ≡ n → (c : ℕ) → arenas.IsPart (arena_at p s).entries s.node 0 c → handed (scope_at p s) (tree_of (arena_at p s).text (tree_in (arena_at p s)) e.place n) 0 ≡ value (scope_at p s)
     → node_scope p s.file c ≡ value (scope_at p s)
 target_scope p is s e n at it c part value_is = part_scope p is s at.site 0 c part ∙ (ap (λ (t : Tree). handed (scope_at p s) t 0) (tree_is p s e n at it) ∙ value_is)
@@ -40,9 +40,6 @@ written_scope p is s e (nodes.Assignment a v) at it c w = let same : a ≡ c = c
 written_scope p is s e (nodes.CompoundAssignment o a v) at it c w = let same : a ≡ c = cc in rw (← same) (target_scope p is s e (nodes.CompoundAssignment o a v) at it a (parts_are p s e (nodes.CompoundAssignment o a v) at it).0 refl)
 written_scope p is s e (nodes.Step o a) at it c w = let same : a ≡ c = cc in rw (← same) (target_scope p is s e (nodes.Step o a) at it a (parts_are p s e (nodes.Step o a) at it).0 refl)
 written_scope p is s e _ at it c w = absurd (cc (w))
-
-pub part_site : (p : Program) (s : Site) (e : Entry) → IsHere p s e → (j c : ℕ) → arenas.IsPart (arena_at p s).entries s.node j c → IsSite p (record s { node = c })
-part_site p s e at j c part = record { file = at.site.file; node = omega (arith, part.below, at.site.node); first = at.site.first }
 
 module _ (p : Program) (program : IsProgram p) (arrays : List ℕ) (s : Site) (e : Entry) (at : IsHere p s e) (known : List (List ℕ)) (linked : List ℕ) (a : ℕ) (x : Variable) (written : IsTarget p (scope_at p s) (node_tree p s.file a) known x) where
   pub assignment_resolves : (v : ℕ) → e.node ≡ nodes.Assignment a v → Resolves p arrays s known linked (expressions.Assign x (s.first + v))

@@ -24,7 +24,7 @@ use Rattle.kr_code.specs.declared.expression.Expression.TheVariants as expressio
 use Rattle.kr_code.specs.Resolved as resolved
 use Rattle.kr_code.specs.Resolved.{AreParts, IsMethod, IsPart}
 use Rattle.kr_code.specs.Tables.{listed, class_at}
-use Rattle.kr_classes_roster.specs.Rosters.{all_methods, no_method, method_numbered}
+use Rattle.kr_classes_members.specs.Rosters.{all_methods, no_method, method_numbered}
 use Rattle.kr_code_lowering.specs.declared.site.Site.{Site}
 use Rattle.kr_code_members.specs.Nodes.{table}
 use Rattle.kr_code_lowering.specs.Origins.{Final, node_scope, node_tree, numbering_of}
@@ -50,7 +50,7 @@ method_is p known linked final code b k m e =
     let w = there code.methods.items k h in
     record { is = get_or_from_slice_get (all_methods (table p)) k m (no_method (table p)) e; body = w.0; there = w.1 }
 
--- the links of a list stand for its items where the node itself runs
+-- the links of a list are to its items, in the node's own scope
 pub arguments_are : (p : Program) → IsProgram p → (known : List (List ℕ)) (linked : List ℕ) (final : Final) (code : Code) → Becomes p known linked final code → (s : Site) (e : Entry) (n : Node) → IsHere p s e → e.node ≡ n → (j c : ℕ) → arenas.IsPart (arena_at p s).entries s.node j c
     → (ns : Nodes) → AreLinked p (record s { node = c }) linked ns → (r : Scope) → running (handed (scope_at p s) (tree_of (arena_at p s).text (tree_in (arena_at p s)) e.place n) j) ≡ r → AreParts (numbering_of p final) r (items (node_tree p s.file c)) (listed code ns)
 arguments_are p is known linked final code b s e n at it j c part ns links r runs =
@@ -80,7 +80,7 @@ pub found_within : (p : Program) (m : Option ℕ) (f : Option Method) → IsFoun
 found_within p None f h = tt
 found_within p (Some k) f h = slice_get_within (all_methods (table p)) k h.0 h.2
 
--- ---- behind a dot
+-- ---- after a dot
 
 typed_running : (s : Scope) (t : Tree) (x : List ℕ) → typed_method (running s) t x ≡ typed_method s t x
 typed_running s t x = ap (λ (o : Option JavaType). method_of_type s.table x o) (running_same s t).type

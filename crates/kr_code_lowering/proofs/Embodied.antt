@@ -15,7 +15,7 @@ use Rattle.kr_classes_table.specs.Constants.{values_of}
 use Rattle.kr_types_meaning.specs.Scopes.{Scope, after, static_if}
 use Rattle.kr_types_meaning.specs.Handing.{handed}
 use Rattle.kr_types_meaning.specs.Running.{running}
-use Rattle.kr_classes_types.specs.Listed.{IsGrown}
+use Rattle.kr_classes_names.specs.ListedTypes.{IsGrown}
 use Rattle.kr_types.specs.declared.program.Program.{Program}
 use Rattle.kr_types.specs.Programs.{IsProgram}
 use Rattle.kr_mean.specs.Program.{constructor_scope, method_scope}

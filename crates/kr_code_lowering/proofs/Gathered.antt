@@ -2,7 +2,7 @@
 use Rattle.std.proofs.Common.{◌≡◌, refl, sym, ap, ◌∙◌, ℕ, zero, suc, ◌+◌, ◌≤◌, List, [], ◌∷◌, ◌++◌, length, arith, length-append, Some}
 use Rattle.std.specs.Prelude.{slice_get}
 use Rattle.kr_ast.specs.Arena.{Arena}
-use Rattle.kr_classes_types.specs.Listed.{IsGrown}
+use Rattle.kr_classes_names.specs.ListedTypes.{IsGrown}
 use Rattle.kr_types.specs.declared.program.Program.{Program}
 use Rattle.kr_types.specs.Programs.{all_entries}
 use Rattle.kr_code.specs.declared.code.Code.{Code}
@@ -31,7 +31,7 @@ nodes_push p arrays known known' linked linked' ns more n i g h are at is e = ea
 pub nodes_none : (p : Program) (arrays : List ℕ) (known : List (List ℕ)) (linked : List ℕ) (ns : List Node) → ns ≡ [] → AreNodes p arrays known linked ns
 nodes_none p arrays known linked ns e k n got = let no : slice_get [] k ≡ Some n = ap (λ (xs : List Node). slice_get xs k) (sym e) ∙ got in absurd (cc (no))
 
--- all nodes stand before the end
+-- all nodes are before the end
 pub first_end : (files : List Arena) → first_node files (length files) ≡ length (all_entries files)
 unfolding first_node
 first_end [] = refl

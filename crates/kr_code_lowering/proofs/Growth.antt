@@ -3,8 +3,8 @@ use Rattle.std.proofs.Common.{◌≡◌, sym, ap, ◌∙◌, ℕ, ◌+◌, ◌-�
 use Rattle.std.proofs.lemmas.List.{drop-append-le}
 use Rattle.std.proofs.Math.Seq.{take-append_seam}
 use Rattle.std.specs.Prelude.{Some, slice_get}
-use Rattle.kr_classes_types.specs.Listed.{IsGrown}
-use Rattle.kr_classes_types.proofs.Growing.{got_left}
+use Rattle.kr_classes_names.specs.ListedTypes.{IsGrown}
+use Rattle.kr_classes_names.proofs.Growing.{got_left}
 
 pub grown_none : {A : Type 0} (xs : List A) → IsGrown xs xs
 grown_none xs = record { more = []; items = sym (Rattle.std.proofs.Common.append-nil xs) }
@@ -18,11 +18,11 @@ grown_on xs ys zs g h = record { more = g.more ++ h.more; items = h.items ∙ (a
 pub grown_length : {A : Type 0} (xs ys : List A) → IsGrown xs ys → length xs ≤ length ys
 grown_length xs ys g = let e : length ys ≡ length (xs ++ g.more) = ap length g.items in omega (arith, length-append xs g.more, e)
 
--- one item more behind what was left out
+-- one item more after those left out
 pub drop_push : {A : Type 0} (k : ℕ) (xs ys rest : List A) (y : A) → k ≤ length xs → ys ≡ xs ++ y ∷ [] → drop k ys ++ rest ≡ drop k xs ++ (y ∷ rest)
 drop_push k xs ys rest y h e = ap (λ w. drop k w ++ rest) e ∙ (ap (λ w. w ++ rest) (drop-append-le k xs (y ∷ []) h) ∙ append_assoc (drop k xs) (y ∷ []) rest)
 
--- what stood behind k items, when there are more
+-- the items after the first k, when there are more
 pub take_grown : {A : Type 0} (k : ℕ) (xs more : List A) → k ≤ length xs → IsGrown xs more → take (length xs - k) (drop k more) ≡ drop k xs
 take_grown k xs more h g =
     let e : length xs - k ≡ length (drop k xs) = omega (arith, length-drop k xs) in

@@ -1,4 +1,4 @@
--- What a name means has that name.
+-- The meaning of a name has that name.
 use Rattle.std.proofs.Common.{◌≡◌, refl, sym, ap, ◌∙◌, ℕ, Bool, true, false, cond, List, [], ◌∷◌, bytes_eq, Option, Some, None}
 use Rattle.std.specs.Prelude.{find, flat_map, option_and_then}
 use Rattle.std.proofs.lemmas.Option.{cond_some, option_and_then_some}

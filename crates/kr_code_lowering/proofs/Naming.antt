@@ -14,7 +14,7 @@ use Rattle.kr_ast.specs.declared.node.Node.TheVariants as nodes
 use Rattle.kr_classes_table.specs.Constants.{constant_of, values_of}
 use Rattle.kr_types_meaning.specs.Scopes.{Scope, class_before, meant_by}
 use Rattle.kr_types_meaning.specs.Running.{running}
-use Rattle.kr_classes_types.specs.Listed.{IsGrown}
+use Rattle.kr_classes_names.specs.ListedTypes.{IsGrown}
 use Rattle.kr_types.specs.declared.program.Program.{Program}
 use Rattle.kr_types.specs.declared.program.TypedFile.{TypedFile}
 use Rattle.kr_types.specs.Programs.{IsProgram}
@@ -33,7 +33,7 @@ use Rattle.kr_ast.specs.Files.{file_at}
 use Rattle.kr_types_scopes.specs.declared.lookup.LocalFound.{LocalFound}
 use Rattle.kr_types_scopes.specs.Lookups.{IsLocalAt}
 use Rattle.kr_types_scopes.specs.Settings.{setting, type_there}
-use Rattle.kr_classes_roster.specs.Rosters.{no_name}
+use Rattle.kr_classes_members.specs.Rosters.{no_name}
 use Rattle.kr_code_lowering.specs.Named.{IsLocal, IsNamed, literal_of}
 use Rattle.kr_code_members.proofs.Scopes as members
 use Rattle.kr_code_lowering.proofs.Growth.{got_grown}

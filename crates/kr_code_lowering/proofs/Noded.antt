@@ -1,4 +1,4 @@
--- What the nodes of the code are, by their numbers.
+-- The nodes of the code, by their numbers.
 use Rattle.std.proofs.Common.{◌≡◌, refl, sym, ap, ◌∙◌, ℕ, ◌+◌, true, false, List, subst, None}
 use Rattle.kr_base.specs.declared.place.Place.{Place}
 use Rattle.kr_ast.specs.Tree.{Tree}
@@ -37,7 +37,7 @@ locals_so Locals h = refl
 locals_so Fields h = absurd (cc (h))
 locals_so (Constants f) h = absurd (cc (h))
 
--- what is no declarator declares nothing
+-- a node that is no declarator declares nothing
 none_declared : (n : Numbering) (s : Scope) (text : List ℕ) (look : ℕ → Tree) (pl : Place) (m : trees.Node) → ((x : Name) (i : ℕ) → m ≡ nodes.Declarator x i → ⊥) → IsDeclarator n s (tree_of text look pl m) None
 none_declared n s text look pl (nodes.Declarator x i) h = absurd (h x i refl)
 none_declared n s text look pl _ h = tt
@@ -58,7 +58,7 @@ expression_no_statement text look pl (nodes.Return a) h = absurd (cc (h))
 expression_no_statement text look pl _ h = refl
 
 module _ (p : Program) (program : IsProgram p) (arrays : List ℕ) (s : Site) (e : Entry) (at : IsHere p s e) (known : List (List ℕ)) (linked : List ℕ) where
-  -- from what it is where it stands
+  -- from its meaning at its place
   placed : (node : Node) → Resolves p arrays s known linked (expression_of node) → Does p s known linked (statement_of node) → ((scope_at p s).declaring ≡ Locals → (final : Final) → IsDeclarator (numbering_of p final) (running (scope_at p s)) (tree_at p s) (declarator_of node))
       → IsNode p arrays known linked (s.first + s.node) node
   placed node x y d =

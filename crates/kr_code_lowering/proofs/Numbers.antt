@@ -30,7 +30,7 @@ origin_behind_files p ns g (a ∷ files) (suc f) i h k =
     let z : suc g + f ≡ g + suc f = omega arith in
     step_over p ns g a files n (omega arith) ∙ ap (origin_from p ns (suc g) files) e ∙ origin_behind_files p ns (suc g) files f i (omega (arith, h)) k ∙ ap (λ (j : ℕ). node_origin p j i) z
 
--- a node of a file stands for its tree
+-- a node of a file is that of its tree
 pub origin_there : (p : Program) (ns : List Node) (f i : ℕ) → f < length p.trees.items → i < length (file_at p.trees.items f).entries → origin_of p ns (first_node p.trees.items f + i) ≡ node_origin p f i
 origin_there p ns f i h k =
     let z : 0 + f ≡ f = omega arith in
@@ -43,7 +43,7 @@ behind_all p ns g (a ∷ files) k n e =
     let l = length-append a.entries (all_entries files) in
     step_over p ns g a files n (omega (arith, l, e)) ∙ behind_all p ns (suc g) files k (n - length a.entries) (omega (arith, l, e))
 
--- behind the files' nodes stand the others, and behind those nothing
+-- after the files' nodes come the others, and after those nothing
 pub origin_behind : (p : Program) (ns : List Node) (k : ℕ) → origin_of p ns (length (all_entries p.trees.items) + k) ≡ get_or ns k (nothing p)
 origin_behind p ns k = behind_all p ns 0 p.trees.items k (length (all_entries p.trees.items) + k) refl
 
@@ -54,7 +54,7 @@ number_below [] f i h k = absurd (omega (arith, h))
 number_below (a ∷ files) zero i h k = omega (arith, length-append a.entries (all_entries files), k)
 number_below (a ∷ files) (suc f) i h k = omega (arith, length-append a.entries (all_entries files), number_below files f i (omega (arith, h)) k)
 
--- the next file's first node stands behind a file's nodes
+-- the next file's first node follows a file's nodes
 pub first_next : (files : List Arena) (f : ℕ) → f < length files → first_node files (suc f) ≡ first_node files f + length (file_at files f).entries
 unfolding first_node
 first_next [] f h = absurd (omega (arith, h))

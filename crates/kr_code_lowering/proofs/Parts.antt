@@ -1,4 +1,4 @@
--- What the numbers of a node's parts stand for.
+-- The meaning of the numbers of a node's parts.
 use Rattle.std.proofs.Common.{◌≡◌, ap, ◌∙◌, ℕ, ◌+◌, ◌^◌, ◌<◌, length, arith}
 use Rattle.kr_ast.specs.Tree.{Tree}
 use Rattle.kr_ast.specs.Arena as arenas
@@ -22,7 +22,7 @@ use Rattle.kr_code_lowering.proofs.Numbers.{origin_there, number_below}
 pub part_scope : (p : Program) → IsProgram p → (s : Site) → IsSite p s → (j c : ℕ) → arenas.IsPart (arena_at p s).entries s.node j c → node_scope p s.file c ≡ handed (scope_at p s) (tree_at p s) j
 part_scope p is s at j c part = members.part_scope p is s.file s.node j c (record { file = at.file; node = at.node }) part
 
--- the number of a part stands for it
+-- the number of a part
 pub part_number : (p : Program) (final : Final) (s : Site) → IsSite p s → (c : ℕ) → c < length (arena_at p s).entries → IsPart (numbering_of p final) (running (node_scope p s.file c)) (node_tree p s.file c) (s.first + c)
 part_number p final s at c h =
     ap (λ (k : ℕ). (numbering_of p final).origin (k + c)) at.first ∙ origin_there p final.nodes s.file c at.file h

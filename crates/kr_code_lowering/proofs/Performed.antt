@@ -11,7 +11,7 @@ use Rattle.kr_classes_table.specs.Table.{items}
 use Rattle.kr_types_meaning.specs.Scopes.{Scope, Declaring, Locals, Fields, Constants, after, bind_as, declaring}
 use Rattle.kr_types_meaning.specs.Running.{running}
 use Rattle.kr_laws_types.proofs.Loops.{running_same}
-use Rattle.kr_classes_types.specs.Listed.{IsGrown}
+use Rattle.kr_classes_names.specs.ListedTypes.{IsGrown}
 use Rattle.kr_types.specs.declared.program.Program.{Program}
 use Rattle.kr_types.specs.Programs.{IsProgram}
 use Rattle.kr_mean.specs.Code as meaning
@@ -140,7 +140,7 @@ module _ (p : Program) (program : IsProgram p) (s : Site) (e : Entry) (at : IsHe
       (arguments_are p program known linked final code b s e n at is 2 u ps.1.1.0 us updates inner same)
       (part_in p program final s e n at is 3 a ps.1.1.1.0 inner same))
 
--- what is none of these is no statement
+-- other nodes are no statements
 pub no_other_statement : (text : List ℕ) (look : ℕ → Tree) (pl : Place) (n : Node) → is_plain n ≡ false → ((a : ℕ) → n ≡ nodes.Block a → ⊥) → ((t a : ℕ) → n ≡ nodes.Local t a → ⊥) → ((i c u a : ℕ) → n ≡ nodes.For i c u a → ⊥) → ((a : ℕ) → n ≡ nodes.Return a → ⊥)
     → is_no_statement (tree_of text look pl n) ≡ true
 no_other_statement text look pl (nodes.Block a) h k l f q = absurd (k a refl)

@@ -1,4 +1,4 @@
--- What lowering reads of what a node means.
+-- The parts of a node's meaning that lowering reads.
 use Rattle.std.proofs.Common.{◌≡◌, refl, sym, ap, ◌∙◌, subst, ℕ, ◌<◌, List, length, true}
 use Rattle.std.specs.Prelude.{Option, Some, None, IfSome, option_and_then, option_map, slice_get}
 use Rattle.std.proofs.lemmas.Option.{slice_get-get_or}
@@ -14,7 +14,7 @@ use Rattle.kr_classes_table.specs.Constants.{Known, constant_of, known_value, va
 use Rattle.kr_types_meaning.specs.Scopes.{class_before, meant, method_meant, static_only}
 use Rattle.kr_types_meaning.specs.Typing.{type_of}
 use Rattle.kr_mean.specs.Meaning.{field_of_type, method_of_type, super_method, typed_field, typed_method}
-use Rattle.kr_classes_roster.specs.Rosters.{all_methods, field_numbered, method_numbered, no_method}
+use Rattle.kr_classes_members.specs.Rosters.{all_methods, field_numbered, method_numbered, no_method}
 use Rattle.kr_types_resolving.specs.Meanings as meanings
 use Rattle.kr_types_resolving.specs.Shown.{IsMeaningWithin, IsMeant, meaning_shown}
 use Rattle.kr_types_resolving.specs.declared.meaning.Meaning.{Meaning}
@@ -46,7 +46,7 @@ pub field_found : (p : Program) (o : Option ℕ) (f : Option Field) → option_m
 field_found p None f e = sym e
 field_found p (Some k) f e = sym e
 
--- ---- what types have
+-- ---- members of types
 
 method_has : (t : Table) (n : List ℕ) (o : Option JavaType) → meanings.method_of t n (meanings.object_class o) ≡ method_of_type t n o
 method_has t n None = refl
@@ -124,7 +124,7 @@ module _ (p : Program) (s : Site) (e : Entry) (at : IsHere p s e) (m : Meaning) 
       → IsFound p o (super_method (scope_at p s) (name_in (arena_at p s).text x))
   super_found x a k o w h = found p o _ w (h ∙ (ap meanings.super_in (read (nodes.SuperCall x a) k) ∙ super_law (super_method (scope_at p s) (name_in (arena_at p s).text x))))
 
-  -- ---- behind a dot
+  -- ---- after a dot
 
   module _ (o : ℕ) (x : Name) (a : ℕ) (k : e.node ≡ nodes.MethodCall o x a) where
     abbrev called : List ℕ

@@ -8,7 +8,7 @@ use Rattle.kr_ast.specs.declared.node.Entry.{Entry}
 use Rattle.kr_ast.specs.declared.node.Node.TheVariants as nodes
 use Rattle.kr_types_meaning.specs.Running.{running}
 use Rattle.kr_types_meaning.specs.Scopes.{written}
-use Rattle.kr_classes_types.specs.Types.{IsTypeNumber, type_at}
+use Rattle.kr_classes_names.specs.Types.{IsTypeNumber, type_at}
 use Rattle.kr_types.specs.declared.program.Program.{Program}
 use Rattle.kr_types.specs.Programs.{IsProgram}
 use Rattle.kr_mean.specs.Meaning.{is_primitive}

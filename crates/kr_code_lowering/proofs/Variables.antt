@@ -1,4 +1,4 @@
--- What an assignment writes.
+-- The target of an assignment.
 use Rattle.std.proofs.Common.{◌≡◌, refl, sym, ap, ◌∙◌, ℕ, ◌+◌, Bool, true, false, cond, List, subst, Option, Some, None}
 use Rattle.std.specs.Prelude.{slice_get}
 use Rattle.kr_ast.specs.Tree as trees
@@ -16,7 +16,7 @@ use Rattle.kr_types_meaning.specs.Typing.{type_of}
 use Rattle.kr_types_meaning.specs.Handing.{handed}
 use Rattle.kr_types_meaning.specs.Running.{running}
 use Rattle.kr_laws_types.proofs.Loops.{running_same}
-use Rattle.kr_classes_types.specs.Types.{type_at}
+use Rattle.kr_classes_names.specs.Types.{type_at}
 use Rattle.kr_types.specs.declared.program.Program.{Program}
 use Rattle.kr_types.specs.Programs.{IsProgram}
 use Rattle.kr_mean.specs.Meaning.{Target, element_target, field_of_type, field_target, name_target, target_of, typed_field}
@@ -24,7 +24,7 @@ use Rattle.kr_code.specs.declared.expression.Variable.{Variable}
 use Rattle.kr_code.specs.declared.expression.Variable.TheVariants as variables
 use Rattle.kr_code.specs.Resolved as resolved
 use Rattle.kr_code.specs.Resolved.{IsPart, IsVariable}
-use Rattle.kr_classes_roster.specs.Rosters.{field_numbered}
+use Rattle.kr_classes_members.specs.Rosters.{field_numbered}
 use Rattle.kr_code_lowering.specs.declared.site.Site.{Site}
 use Rattle.kr_code_lowering.specs.declared.named.Named.TheVariants as named
 use Rattle.kr_code_members.specs.Nodes.{table}
@@ -36,7 +36,7 @@ use Rattle.kr_code_lowering.proofs.Meant.{meant_so}
 use Rattle.kr_code_lowering.proofs.Parts.{part_in, part_scope, tree_is}
 use Rattle.kr_code_lowering.proofs.Naming.{name_so, parts_are}
 
--- what a tree that is one of these writes
+-- the target of a tree that is one of these
 target_at : (p : Program) (s : Scope) (t u : Tree) (known : List (List ℕ)) (x : Variable) → t ≡ u → IsTarget p s u known x → IsTarget p s t known x
 target_at p s t u known x e h = subst (λ (w : Tree). IsTarget p s w known x) (sym e) h
 

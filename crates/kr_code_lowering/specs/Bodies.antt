@@ -6,8 +6,8 @@ use Rattle.kr_classes_table.specs.Types.{JavaType, VoidType}
 use Rattle.kr_classes_table.specs.Table.{Constructor, Heading, Method, constructors_in, items, methods_in, type_named}
 use Rattle.kr_classes_table.specs.Constants.{values_of}
 use Rattle.kr_types_meaning.specs.Scopes.{scope_of}
-use Rattle.kr_classes_types.specs.Listed.{IsGrown}
-use Rattle.kr_classes_types.specs.Types.{type_at}
+use Rattle.kr_classes_names.specs.ListedTypes.{IsGrown}
+use Rattle.kr_classes_names.specs.Types.{type_at}
 use Rattle.kr_types.specs.declared.program.Program.{Program}
 use Rattle.kr_code.specs.declared.code.Code.{Code}
 use Rattle.kr_code.specs.declared.code.MethodCode.{MethodCode}
@@ -36,7 +36,7 @@ pub record AreTyped (p : Program) (ps : Tree) (links : List ℕ) (ns : Nodes) : 
   pub count : ns.count ≡ length (items ps)
   pub types : (more : List ℕ) → IsGrown links more → map (type_at p.table.types) (take ns.count (drop ns.first more)) ≡ map (parameter_type (table p).headings) (items ps)
 
--- the node stands among the members of the class
+-- the node is among the members of the class
 abbrev pub IsMember : Program → Site → ℕ → Type 0
 IsMember p s c = scope_at p s ≡ scope_of (table p) (values_of (table p)) c
 

@@ -10,7 +10,7 @@ use Rattle.kr_code.specs.declared.expression.Expression.TheVariants as expressio
 use Rattle.kr_code.specs.declared.expression.Nodes.{Nodes}
 use Rattle.kr_code.specs.Collections.{call_named}
 use Rattle.kr_code.specs.Resolved.{is_uncreatable}
-use Rattle.kr_classes_roster.specs.Rosters.{all_methods, method_numbered}
+use Rattle.kr_classes_members.specs.Rosters.{all_methods, method_numbered}
 use Rattle.kr_code_members.specs.Nodes.{table}
 
 -- the number of a method, if there is one
@@ -18,14 +18,14 @@ abbrev pub IsFound : Program → Option ℕ → Option Method → Type 0
 IsFound p None m = m ≡ None
 IsFound p (Some k) m = (n : Method) × (m ≡ Some n) × (slice_get (all_methods (table p)) k ≡ Some n)
 
--- what a call without object calls, if it means a method
+-- the target of a call without object, if it means a method
 abbrev pub IsOwnCallee : Program → Option Method → Callee → Type 0
 IsOwnCallee p m callees.Unknown = m ≡ None
 IsOwnCallee p m (callees.Static k) = (n : Method) × (m ≡ Some n) × (n.is_static ≡ true) × (slice_get (all_methods (table p)) k ≡ Some n)
 IsOwnCallee p m (callees.Own k) = (n : Method) × (m ≡ Some n) × (n.is_static ≡ false) × (slice_get (all_methods (table p)) k ≡ Some n)
 IsOwnCallee p m c = ⊥
 
--- likewise behind a class's name
+-- likewise after a class's name
 abbrev pub IsStaticCallee : Program → Option Method → Callee → Type 0
 IsStaticCallee p m callees.Unknown = m ≡ None
 IsStaticCallee p m (callees.Static k) = (n : Method) × (m ≡ Some n) × (slice_get (all_methods (table p)) k ≡ Some n)
@@ -36,7 +36,7 @@ abbrev pub IsCalledOn : Program → ℕ → List ℕ → Nodes → Option ℕ �
 IsCalledOn p o x ns None e = e ≡ expressions.CallCollection o (call_named x) ns
 IsCalledOn p o x ns (Some k) e = e ≡ (if (method_numbered (table p) k).is_static then expressions.StaticCallOn o k ns else expressions.CallOn o k ns)
 
--- what makes an object of a type
+-- the creator of an object of a type
 abbrev pub IsCreator : JavaType → Callee → Type 0
 IsCreator t callees.Unknown = is_uncreatable t ≡ true
 IsCreator t (callees.New c) = t ≡ ClassType c

@@ -13,7 +13,7 @@ use Rattle.kr_code.specs.declared.code.Code.{Code}
 use Rattle.kr_code.specs.declared.expression.Expression.{Expression}
 use Rattle.kr_code.specs.Resolved.{Numbering, IsPart, IsExpression}
 
--- what is made of values in the scope of the whole
+-- made of values in the scope of the whole
 abbrev pub is_operator : Node → Bool
 is_operator (nodes.Truth v) = true
 is_operator nodes.Null = true
@@ -25,7 +25,7 @@ is_operator (nodes.Conditional a b c) = true
 is_operator nodes.Result = true
 is_operator n = false
 
--- the nodes' numbers, from the first one on, stand for their trees
+-- the nodes' numbers, from the first one on, are those of their trees
 abbrev pub IsNumbered : Numbering → Scope → (ℕ → Tree) → ℕ → List ℕ → Type 0
 IsNumbered n s look first [] = Unit {0}
 IsNumbered n s look first (c ∷ cs) = IsPart n s (look c) (first + c) × IsNumbered n s look first cs

@@ -2,7 +2,7 @@
 use Rattle.std.specs.Prelude.{ℕ, ◌+◌, List, ◌∷◌, take, drop}
 use Rattle.kr_classes_table.specs.Table.{items}
 use Rattle.kr_types_meaning.specs.Running.{running}
-use Rattle.kr_classes_types.specs.Listed.{IsGrown}
+use Rattle.kr_classes_names.specs.ListedTypes.{IsGrown}
 use Rattle.kr_types.specs.declared.program.Program.{Program}
 use Rattle.kr_code.specs.declared.expression.Nodes.{Nodes}
 use Rattle.kr_code.specs.Resolved.{AreParts}
@@ -10,11 +10,11 @@ use Rattle.kr_code_lowering.specs.declared.site.Site.{Site}
 use Rattle.kr_code_lowering.specs.Origins.{Final, numbering_of}
 use Rattle.kr_code_lowering.specs.Sites.{scope_at, tree_at}
 
--- these numbers stand for the items of the node's list
+-- these numbers are those of the items of the node's list
 abbrev pub AreItems : Program → Site → List ℕ → Type 0
 AreItems p s is = (final : Final) → AreParts (numbering_of p final) (running (scope_at p s)) (items (tree_at p s)) is
 
--- an item stands ahead of what follows it
+-- an item comes before those that follow it
 abbrev pub IsAhead : Program → Site → ℕ → ℕ → Type 0
 IsAhead p s item rest = (is : List ℕ) → AreItems p (record s { node = rest }) is → AreItems p s ((s.first + item) ∷ is)
 

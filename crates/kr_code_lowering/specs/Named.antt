@@ -1,4 +1,4 @@
--- Between crates: what a name means where a node stands, by numbers.
+-- Between crates: the meaning of a name at a node, by numbers.
 use Rattle.std.specs.Prelude.{◌≡◌, ℕ, true, false, List, Option, Some, None}
 use Rattle.kr_value.specs.declared.value.Value.{Value}
 use Rattle.kr_classes_table.specs.Types.{JavaType}
@@ -8,7 +8,7 @@ use Rattle.kr_types.specs.declared.program.Program.{Program}
 use Rattle.kr_code.specs.declared.expression.Expression.{Expression}
 use Rattle.kr_code.specs.declared.expression.Expression.TheVariants as expressions
 use Rattle.kr_code.specs.Resolved.{constant_meant}
-use Rattle.kr_classes_roster.specs.Rosters.{field_numbered}
+use Rattle.kr_classes_members.specs.Rosters.{field_numbered}
 use Rattle.kr_code_lowering.specs.declared.named.Named.{Named}
 use Rattle.kr_code_lowering.specs.declared.named.Named.TheVariants as named
 use Rattle.kr_code_members.specs.Nodes.{table}

@@ -1,18 +1,18 @@
--- Between crates: what the numbers of a program's code stand for. The nodes are those of the files, one file after another, and
--- then those that stand in no file; the fields and methods those of the classes, one class after another; the types have
--- typing's numbers.
+-- Between crates: the meaning of the numbers of a program's code. The nodes are those of the files, one file after another, and
+-- then those that are in no file; the fields and methods those of the classes, one class after another; the types have typing's
+-- numbers.
 use Rattle.std.specs.Prelude.{ℕ, zero, suc, ◌+◌, ◌-◌, List, [], ◌∷◌, length, nat_lt, if◌then◌else◌, slice_index_or}
 use Rattle.std.proofs.Common.{get_or}
 use Rattle.kr_ast.specs.Arena.{Arena}
 use Rattle.kr_ast.specs.Tree as trees
 use Rattle.kr_types_meaning.specs.Running.{running}
-use Rattle.kr_classes_types.specs.Types.{type_at}
+use Rattle.kr_classes_names.specs.Types.{type_at}
 use Rattle.kr_code_members.specs.Nodes.{table, members_scope}
 use Rattle.kr_types.specs.declared.program.Program.{Program}
 use Rattle.kr_mean.specs.Code.{Node}
 pub use Rattle.kr_code_members.specs.Nodes.{node_scope, node_tree, scope_in}
 use Rattle.kr_code.specs.Resolved.{Numbering}
-use Rattle.kr_classes_roster.specs.Rosters.{field_numbered, method_numbered, no_name}
+use Rattle.kr_classes_members.specs.Rosters.{field_numbered, method_numbered, no_name}
 
 -- ---- nodes
 
@@ -29,7 +29,7 @@ first_node files zero = 0
 first_node [] (suc f) = 0
 first_node (a ∷ files) (suc f) = length a.entries + first_node files f
 
--- node k of these files, of which the first has the number f, and of these nodes behind them
+-- node k of these files, of which the first has the number f, and of these nodes after them
 unfoldable pub origin_from : Program → List Node → ℕ → List Arena → ℕ → Node
 origin_from p behind f [] k = get_or behind k (nothing p)
 origin_from p behind f (a ∷ files) k = if nat_lt k (length a.entries) then node_origin p f k else origin_from p behind (suc f) files (k - length a.entries)
@@ -39,8 +39,8 @@ origin_of p behind k = origin_from p behind 0 p.trees.items k
 
 -- ---- the whole
 
--- What the code of a program has in the end beside what its files give: the names of fields, and nodes behind those of the
--- files.
+-- The names of fields, and the nodes after those of the files, which the code of a program has in the end beside what its files
+-- give.
 pub record Final : Type 0 where
   pub names : List (List ℕ)
   pub nodes : List Node

@@ -1,4 +1,4 @@
--- Between crates: the nodes of code while it is made: each is the resolved form of what its number stands for.
+-- Between crates: the nodes of code while it is made: each is the resolved form of the node of its number.
 use Rattle.std.specs.Prelude.{◌≡◌, ℕ, List, slice_get, Some}
 use Rattle.kr_types_meaning.specs.Scopes.{Locals}
 use Rattle.kr_types.specs.declared.program.Program.{Program}

@@ -6,12 +6,12 @@ use Rattle.kr_ast.specs.declared.node.Entry.{Entry}
 use Rattle.kr_types_meaning.specs.Scopes.{Scope}
 use Rattle.kr_types_meaning.specs.Running.{running}
 use Rattle.kr_ast.specs.Files.{file_at}
-use Rattle.kr_classes_types.specs.Listed.{IsGrown}
+use Rattle.kr_classes_names.specs.ListedTypes.{IsGrown}
 use Rattle.kr_types.specs.declared.program.Program.{Program}
 use Rattle.kr_code.specs.declared.code.Code.{Code}
 use Rattle.kr_code.specs.declared.expression.Expression.{Expression}
 use Rattle.kr_code.specs.Resolved.{IsExpression}
-use Rattle.kr_classes_roster.specs.Rosters.{all_methods}
+use Rattle.kr_classes_members.specs.Rosters.{all_methods}
 use Rattle.kr_code_lowering.specs.declared.site.Site.{Site}
 use Rattle.kr_code_members.specs.Nodes.{run_program, table}
 use Rattle.kr_code_lowering.specs.Origins.{Final, first_node, node_scope, node_tree, numbering_of}

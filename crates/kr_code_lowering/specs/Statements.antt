@@ -33,7 +33,7 @@ abbrev pub IsMaybe : Tree → ℕ → Option ℕ → Type 0
 IsMaybe t i None = t ≡ trees.Nil
 IsMaybe t i (Some k) = (k ≡ i) × (t ≡ trees.Nil → ⊥)
 
--- what is made of parts in the scope of the whole
+-- made of parts in the scope of the whole
 abbrev pub is_plain : Node → Bool
 is_plain nodes.Empty = true
 is_plain nodes.Break = true

@@ -6,11 +6,11 @@ use Rattle.kr_classes_table.specs.Table.{Field}
 use Rattle.kr_types_meaning.specs.Scopes.{Scope}
 use Rattle.kr_types_meaning.specs.Running.{running}
 use Rattle.kr_mean.specs.Meaning.{target_of}
-use Rattle.kr_classes_types.specs.Listed.{IsGrown}
+use Rattle.kr_classes_names.specs.ListedTypes.{IsGrown}
 use Rattle.kr_types.specs.declared.program.Program.{Program}
 use Rattle.kr_code.specs.declared.expression.Variable.{Variable}
 use Rattle.kr_code.specs.Resolved.{IsVariable}
-use Rattle.kr_classes_roster.specs.Rosters.{field_numbered}
+use Rattle.kr_classes_members.specs.Rosters.{field_numbered}
 use Rattle.kr_code_members.specs.Nodes.{table}
 use Rattle.kr_code_lowering.specs.Origins.{Final, numbering_of}
 

@@ -4,7 +4,7 @@ ghost use Rattle.kr_ast.specs.declared.node.Node.TheVariants as nodes;
 ghost use Rattle.kr_ast.specs.Arena.{name_in};
 ghost use Rattle.kr_types_meaning.specs.Scopes.{class_before};
 ghost use Rattle.kr_classes_table.specs.Constants.{constant_of, known_value, values_of};
-ghost use Rattle.kr_classes_types.specs.Listed.{IsGrown};
+ghost use Rattle.kr_classes_names.specs.ListedTypes.{IsGrown};
 ghost use Rattle.kr_types.specs.Programs.{IsProgram};
 ghost use Rattle.kr_code_members.specs.Nodes.{table};
 ghost use Rattle.kr_code_lowering.specs.Origins.{node_tree};
@@ -32,7 +32,7 @@ fn literal(value: Option<Value>) -> Expression
     }
 }
 
-/// The value of the constant behind a class's name, if there is one.
+/// The value of the constant after a class's name, if there is one.
 fn class_constant(
     program: &Program,
     site: Site,
@@ -77,7 +77,7 @@ pub(crate) fn name_expression(
     }
 }
 
-/// A field of an object, or a constant behind its class's name, as an expression.
+/// A field of an object, or a constant after its class's name, as an expression.
 pub(crate) fn access_expression(
     alloc: Global,
     program: &Program,

@@ -6,7 +6,7 @@ ghost use Rattle.kr_ast.specs.Tree as trees;
 ghost use Rattle.kr_ast.specs.declared.node.Node.TheVariants as nodes;
 ghost use Rattle.kr_classes_table.specs.Types.{is_void};
 ghost use Rattle.kr_classes_table.specs.Table.{type_named};
-ghost use Rattle.kr_classes_types.specs.Listed.{IsGrown};
+ghost use Rattle.kr_classes_names.specs.ListedTypes.{IsGrown};
 ghost use Rattle.kr_types.specs.Programs.{IsProgram};
 ghost use Rattle.kr_code_members.specs.Nodes.{table};
 ghost use Rattle.kr_code_lowering.specs.Origins.{node_tree};

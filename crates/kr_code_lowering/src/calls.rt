@@ -5,7 +5,7 @@ ghost use Rattle.kr_ast.specs.declared.node.Node.TheVariants as nodes;
 ghost use Rattle.kr_classes_table.specs.Table.{method_named};
 ghost use Rattle.kr_types_meaning.specs.Scopes.{class_before, method_meant, static_only};
 ghost use Rattle.kr_mean.specs.Meaning.{super_method};
-ghost use Rattle.kr_classes_types.specs.Listed.{IsGrown};
+ghost use Rattle.kr_classes_names.specs.ListedTypes.{IsGrown};
 ghost use Rattle.kr_types.specs.Programs.{IsProgram};
 ghost use Rattle.kr_code_members.specs.Nodes.{table};
 ghost use Rattle.kr_code_lowering.specs.Origins.{node_tree};
@@ -22,7 +22,7 @@ use kr_code::{Callee, Expression};
 use kr_types::Program;
 use kr_types_resolving::Meaning;
 
-/// What a call without object calls.
+/// The target of a call without object.
 fn own_callee(program: &Program, site: Site, _entry: Entry, _name: Name, _arguments: u32) -> Callee
     requires program { IsProgram program.now }
     requires here { IsHere program.now site _entry }
@@ -36,7 +36,7 @@ fn own_callee(program: &Program, site: Site, _entry: Entry, _name: Name, _argume
     }
 }
 
-/// What a call behind a class's name calls.
+/// The target of a call after a class's name.
 pub(crate) fn static_callee(
     program: &Program,
     site: Site,

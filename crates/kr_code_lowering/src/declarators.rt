@@ -1,9 +1,9 @@
-// What a node is as a declarator of a local.
+// Declarators of locals.
 ghost use Rattle.std.specs.Prelude.{◌≡◌, IfNone, IfOk, IfSome, length};
 ghost use Rattle.kr_classes_table.specs.Types.{JavaType};
 ghost use Rattle.kr_types_meaning.specs.Scopes.{Scope, bind_local};
 ghost use Rattle.kr_ast.specs.declared.node.Node.TheVariants as nodes;
-ghost use Rattle.kr_classes_types.specs.Types.{IsTypeNumber};
+ghost use Rattle.kr_classes_names.specs.Types.{IsTypeNumber};
 ghost use Rattle.kr_types.specs.Programs.{IsProgram};
 ghost use Rattle.kr_code_lowering.specs.Sites.{IsHere, IsSite, scope_at};
 ghost use Rattle.kr_code_lowering.specs.Named.{IsLocal, IsNoLocal};
@@ -36,7 +36,7 @@ fn declared_type(program: &Program, site: Site) -> TypeId
     )
 }
 
-/// The local or parameter that a name means where a node stands.
+/// The local or parameter that a name means at a node.
 fn local_at(program: &Program, site: Site, name: &[u8]) -> Option<LocalFound>
     requires program { IsProgram program.now }
     requires site { IsSite program.now site }

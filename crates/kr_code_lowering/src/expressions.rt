@@ -1,4 +1,4 @@
-// What a node is as an expression.
+// Nodes as expressions.
 ghost use Rattle.std.specs.Prelude.{◌≡◌, ◌<◌, ◌^◌, pos, List, ℕ, All, IfOk, length};
 ghost use Rattle.kr_base.specs.declared.place.Place.{Place};
 ghost use Rattle.kr_ast.specs.Tree.{Tree};
@@ -8,8 +8,8 @@ ghost use Rattle.kr_code.specs.Resolved.{is_no_expression};
 ghost use Rattle.kr_code_lowering.specs.Kinds.{is_operator};
 ghost use Rattle.kr_value.specs.declared.value.Value.TheVariants.{Int};
 ghost use Rattle.kr_code.specs.declared.expression.Expression.TheVariants.{Literal};
-ghost use Rattle.kr_classes_types.specs.Listed.{IsGrown};
-ghost use Rattle.kr_classes_types.specs.Types.{count};
+ghost use Rattle.kr_classes_names.specs.ListedTypes.{IsGrown};
+ghost use Rattle.kr_classes_names.specs.Types.{count};
 ghost use Rattle.kr_types.specs.Programs.{IsProgram};
 ghost use Rattle.kr_code_lowering.specs.Sites.{IsSite, Resolves};
 
@@ -30,7 +30,7 @@ use kr_types::Program;
 use kr_value::Value;
 use std::alloc::Global;
 
-/// The value of an int's literal, which wraps (2147483648 stands under a unary minus alone).
+/// The value of an int's literal, which wraps (2147483648 occurs under a unary minus alone).
 fn int_literal(value: u32) -> Expression
     ensures { result ≡ Literal (Int (wrap Bits32 (pos value))) }
 {
@@ -97,7 +97,7 @@ pub(crate) fn is_no_expression(node: Node) -> bool
     }
 }
 
-/// Whether it is an operator on values that stand in its own scope.
+/// Whether it is an operator on values in its own scope.
 fn is_operator(node: Node) -> bool
     ensures { result ≡ is_operator node }
 {

@@ -1,7 +1,7 @@
-// What typing knows of a node: what it means, and its type.
+// The meaning and the type of a node, from typing.
 ghost use Rattle.std.specs.Prelude.{◌≡◌, ◌<◌, IfSome, option_map};
 ghost use Rattle.kr_types_meaning.specs.Typing.{judged, type_in};
-ghost use Rattle.kr_classes_types.specs.Types.{count, type_at};
+ghost use Rattle.kr_classes_names.specs.Types.{count, type_at};
 ghost use Rattle.kr_types.specs.Programs.{IsProgram};
 ghost use Rattle.kr_types_resolving.specs.Shown.{IsMeant};
 ghost use Rattle.kr_code_members.specs.Nodes.{table};
@@ -13,7 +13,7 @@ use kr_types::Program;
 use kr_types_expressions::part_type;
 use kr_types_resolving::Meaning;
 
-/// What a node means.
+/// The meaning of a node.
 pub(crate) fn meaning_at(program: &Program, site: Site) -> Meaning
     requires program { IsProgram program.now }
     requires site { IsSite program.now site }

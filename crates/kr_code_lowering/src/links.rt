@@ -37,7 +37,7 @@ impl Links {
         self.items.len() as u32
     }
 
-    /// Adds a link behind the others. The error says that memory is short, or that there are 2^32 - 1 links.
+    /// Adds a link after the others. Err: out of memory, or 2^32 - 1 links.
     pub fn push(&mut self, node: u32) -> Result<(), NoMemory>
         ensures added { IfOk result (λ none. self.new ≡ self.old ++ node ∷ []) }
         ensures unchanged { OnErr result (self.new ≡ self.old) }

@@ -1,7 +1,7 @@
 // Lists of nodes as links that follow one another.
 ghost use Rattle.std.specs.Prelude.{◌≡◌, ◌<◌, ◌∷◌, [], IfOk, IfSome, MatchOption, length};
 ghost use Rattle.kr_classes_table.specs.Table.{items};
-ghost use Rattle.kr_classes_types.specs.Listed.{IsGrown};
+ghost use Rattle.kr_classes_names.specs.ListedTypes.{IsGrown};
 ghost use Rattle.kr_types.specs.Programs.{IsProgram};
 ghost use Rattle.kr_code_lowering.specs.Origins.{node_tree};
 ghost use Rattle.kr_code_lowering.specs.Sites.{IsSite, arena_at, tree_at};
@@ -14,7 +14,7 @@ use kr_base::NoMemory;
 use kr_code::Nodes;
 use kr_types::Program;
 
-/// The first item of a list, and what is behind it.
+/// The first item of a list, and the rest.
 pub(crate) fn first_item(program: &Program, list: Site) -> Option<(u32, u32)>
     requires program { IsProgram program.now }
     requires site { IsSite program.now list }

@@ -1,10 +1,10 @@
-// Calls on objects and behind a class's name, and creations, as expressions.
+// Calls on objects and after a class's name, and creations, as expressions.
 ghost use Rattle.std.specs.Prelude.{◌≡◌, ◌<◌, List, ℕ, IfOk, IfSome, length};
 ghost use Rattle.kr_ast.specs.declared.node.Node.TheVariants as nodes;
-ghost use Rattle.kr_classes_types.specs.Listed.{IsGrown};
-ghost use Rattle.kr_classes_types.specs.Types.{count, type_at};
+ghost use Rattle.kr_classes_names.specs.ListedTypes.{IsGrown};
+ghost use Rattle.kr_classes_names.specs.Types.{count, type_at};
 ghost use Rattle.kr_types.specs.Programs.{IsProgram};
-ghost use Rattle.kr_classes_roster.specs.Rosters.{all_methods};
+ghost use Rattle.kr_classes_members.specs.Rosters.{all_methods};
 ghost use Rattle.kr_code_members.specs.Nodes.{table};
 ghost use Rattle.kr_code_lowering.specs.Sites.{IsHere, Resolves};
 ghost use Rattle.kr_code_lowering.specs.Calls.{IsCalledOn, IsCreator};
@@ -18,8 +18,8 @@ use crate::site::Site;
 use crate::types::named_type;
 use kr_ast::{Entry, Name};
 use kr_base::NoMemory;
+use kr_classes_names::{TypeForm, Types};
 use kr_classes_table::{MethodId, TypeId};
-use kr_classes_types::{TypeForm, Types};
 use kr_code::{Callee, CollectionCall, Expression, Nodes};
 use kr_types::Program;
 
@@ -59,7 +59,7 @@ pub fn called_on(
     }
 }
 
-/// A call behind a dot as an expression.
+/// A call after a dot as an expression.
 pub(crate) fn method_call_expression(
     program: &Program,
     links: &mut Links,
@@ -89,7 +89,7 @@ pub(crate) fn method_call_expression(
     }
 }
 
-/// What makes an object of a type.
+/// The creator of an object of a type.
 fn creator(types: &Types, created: TypeId) -> Callee
     requires { created < count types.now }
     ensures { IsCreator (type_at types.now created) result }

@@ -1,11 +1,11 @@
-// What a name means where a node stands.
+// The meaning of a name at a node.
 ghost use Rattle.std.specs.Prelude.{◌≡◌, ◌<◌, Some, length};
 ghost use Rattle.kr_ast.specs.Arena.{name_in};
 ghost use Rattle.kr_ast.specs.declared.node.Node.TheVariants as nodes;
 ghost use Rattle.kr_classes_table.specs.Constants.{known_value, values_of};
 ghost use Rattle.kr_types_meaning.specs.Scopes.{class_before, value};
 ghost use Rattle.kr_types.specs.Programs.{IsProgram};
-ghost use Rattle.kr_classes_roster.specs.Rosters.{all_fields, field_numbered};
+ghost use Rattle.kr_classes_members.specs.Rosters.{all_fields, field_numbered};
 ghost use Rattle.kr_code_members.specs.Nodes.{table};
 ghost use Rattle.kr_code_lowering.specs.Origins.{node_scope, node_tree};
 ghost use Rattle.kr_code_lowering.specs.Sites.{IsHere, IsSite, arena_at, scope_at};
@@ -19,7 +19,7 @@ use kr_types::Program;
 use kr_types_resolving::Meaning;
 use kr_value::Value;
 
-/// What a name means: a local by its number, a constant by its value, if it has one, or a field of `this` by its number.
+/// The meaning of a name: a local by its number, a constant by its value, if it has one, or a field of `this` by its number.
 #[derive(Clone, Copy)]
 pub(crate) enum Named {
     Local(u32),
@@ -38,7 +38,7 @@ pub(crate) fn constant_value(program: &Program, number: FieldId) -> Option<Value
     program.table.values.value_of(Some(field))
 }
 
-/// What a name means.
+/// The meaning of a name.
 pub(crate) fn name_at(program: &Program, site: Site, _entry: Entry, _name: Name) -> Named
     requires program { IsProgram program.now }
     requires here { IsHere program.now site _entry }
@@ -53,7 +53,7 @@ pub(crate) fn name_at(program: &Program, site: Site, _entry: Entry, _name: Name)
     }
 }
 
-/// The class that a node before a dot means, where the node behind it stands.
+/// The class that a node before a dot means, at the node after it.
 pub(crate) fn class_before(program: &Program, site: Site, object: u32) -> Option<ClassId>
     requires program { IsProgram program.now }
     requires site { IsSite program.now site }

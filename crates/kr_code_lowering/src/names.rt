@@ -1,7 +1,7 @@
 // The names of fields by number: `length`, of arrays, is the first.
 ghost use Rattle.std.specs.Prelude.{◌≡◌, [], Some, IfOk, map, slice_get};
 ghost use Rattle.kr_code.specs.Tables.{row_items};
-ghost use Rattle.kr_classes_types.specs.Listed.{AreApart, IsGrown};
+ghost use Rattle.kr_classes_names.specs.ListedTypes.{AreApart, IsGrown};
 ghost use Rattle.kr_code_lowering.specs.Names.{AreNames};
 
 use indexmap::IndexSet;
@@ -18,7 +18,7 @@ pub struct Names {
 
 impl Model for Names {
     ghost use Rattle.std.specs.Prelude.{List, ℕ, map};
-    ghost use Rattle.kr_classes_types.specs.Listed.{AreApart};
+    ghost use Rattle.kr_classes_names.specs.ListedTypes.{AreApart};
 
     ghost Value = { List (List ℕ) };
 

@@ -1,7 +1,7 @@
 // The nodes of the code: those of the files, one file after another.
 ghost use Rattle.std.specs.Prelude.{◌≡◌, ◌+◌, ◌<◌, ◌^◌, suc, All, IfOk, Some, codes, length, slice_get};
-ghost use Rattle.kr_classes_types.specs.Listed.{IsGrown};
-ghost use Rattle.kr_classes_types.specs.Types.{count};
+ghost use Rattle.kr_classes_names.specs.ListedTypes.{IsGrown};
+ghost use Rattle.kr_classes_names.specs.Types.{count};
 ghost use Rattle.kr_types.specs.Programs.{IsProgram, all_entries};
 ghost use Rattle.kr_code_lowering.specs.Origins.{first_node};
 ghost use Rattle.kr_code_lowering.specs.Sites.{IsSite};
@@ -53,7 +53,7 @@ fn node_at(
     }
 }
 
-/// Adds the nodes of a file behind those of the files before it.
+/// Adds the nodes of a file after those of the files before it.
 fn add_file(
     alloc: Global,
     program: &Program,

@@ -1,4 +1,4 @@
-// Expressions whose parts stand for values in the same scope: literals, operators, elements of arrays.
+// Expressions whose parts are values in one scope: literals, operators, elements of arrays.
 ghost use Rattle.std.specs.Prelude.{◌+◌};
 ghost use Rattle.kr_ast.specs.Arena.{parts};
 ghost use Rattle.kr_code_lowering.specs.Kinds.{AreFew, IsOperation, IsBinary};

@@ -1,4 +1,4 @@
-// Statements whose parts stand in the same scope.
+// Statements whose parts are in one scope.
 ghost use Rattle.std.specs.Prelude.{◌≡◌, ◌+◌};
 ghost use Rattle.kr_ast.specs.Arena.{parts};
 ghost use Rattle.kr_code_lowering.specs.Kinds.{AreFew};
@@ -7,7 +7,7 @@ ghost use Rattle.kr_code_lowering.specs.Statements.{IsPlain, is_plain};
 use kr_ast::Node;
 use kr_code::Statement;
 
-/// Whether it is a statement whose parts stand in its own scope.
+/// Whether it is a statement whose parts are in its own scope.
 pub(crate) fn is_plain(node: Node) -> bool
     ensures { result ≡ is_plain node }
 {

@@ -61,7 +61,7 @@ impl Site {
         tree_of(&program.trees, self.file).name(name)
     }
 
-    /// What is known of the nodes of the file.
+    /// The typing of the nodes of the file.
     pub(crate) fn typed(self, program: &Program) -> &TypedFile
         requires program { IsProgram program.now }
         requires site { IsSite program.now self }

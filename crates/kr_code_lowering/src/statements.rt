@@ -1,7 +1,7 @@
-// What a node is as a statement.
+// Nodes as statements.
 ghost use Rattle.std.specs.Prelude.{◌≡◌, ◌+◌, ◌<◌, List, ℕ, IfOk};
 ghost use Rattle.kr_ast.specs.declared.node.Node.TheVariants as nodes;
-ghost use Rattle.kr_classes_types.specs.Listed.{IsGrown};
+ghost use Rattle.kr_classes_names.specs.ListedTypes.{IsGrown};
 ghost use Rattle.kr_types.specs.Programs.{IsProgram};
 ghost use Rattle.kr_code_lowering.specs.Sites.{IsHere, IsSite, tree_at};
 ghost use Rattle.kr_code_lowering.specs.Statements.{Does, IsMaybe};

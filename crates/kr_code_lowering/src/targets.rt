@@ -1,9 +1,9 @@
-// What an assignment writes.
+// The target of an assignment.
 ghost use Rattle.std.specs.Prelude.{◌≡◌, ◌<◌, Some, IfOk};
 ghost use Rattle.kr_ast.specs.declared.node.Node.TheVariants as nodes;
 ghost use Rattle.kr_types_meaning.specs.Scopes.{value};
-ghost use Rattle.kr_classes_types.specs.Types.{count, type_at};
-ghost use Rattle.kr_classes_types.specs.Listed.{IsGrown};
+ghost use Rattle.kr_classes_names.specs.Types.{count, type_at};
+ghost use Rattle.kr_classes_names.specs.ListedTypes.{IsGrown};
 ghost use Rattle.kr_types.specs.Programs.{IsProgram};
 ghost use Rattle.kr_code_members.specs.Nodes.{table};
 ghost use Rattle.kr_code_lowering.specs.Sites.{IsHere, IsSite, scope_at, tree_at};
@@ -15,8 +15,8 @@ use crate::names::Names;
 use crate::site::Site;
 use kr_ast::{Entry, Name, Node};
 use kr_base::NoMemory;
+use kr_classes_names::{TypeForm, Types};
 use kr_classes_table::TypeId;
-use kr_classes_types::{TypeForm, Types};
 use kr_code::Variable;
 use kr_types::Program;
 use std::alloc::Global;
@@ -126,7 +126,7 @@ fn element_target(
     }
 }
 
-/// What a target's node writes, where the assignment's node stands.
+/// The target that a node is, at the assignment's node.
 pub(crate) fn variable_at(
     alloc: Global,
     program: &Program,

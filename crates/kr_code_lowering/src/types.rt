@@ -5,7 +5,7 @@ ghost use Rattle.kr_classes_table.specs.Types.{ArrayType, is_same};
 ghost use Rattle.kr_classes_table.specs.Arrays.{array_number};
 ghost use Rattle.kr_mean.specs.Meaning.{is_primitive};
 ghost use Rattle.kr_mean.specs.Program.{default_of};
-ghost use Rattle.kr_classes_types.specs.Types.{IsTypeNumber, count, type_at};
+ghost use Rattle.kr_classes_names.specs.Types.{IsTypeNumber, count, type_at};
 ghost use Rattle.kr_types.specs.Programs.{IsProgram};
 ghost use Rattle.kr_types_meaning.specs.Scopes.{written};
 ghost use Rattle.kr_code_lowering.specs.Origins.{node_tree};
@@ -13,8 +13,8 @@ ghost use Rattle.kr_code_lowering.specs.Sites.{IsHere, IsSite, Resolves, arena_a
 
 use crate::site::Site;
 use kr_ast::{Entry, Node};
+use kr_classes_names::{TypeForm, Types};
 use kr_classes_table::TypeId;
-use kr_classes_types::{TypeForm, Types};
 use kr_code::Expression;
 use kr_types::Program;
 use kr_value::Value;
@@ -28,7 +28,7 @@ pub(crate) fn named_type(program: &Program, site: Site, node: u32) -> u32
     program.table.numbers.number(site.file, node)
 }
 
-/// What a variable of a type begins with.
+/// The initial value of a variable of a type.
 pub fn default_value(types: &Types, number: TypeId) -> Value
     requires { number < count types.now }
     ensures { result ≡ default_of (type_at types.now number) }

@@ -77,7 +77,7 @@ no_declared : (hs : List Heading) (c : ℕ) (st fi : Bool) (type : Tree) (text :
 no_declared hs c st fi type text look pl (nodes.Declarator x a) h = absurd (h x a refl)
 no_declared hs c st fi type text look pl _ h = refl
 
--- what is nothing to the code of a field's initial value
+-- the code of a field's initial value doesn't depend on these
 initial_scope : (t : Table) (v : List Known) (c : ℕ) (st fi : Bool) (type : Tree) (x : List ℕ) →
     let s = static_if st (declaring (field_kind st fi) type (scope_of t v c)) in running (bind_as s.declaring x s) ≡ static_if st (scope_of t v c)
 initial_scope t v c true fi type x = refl

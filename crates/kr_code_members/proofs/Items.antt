@@ -82,7 +82,7 @@ class_member : (t : Tree) → IsClass t → IsMember false t
 class_member (trees.Class p n e ms) h = h
 class_member _ h = absurd h
 
--- a class stands in a file as among members
+-- a class is in a file as among members
 pub each_class : (t : Tree) → AreClasses t → AllByRecursion (IsMember false) (items t)
 each_class trees.Nil h = tt
 each_class (trees.Cons a b) h = (class_member a h.0, each_class b h.1)

@@ -67,7 +67,7 @@ with_nested_is k _ = refl
 pub last_items : (p : Program) (f : ℕ) (a : Arena) (n : ℕ) (nodes : List ℕ) → a ≡ arena_at p f → n ≡ length a.entries → map (tree_in a) nodes ≡ items (tree_in a (n - 1)) → map (node_tree p f) nodes ≡ items (root (arena_at p f))
 last_items p f a n nodes e count shown = subst (λ (x : Arena). map (tree_in x) nodes ≡ items (root x)) e (shown ∙ ap (λ (m : ℕ). items (tree_in a (m - 1))) count)
 
--- what stands behind those before a class and those in it
+-- the items after those before a class and those in it
 pub class_added : (v : ℕ → Tree) (k : ℕ) (before : List Heading) (t : Tree) (xs : List ℕ) → flat_map members_of (heading_of None t) ≡ map v xs
     → (before ++ heading_of None t) ++ flat_map (λ n. heading_of (Some k) (v n)) xs ≡ before ++ with_nested k (heading_of None t)
 class_added v k before t xs e =

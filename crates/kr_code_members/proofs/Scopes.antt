@@ -63,7 +63,7 @@ parameters (trees.Cons (trees.Parameter p t n) b) h = parameters b h.1
 parameters (trees.Cons _ b) h = absurd h
 parameters _ h = absurd h
 
--- parameters are the locals behind them
+-- parameters are the locals after them
 after_parameters : (s : Scope) (ps : Tree) → AreParameters ps → after s ps ≡ with_locals (reverse (map parameter_local (parameters_in s.table.headings ps)) ++ s.locals) s
 after_parameters s trees.Nil h = refl
 after_parameters s (trees.Cons (trees.Parameter p t n) b) h =

@@ -21,7 +21,7 @@ use Rattle.kr_code_members.specs.declared.nodes.MethodNode.{MethodNode}
 use Rattle.kr_code_members.specs.Nodes.{IsHere, IsMemberNode, IsMethodNode, arena_at, members_scope, node_scope, node_tree, table}
 use Rattle.kr_code_members.proofs.Scopes.{method_body, parameters, part_scope, part_there, parts_are, tree_is}
 
--- what is no method
+-- nodes that are no methods
 pub no_methods : (hs : List Heading) (c : ℕ) (text : List ℕ) (look : ℕ → Tree) (pl : Place) (n : Node) → ((st : Bool) (x : Name) (a b : ℕ) → n ≡ nodes.Method st x a b → ⊥) → methods_in hs c (tree_of text look pl n) ≡ []
 no_methods hs c text look pl (nodes.Method st x a b) h = absurd (h st x a b refl)
 no_methods hs c text look pl _ h = refl

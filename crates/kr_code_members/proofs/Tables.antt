@@ -11,16 +11,18 @@ use Rattle.kr_ast.specs.Arena.{Arena, root}
 use Rattle.kr_classes_table.specs.Table.{Table, Class, Method, Heading, class_at, class_of, classes_from, constructors_in, fields_in, headings_from, items, methods_in, number_from, number_of, own_fields, table_of}
 use Rattle.kr_classes_table.specs.Rules.{Fault, C1, C2, C3, C4, C5, C6, C7, C8, break_if, class_fault, each_class, first_of, is_name_among, least, repeated}
 use Rattle.kr_classes_table.proofs.Least.{is_least}
+use Rattle.kr_classes_table.proofs.Tables.{long, unbroken}
 use Rattle.kr_classes_names.specs.Shown.{heading_shown}
 use Rattle.kr_classes.proofs.ByClass as ByClass
-use Rattle.kr_classes.proofs.ByClass.{at_index, long}
+use Rattle.kr_classes.proofs.ByClass.{at_index}
 use Rattle.kr_classes_names.proofs.ClassNumbers.{turned}
 use Rattle.kr_types.specs.declared.program.Program.{Program}
 use Rattle.kr_types.specs.Programs.{IsProgram}
 use Rattle.kr_mean.specs.Program.{constructor_of, first, program_with}
-use Rattle.kr_classes_roster.specs.Rosters.{methods_of_class}
+use Rattle.kr_classes_members.specs.Rosters.{methods_of_class}
 use Rattle.kr_code_members.specs.Nodes.{table}
 use Rattle.kr_code_members.specs.Walk.{heading_numbered, no_heading}
+use Rattle.kr_base.proofs.ListLemmas.{append_is_nil}
 
 -- ---- the table's parts
 
@@ -73,23 +75,15 @@ first_none : (x : Option Fault) (os : List (Option Fault)) → first_of (x ∷ o
 first_none None os e = refl
 first_none (Some f) os e = absurd (cc (e))
 
-both_empty : {A : Type 0} (xs ys : List A) → xs ++ ys ≡ [] → (xs ≡ []) × (ys ≡ [])
-both_empty [] ys e = (refl, e)
-both_empty (x ∷ xs) ys e = absurd (cc (e))
-
-unbroken : (b : Bool) (r : ℕ) (p : Place) → break_if b r p ≡ [] → b ≡ false
-unbroken true r p e = absurd (cc (e))
-unbroken false r p e = refl
-
 abbrev named_at : Heading → List ℕ × Place
 named_at h = (h.name, h.place)
 
 -- a name that isn't repeated isn't one of those before it
 unseen : (r : ℕ) (seen : List (List ℕ)) (hs : List Heading) (c : ℕ) (d : Heading) → repeated r seen (map named_at hs) ≡ [] → c < length hs → is_name_among (get_or hs c d).name seen ≡ false
 unseen r seen [] c d e l = absurd (omega (arith, l))
-unseen r seen (h ∷ hs) zero d e l = unbroken (is_name_among h.name seen) r h.place (both_empty (break_if (is_name_among h.name seen) r h.place) (repeated r (h.name ∷ seen) (map named_at hs)) e).0
+unseen r seen (h ∷ hs) zero d e l = unbroken (is_name_among h.name seen) r h.place (append_is_nil (break_if (is_name_among h.name seen) r h.place) (repeated r (h.name ∷ seen) (map named_at hs)) e).0
 unseen r seen (h ∷ hs) (suc c) d e l =
-    let rest = (both_empty (break_if (is_name_among h.name seen) r h.place) (repeated r (h.name ∷ seen) (map named_at hs)) e).1 in
+    let rest = (append_is_nil (break_if (is_name_among h.name seen) r h.place) (repeated r (h.name ∷ seen) (map named_at hs)) e).1 in
     let n = (get_or hs c d).name in
     (or_parts (bytes_eq n h.name) (is_name_among n seen) (unseen r (h.name ∷ seen) hs c d rest (omega (arith, l)))).1
 
@@ -100,7 +94,7 @@ numbered : (r : ℕ) (seen : List (List ℕ)) (k : ℕ) (hs : List Heading) (c :
 numbered r seen k [] c d e l = absurd (omega (arith, l))
 numbered r seen k (h ∷ hs) zero d e l = ap (λ (b : Bool). if b then Some k else number_from (k + 1) hs h.name) (same_bytes h.name) ∙ ap (λ (n : ℕ). Some n) (omega arith)
 numbered r seen k (h ∷ hs) (suc c) d e l =
-    let rest = (both_empty (break_if (is_name_among h.name seen) r h.place) (repeated r (h.name ∷ seen) (map named_at hs)) e).1 in
+    let rest = (append_is_nil (break_if (is_name_among h.name seen) r h.place) (repeated r (h.name ∷ seen) (map named_at hs)) e).1 in
     let n = (get_or hs c d).name in
     let other : bytes_eq h.name n ≡ false = turned h.name n ∙ (or_parts (bytes_eq n h.name) (is_name_among n seen) (unseen r (h.name ∷ seen) hs c d rest (omega (arith, l)))).0 in
     ap (λ (b : Bool). if b then Some k else number_from (k + 1) hs n) other ∙ numbered r (h.name ∷ seen) (k + 1) hs c d rest (omega (arith, l)) ∙ ap (λ (m : ℕ). Some m) (omega arith)

@@ -1,4 +1,4 @@
--- Lists whose items stand for those of another.
+-- Lists related item by item.
 use Rattle.std.proofs.Common.{◌≡◌, inl, inr, refl, sym, ap, ◌∙◌, subst, ℕ, zero, suc, ◌+◌, ◌<◌, ◌≤◌, List, [], ◌∷◌, ◌++◌, length, map, take, get_or, append-nil, All, arith}
 use Rattle.std.specs.Prelude.{Option, Some, flat_map, option_to_list, slice_get}
 use Rattle.std.specs.List.{AllZip, AllByRecursion}
@@ -7,7 +7,7 @@ use Rattle.std.proofs.lemmas.List.Folds.{flat_map-map}
 use Rattle.std.proofs.lemmas.Option.{get_or_from_slice_get, slice_get_within}
 use Rattle.std.proofs.lemmas.List.Elements.{All-cons, All-from_recursion, All-head, All-nil, All-tail}
 use Rattle.kr_base.proofs.Added.{flat_step}
-use Rattle.kr_types_scopes.proofs.Grown.{slice_get_push}
+use Rattle.kr_base.proofs.ListLemmas.{slice_get-push}
 
 pub same_item : {A : Type 0} (x y : A) → x ∷ [] ≡ y ∷ [] → x ≡ y
 same_item x y e = cc
@@ -52,7 +52,7 @@ pub unmapped : {A B : Type 0} (f : A → B) (P : B → Type 0) (xs : List A) →
 unmapped f P [] a = All-nil (λ x. P (f x))
 unmapped f P (x ∷ xs) a = All-cons (λ y. P (f y)) x xs (All-head P (f x) (map f xs) a) (unmapped f P xs (All-tail P (f x) (map f xs) a))
 
--- what holds of the items shown
+-- a property of the items shown
 pub each_shown : {A B : Type 0} (P : B → Type 0) (v : A → B) (xs : List A) (ys : List B) → map v xs ≡ ys → AllByRecursion P ys → All (λ x. P (v x)) xs
 each_shown P v xs ys e h = unmapped v P xs (All-from_recursion P (map v xs) (subst (λ (zs : List _). AllByRecursion P zs) (sym e) h))
 
@@ -62,8 +62,8 @@ by_shown f v xs ys ms e h = sym (flat_map-map f v ys) ∙ ap (flat_map f) (ap (m
 
 -- one item more, by its number
 pub each_push : {A : Type 0} (P : ℕ → A → Type 0) (xs ys : List A) (x : A) (n : ℕ) → ys ≡ xs ++ x ∷ [] → length xs ≡ n → P n x → ((c : ℕ) (k : A) → slice_get xs c ≡ Some k → P c k) → (c : ℕ) (k : A) → slice_get ys c ≡ Some k → P c k
-each_push P xs ys x n e l p h c k i = elim (slice_get_push xs x c k (sym (ap (λ (zs : List _). slice_get zs c) e) ∙ i)) [ inl old ↦ h c k old | inr new ↦ subst (P c) new.1 (subst (λ (m : ℕ). P m x) (sym (new.0 ∙ l)) p) ]
+each_push P xs ys x n e l p h c k i = elim (slice_get-push xs x c k (sym (ap (λ (zs : List _). slice_get zs c) e) ∙ i)) [ inl old ↦ h c k old | inr new ↦ subst (P c) new.1 (subst (λ (m : ℕ). P m x) (sym (new.0 ∙ l)) p) ]
 
--- what stands for the item of a number
+-- the item related to the one of a number
 pub zip_number : {A B : Type 0} (R : A → B → Type 0) (xs : List A) (ys : List B) (d : A) → AllZip R xs ys → (k : ℕ) (y : B) → slice_get ys k ≡ Some y → R (get_or xs k d) y
 zip_number R xs ys d h k y e = subst (R (get_or xs k d)) (get_or_from_slice_get ys k y y e) (zip_at R xs ys k d y h (slice_get_within ys k y e))

@@ -1,4 +1,4 @@
--- Between crates: where the members of classes stand: the nodes of their parts, and the scopes that these have.
+-- Between crates: the nodes of the members of classes and of their parts, and their scopes.
 use Rattle.std.specs.Prelude.{◌≡◌, ℕ, ◌<◌, false, List, [], ◌∷◌, length, map, All, Option, Some, None, slice_get}
 use Rattle.std.specs.List.{AllZip}
 use Rattle.kr_ast.specs.Arena.{Arena, ArePartsFrom, parts, root, tree_in, tree_of}
@@ -13,11 +13,11 @@ use Rattle.kr_laws_shapes.specs.Shapes.{AreClasses, AreContractLines, AreStateme
 use Rattle.kr_types_meaning.specs.Running.{running}
 use Rattle.kr_ast.specs.Files.{file_at}
 use Rattle.kr_classes_members.specs.Shown.{table_in}
-use Rattle.kr_classes_types.specs.Types.{type_at}
+use Rattle.kr_classes_names.specs.Types.{type_at}
 use Rattle.kr_types.specs.declared.program.Program.{Program}
 use Rattle.kr_types.specs.declared.program.TypedFile.{TypedFile}
 use Rattle.kr_types.specs.Programs.{scope_there}
-use Rattle.kr_classes_roster.specs.Rosters.{all_methods, method_numbered}
+use Rattle.kr_classes_members.specs.Rosters.{all_methods, method_numbered}
 use Rattle.kr_mean.specs.Program as meaning
 use Rattle.kr_mean.specs.Program.{constructor_of, constructor_scope, method_scope, program_with}
 use Rattle.kr_code_members.specs.declared.nodes.FieldNode.{FieldNode}

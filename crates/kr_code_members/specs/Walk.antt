@@ -1,6 +1,5 @@
 -- Between crates: the way from a file to the members of its classes.
 use Rattle.std.specs.Prelude.{◌≡◌, ◌<◌, ℕ, Option, true, false, List, [], ◌∷◌, flat_map, Some, None, slice_index_or}
-use Rattle.kr_base.specs.declared.place.Place.{Place}
 use Rattle.kr_ast.specs.Tree as trees
 use Rattle.kr_ast.specs.Tree.{Tree}
 use Rattle.kr_classes_table.specs.Table.{Field, Heading, declared_in, fields_in, heading_of, items, number_of}
@@ -10,10 +9,11 @@ use Rattle.kr_ast.specs.declared.files.NodeId.{NodeId}
 use Rattle.kr_types.specs.declared.program.Program.{Program}
 use Rattle.kr_code_members.specs.declared.fields.FieldLine.{FieldLine}
 use Rattle.kr_code_members.specs.Nodes.{IsThere, members_scope, node_scope, node_tree, table}
+use Rattle.kr_base.specs.Places.{nowhere}
 
 -- ---- lists
 
--- behind each item the scope is the one before it
+-- after each item the scope is the one before it
 abbrev pub AreStill : Scope → List Tree → Type 0
 AreStill s [] = Unit {0}
 AreStill s (t ∷ ts) = (after s t ≡ s) × AreStill s ts
@@ -23,7 +23,7 @@ pub record IsIn (p : Program) (f : ℕ) (s : Scope) (i : ℕ) : Type 0 where
   pub there : IsThere p f i
   pub scope : node_scope p f i ≡ s
 
--- a list of an item and what is behind it
+-- a list of an item and the rest
 pub record IsSplit (p : Program) (f l a b : ℕ) : Type 0 where
   pub behind : b < l
   pub shown : items (node_tree p f l) ≡ node_tree p f a ∷ items (node_tree p f b)
@@ -36,11 +36,8 @@ pub record IsItem (p : Program) (f i : ℕ) : Type 0 where
   pub there : IsThere p f i
   pub shape : IsMember false (node_tree p f i)
 
-abbrev pub no_place : Place
-no_place = record { file = 0; line = 0; col = 0 }
-
 abbrev pub no_heading : Heading
-no_heading = record { name = []; place = no_place; outer = None; extended = trees.Nil; members = [] }
+no_heading = record { name = []; place = nowhere; outer = None; extended = trees.Nil; members = [] }
 
 abbrev pub heading_numbered : Program → ℕ → Heading
 heading_numbered p c = slice_index_or (table p).headings c no_heading

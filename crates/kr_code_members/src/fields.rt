@@ -13,7 +13,7 @@ use kr_base::{NoMemory, add_found};
 use kr_types::Program;
 use std::alloc::Global;
 
-/// What the declarators of one line of fields share, and the list of them.
+/// The parts common to the declarators of one line of fields, and the list of them.
 #[derive(Clone, Copy)]
 pub(crate) struct FieldLine {
     pub(crate) is_static: bool,

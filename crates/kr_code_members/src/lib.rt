@@ -1,5 +1,5 @@
-//! The members of all classes by number: which name each field and method has, what each class has of each, and where in the files
-//! initial values and bodies stand, each in the scope that its code runs in.
+//! The members of all classes by number: the name of each field and method, the fields and methods of each class, and the nodes
+//! of initial values and bodies in the files, each in the scope that its code runs in.
 #![tactic(auto)]
 
 mod classes;

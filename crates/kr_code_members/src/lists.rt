@@ -1,4 +1,4 @@
-// Lists whose items declare nothing for what is behind them.
+// Lists whose items declare nothing for the items after them.
 ghost use Rattle.std.specs.Prelude.{◌≡◌, [], All, IfOk, MatchOption, map};
 ghost use Rattle.kr_classes_table.specs.Table.{items};
 ghost use Rattle.kr_types.specs.Programs.{IsProgram};
@@ -11,7 +11,7 @@ use kr_base::NoMemory;
 use kr_types::Program;
 use std::alloc::Global;
 
-/// The first item of a list and what is behind it.
+/// The first item of a list and the rest.
 #[tactic(auto, using(crate::proofs::Items::splits, crate::proofs::Items::no_items))]
 fn first_item(program: &Program, file: u32, list: u32) -> Option<(u32, u32)>
     requires program { IsProgram program.now }

@@ -40,7 +40,7 @@ fn members_of(
     }
 }
 
-/// The nodes of a class's members; its methods stand behind those of the classes before it.
+/// The nodes of a class's members; its methods come after those of the classes before it.
 fn class_members(
     alloc: Global,
     program: &Program,

@@ -10,7 +10,7 @@ use kr_sources::{Unread, program_of};
 use kr_types::Program;
 use std::alloc::Global;
 
-/// Whether a node stands where the creation does.
+/// Whether a node is at the creation's place.
 fn is_creation(tree: &Tree, node: u32) -> bool
     requires { node < length tree.now.entries }
 {
@@ -36,7 +36,7 @@ fn is_effect(alloc: Global, program: &Program, node: u32) -> Result<bool, NoMemo
     )
 }
 
-/// How many nodes stand where the creation does and have these effects.
+/// How many nodes at the creation's place have these effects.
 fn effects(alloc: Global, program: &Program) -> Result<u32, NoMemory>
     requires program { IsProgram program.now }
     requires alone { length program.now.trees.items ≡ 1 }

@@ -1,11 +1,10 @@
-// `class A { int v = 7; }`: where its members stand, the code of its nodes, and the code of its members.
-ghost use Rattle.std.specs.Prelude.{◌≡◌};
+// `class A { int v = 7; }`: the nodes of its members, the code of its nodes, and the code of its members.
 ghost use Rattle.kr_code_members.specs.Nodes.{AreMemberNodes, AreShaped};
-ghost use Rattle.kr_classes_roster.specs.Rosters.{IsRoster};
+ghost use Rattle.kr_classes_members.specs.Rosters.{IsRoster};
 ghost use Rattle.kr_types.specs.Programs.{IsProgram};
 
 use kr_base::{NoMemory, Place};
-use kr_classes_roster::Roster;
+use kr_classes_members::Roster;
 use kr_code::{Expression, Node};
 use kr_code_bodies::{Bodies, bodies_of};
 use kr_code_lowering::{Links, resolve_nodes};
@@ -103,7 +102,7 @@ fn made_fits(
     Ok(links.len() == 2 && bodies_fit(&made) && is_initialiser(program, nodes.as_slice()))
 }
 
-/// Where the members stand, and their code.
+/// The nodes of the members, and their code.
 fn members_fit(alloc: Global, program: &Program, roster: &Roster) -> Result<(bool, bool), NoMemory>
     requires program { IsProgram program.now }
     requires shaped { AreShaped program.now }

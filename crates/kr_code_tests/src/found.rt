@@ -1,6 +1,7 @@
 // The nodes of one file of one node, found twice.
 ghost use Rattle.std.specs.Prelude.{◌≡◌, ◌<◌, ◌^◌, IfOk, length};
-ghost use Rattle.kr_pure.specs.Found.{AreFound, all_entries};
+ghost use Rattle.kr_pure.specs.Found.{AreFound};
+ghost use Rattle.kr_types.specs.Programs.{all_entries};
 ghost use Rattle.kr_ast.specs.Files.{IsNode};
 
 use kr_ast::{Forest, Node, NodeId, Tree};

@@ -11,7 +11,7 @@ use kr_classes_names::Heads;
 use kr_sources::{Unread, tree_of};
 use std::alloc::Global;
 
-/// What is looked at.
+/// The layers under test.
 #[derive(Clone, Copy)]
 enum Layer {
     Tables,

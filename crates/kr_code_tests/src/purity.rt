@@ -30,13 +30,13 @@ fn is_impure_at(alloc: Global, problem: &Problem, column: Option<u32>) -> bool
     requires shaped { AreShaped problem.now.program }
 {
     match pure(alloc, problem) {
-        Ok(()) => column.is_none(),
+        Ok(_) => column.is_none(),
         Err(PureRefusal::Impure { place }) => column == Some(place.col),
         Err(PureRefusal::NoMemory(_)) => false,
     }
 }
 
-/// The same of the problem of one object of a source's first class.
+/// Likewise of the problem of one object of a source's first class.
 fn is_source_impure_at(alloc: Global, source: &str, column: Option<u32>) -> Result<bool, Unread> {
     let layout = layout(alloc)?;
     let program = program_of(alloc, source)?;

@@ -3,9 +3,8 @@ ghost use Rattle.kr_classes_members.specs.Kept.{AreMembers};
 
 use kr_ast::Tree;
 use kr_base::NoMemory;
-use kr_classes_members::Members;
-use kr_classes_roster::Roster;
-use kr_classes_types::{TypeForm, Types};
+use kr_classes_members::{Members, Roster};
+use kr_classes_names::{TypeForm, Types};
 use kr_pure_effects::{created_classes, overriders};
 use std::alloc::Global;
 

@@ -2,13 +2,12 @@
 ghost use Rattle.std.specs.Prelude.{◌≡◌, ◌∷◌, [], IfOk, codes, map};
 ghost use Rattle.kr_code.specs.Tables.{row_items};
 ghost use Rattle.kr_classes_members.specs.Kept.{AreMembers};
-ghost use Rattle.kr_classes_roster.specs.Rosters.{IsRoster};
+ghost use Rattle.kr_classes_members.specs.Rosters.{IsRoster};
 
 use kr_ast::Tree;
 use kr_base::NoMemory;
-use kr_classes_members::Members;
-use kr_classes_roster::Roster;
-use kr_classes_types::{TypeForm, Types};
+use kr_classes_members::{Members, Roster};
+use kr_classes_names::{TypeForm, Types};
 use kr_code_bodies::Tables;
 use std::alloc::Global;
 
@@ -38,7 +37,7 @@ fn fields_fit(tables: &Tables) -> bool {
 fn instances_fit(tables: &Tables, above: u32, below: u32, array: u32) -> bool {
     has_marks(&tables.instances, above, &[true, true])
         && has_marks(&tables.instances, below, &[false, true])
-        && has_marks(&tables.array_instances, array, &[true])
+        && tables.array_types.as_slice() == [Some(array)].as_slice()
 }
 
 fn methods_fit(tables: &Tables) -> bool {

@@ -1,4 +1,4 @@
--- Members that are apart stay so, and are what was added and not taken away.
+-- Distinct members stay distinct, and are exactly those added and not removed.
 use Rattle.std.specs.Prelude.{◌≡◌, Bool, true, false, ◌||◌, ◌&&◌, not, List, [], ◌∷◌, ◌++◌, if◌then◌else◌, refl}
 use Rattle.std.proofs.Common.{ap, sym, subst, ◌∙◌}
 use Rattle.std.proofs.lemmas.Bool.{eqb-true, eq-eqb}
@@ -29,7 +29,7 @@ same_self Null = refl
 same_flip_true : (a b : Value) → is_same_value a b ≡ true → is_same_value b a ≡ true
 same_flip_true a b e = subst (λ c. is_same_value c a ≡ true) (same_is a b e) (same_self a)
 
--- told apart the other way round too
+-- unequal in the other order too
 same_flip : (a b : Value) → is_same_value a b ≡ false → is_same_value b a ≡ false
 same_flip a b e = go (is_same_value b a) refl where
   go : (t : Bool) → is_same_value b a ≡ t → is_same_value b a ≡ false
@@ -66,7 +66,7 @@ adding_differs : (b : Bool) (xs : List Value) (m : Value) → has_member m xs �
 adding_differs true xs m e d = d
 adding_differs false xs m e d = differ_behind xs m e d
 
--- what is there already is told by the members alone
+-- an item that is there already, by the members alone
 there_already : (xs : List Value) (m n : Value) → has_member m xs ≡ true → is_same_value m n ≡ true → has_member n xs ≡ true
 there_already xs m n e f = subst (λ k. has_member k xs ≡ true) (same_is m n f) e
 
@@ -99,7 +99,7 @@ other_stays false b c d f g = g
 other_than : (x m n : Value) → is_same_value x m ≡ false → is_same_value x n ≡ true → is_same_value m n ≡ false
 other_than x m n e f = same_flip n m (subst (λ k. is_same_value k m ≡ false) (same_is x n f) e)
 
--- what is a member behind the first one, by whether that is the one taken away
+-- a later member, by whether the first one is removed
 removed_behind : (b : Bool) (x : Value) (xs : List Value) (m n : Value) → is_same_value x m ≡ b → has_member x xs ≡ false
     → has_member n (without m xs) ≡ (has_member n xs && not (is_same_value m n))
     → has_member n (if b then xs else x ∷ without m xs) ≡ ((is_same_value x n || has_member n xs) && not (is_same_value m n))

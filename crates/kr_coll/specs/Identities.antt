@@ -1,10 +1,9 @@
--- Between crates: members of sets. They are told apart as the meaning does it: by identity (Java Language Specification
--- 15.21.3).
+-- Between crates: members of sets, compared by identity as in the meaning (Java Language Specification 15.21.3).
 use Rattle.std.specs.Prelude.{◌≡◌, false, List, [], ◌∷◌, ◌++◌, if◌then◌else◌}
 use Rattle.kr_value.specs.declared.value.Value.{Value}
 use Rattle.kr_mean.specs.Collections.{has_member}
 
--- each member is another one
+-- the members are distinct
 abbrev pub Differ : List Value → Type 0
 Differ [] = Unit {0}
 Differ (x ∷ xs) = (has_member x xs ≡ false) × Differ xs

@@ -1,5 +1,4 @@
--- Between crates: what makes lists of members sets: they stay without repetition, and hold exactly what was added and not taken
--- away.
+-- Between crates: lists of members as sets: they stay distinct, and are exactly those added and not removed.
 use Rattle.std.specs.Prelude.{◌≡◌, List, ◌||◌, ◌&&◌, not}
 use Rattle.kr_value.specs.declared.value.Value.{Value}
 use Rattle.kr_mean.specs.Collections.{is_same_value, has_member, without}

@@ -1,5 +1,5 @@
-//! The collections of the library, `HashSet` and `LinkedList`: each is lent the members of one collection of a heap, and
-//! is exactly a set, or a list, of identities.
+//! The library's collections, `HashSet` and `LinkedList`: each is lent the members of one collection of a heap, and is
+//! exactly a set, or a list, of identities.
 #![tactic(auto)]
 
 mod laws;

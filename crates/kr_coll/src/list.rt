@@ -14,7 +14,6 @@ pub struct ListObj<'a> {
 }
 
 impl<'a> ListObj<'a> {
-    /// The list of these members.
     #[inline(always)]
     pub fn of(members: &'a mut Members) -> ListObj<'a>
         ensures same_reference { result.members.ghost_name ≡ members.entry.ghost_name }
@@ -23,7 +22,7 @@ impl<'a> ListObj<'a> {
         ListObj { members }
     }
 
-    /// Adds a member at the end, and answers true. Only this takes memory.
+    /// Adds a member at the end, and returns true. Only this call allocates.
     #[inline(always)]
     pub fn add(&mut self, member: Value) -> Result<bool, NoMemory>
         ensures same_reference { self.new.members.ghost_name ≡ self.old.members.ghost_name }
@@ -42,7 +41,7 @@ impl<'a> ListObj<'a> {
         position_of(self.members.as_slice(), member).is_some()
     }
 
-    /// Takes the first one that is this member away, and says whether there was one.
+    /// Removes the first member that is the same, and reports whether there was one.
     #[inline(always)]
     pub fn remove(&mut self, member: Value) -> bool
         ensures same_reference { self.new.members.ghost_name ≡ self.old.members.ghost_name }
@@ -58,7 +57,7 @@ impl<'a> ListObj<'a> {
         }
     }
 
-    /// Takes the first member away; none where there is none.
+    /// Removes the first member; none if the list is empty.
     #[inline(always)]
     pub fn remove_first(&mut self) -> Option<Value>
         ensures same_reference { self.new.members.ghost_name ≡ self.old.members.ghost_name }

@@ -1,4 +1,4 @@
-// Where a member stands.
+// The position of a member.
 ghost use Rattle.std.specs.Prelude.{◌≡◌, MatchOption};
 ghost use Rattle.std.specs.List.{position};
 ghost use Rattle.kr_mean.specs.Collections.{has_member as is_member, is_same_value};
@@ -32,7 +32,7 @@ fn is_object(value: &Value, object: Obj) -> bool
     }
 }
 
-/// The position of the first one that is this object.
+/// The position of the first member that is this object.
 #[inline(always)]
 fn object_position(members: &[Value], object: Obj) -> Option<usize>
     ensures { result ≡ position (λ x. is_same_value x (Reference object)) members.now }
@@ -40,14 +40,14 @@ fn object_position(members: &[Value], object: Obj) -> Option<usize>
     members.iter().position(|other| is_object(other, object))
 }
 
-/// The position of the first one that is the same value.
+/// The position of the first member that is the same value.
 fn value_position(members: &[Value], member: Value) -> Option<usize>
     ensures { result ≡ position (λ x. is_same_value x member) members.now }
 {
     members.iter().position(|other| is_same(*other, member))
 }
 
-/// The position of the first one that is the same; most members are objects, and their numbers alone tell them apart.
+/// The position of the first equal member; most members are objects, and their numbers alone distinguish them.
 #[inline(always)]
 fn first_position(members: &[Value], member: Value) -> Option<usize>
     ensures { result ≡ position (λ x. is_same_value x member) members.now }
@@ -58,7 +58,7 @@ fn first_position(members: &[Value], member: Value) -> Option<usize>
     }
 }
 
-/// The position of the first one that is this member.
+/// The position of the first equal member.
 pub(crate) fn position_of(members: &[Value], member: Value) -> Option<usize>
     ensures { MatchOption result (IsAbsent members.now member) (λ at. IsFirstAt members.now member at) }
 {

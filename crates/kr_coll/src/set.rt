@@ -15,7 +15,7 @@ pub struct SetObj<'a> {
 }
 
 impl<'a> SetObj<'a> {
-    /// The set of these members. They are a set's where each is another one, which adding and removing keep (`set_law`).
+    /// The set of these members. They form a set if they are distinct, which adding and removing keep (`set_law`).
     #[inline(always)]
     pub fn of(members: &'a mut Members) -> SetObj<'a>
         ensures same_reference { result.members.ghost_name ≡ members.entry.ghost_name }
@@ -24,7 +24,7 @@ impl<'a> SetObj<'a> {
         SetObj { members }
     }
 
-    /// Adds a member, where it is none yet, and says whether it was none. Only this takes memory.
+    /// Adds a member if it is absent, and reports whether it was. Only this call allocates.
     #[inline(always)]
     pub fn add(&mut self, member: Value) -> Result<bool, NoMemory>
         ensures same_reference { self.new.members.ghost_name ≡ self.old.members.ghost_name }
@@ -46,7 +46,7 @@ impl<'a> SetObj<'a> {
         position_of(self.members.as_slice(), member).is_some()
     }
 
-    /// Takes a member away, and says whether it was one.
+    /// Removes a member, and reports whether it was there.
     #[inline(always)]
     pub fn remove(&mut self, member: Value) -> bool
         ensures same_reference { self.new.members.ghost_name ≡ self.old.members.ghost_name }

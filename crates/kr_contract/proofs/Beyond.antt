@@ -1,4 +1,4 @@
--- Two vectors of as many slots are the same behind their ends.
+-- Two vectors of as many slots agree past their ends.
 use Rattle.std.proofs.Common.{◌≡◌, inl, inr, ◌≤◌, ℕ, zero, suc, List, [], ◌∷◌, get_or, length, refl, sym, arith, ◌∙◌}
 use Rattle.kr_build.specs.Renewed.{IsSameBut}
 

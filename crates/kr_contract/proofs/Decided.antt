@@ -1,4 +1,4 @@
--- What is answered of the parts of a test.
+-- The answers of the parts of a test.
 use Rattle.std.proofs.Common.{◌≡◌, ◌<◌, ℕ, ◌+◌, List, [], ◌∷◌, ◌++◌, length, Result, Ok, Err, Option, Some, None, refl, sym, ap, ◌∙◌, subst, append_assoc, get_or}
 use Rattle.std.specs.Prelude.{IfOk, drop, map}
 use Rattle.std.proofs.lemmas.List.{drop_more, map-append}
@@ -9,7 +9,7 @@ use Rattle.kr_mean.specs.declared.kind.Kind.{Kind}
 use Rattle.kr_mean.specs.declared.kind.Verdict.{Verdict}
 use Rattle.kr_mean.specs.declared.kind.Verdict.TheVariants.{CheckTrap, Ensures, RepOk}
 use Rattle.kr_mean.specs.declared.kind.Stop.{Stop}
-use Rattle.kr_mean.specs.Steps.{Old, State, Outcome, give}
+use Rattle.kr_mean.specs.Steps.{Old, State, Outcome}
 use Rattle.kr_mean.specs.Verdicts.{judged_as, then_judged, where_holds}
 use Rattle.kr_code.specs.declared.code.Code.{Code}
 use Rattle.kr_code.specs.Doing.{Doing, IsMeaning}
@@ -44,7 +44,7 @@ module _ (code : Code) (before w : World) (o : Doing → Others → Outcome Valu
 
 -- ---- values of `\old`s
 
--- what is left of the `\old`s, behind values that are there
+-- the rest of the `\old`s, after values that are there
 abbrev pub OldsLead : Code → List OldCode → State → List OldCode → List OldValue → State → Type 0
 OldsLead code all s rest values t =
     (d : Doing) → IsMeaning code d → (next : List Old → State → Verdict) → then_judged CheckTrap (olds_at d all s) next ≡ then_judged CheckTrap (olds_at d rest t) (λ os u. next (map old_of values ++ os) u)
@@ -107,7 +107,7 @@ olds_stop code all s k x values t verdict said w there is lead told =
 
 -- ---- postconditions
 
--- what is left of the postconditions, from a number on
+-- the rest of the postconditions, from a number on
 abbrev pub EnsuredLead : Code → List ℕ → State → ℕ → List ℕ → State → Type 0
 EnsuredLead code all s n rest t = (d : Doing) → IsMeaning code d → ensured_at d 1 all s ≡ ensured_at d n rest t
 
@@ -137,7 +137,7 @@ ensured_stop code all s n k t verdict said w there is lead told =
     ensured_ended code all s n (get_or all k 0) (drop (k + 1) all) t w verdict (subst (λ (is : List ℕ). EnsuredLead code all s n is t) (drop_more all k 0 there) lead)
     (subst (λ (r : Option Verdict). EnsuresHold code r w n (get_or all k 0) t) is told)
 
--- ---- behind the body
+-- ---- after the body
 
 abbrev pub RepOkHolds : Code → Option Verdict → World → ℕ → State → Type 0
 RepOkHolds code said w i t = Holds code said w (λ d next. then_judged CheckTrap (d.value i t) (λ v u. where_holds v RepOk (next u)))

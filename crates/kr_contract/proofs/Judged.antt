@@ -1,5 +1,5 @@
 -- How what is judged of runs follows one another.
-use Rattle.std.proofs.Common.{◌≡◌, Result, Ok, Err, refl, ap}
+use Rattle.std.proofs.Common.{◌≡◌, Result, Ok, Err, refl}
 use Rattle.kr_mean.specs.declared.kind.Kind.{Kind}
 use Rattle.kr_mean.specs.declared.kind.Verdict.{Verdict}
 use Rattle.kr_mean.specs.declared.kind.Stop.{Stop}
@@ -8,7 +8,7 @@ use Rattle.kr_mean.specs.Steps.{State, Outcome, Run, bind, go_on}
 use Rattle.kr_mean.specs.Verdicts.{judged_as, then_judged}
 use Rattle.kr_contract.specs.Tests.{ended_as}
 
--- what follows may be said in another way
+-- the continuation may be replaced by an equal one
 pub judged_same : {A : Type 0} (trap : Kind → Verdict) (r : Result A Stop) (s : State) (f g : A → State → Verdict) → ((a : A) (t : State) → f a t ≡ g a t) → judged_as trap r s f ≡ judged_as trap r s g
 judged_same trap (Ok a) s f g h = h a s
 judged_same trap (Err (Trapped kind)) s f g h = refl

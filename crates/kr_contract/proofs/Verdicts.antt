@@ -22,7 +22,6 @@ use Rattle.kr_code_laws.specs.Laws.{doing_of}
 use Rattle.kr_code_laws.proofs.Resolved.{is_run_by}
 use Rattle.kr_space_layout.specs.Bounds.{Bounds, bare, problem_with}
 use Rattle.kr_judge.specs.Predicates.{IsPredicateOf}
-use Rattle.kr_judge.specs.declared.predicate.Predicate.{Predicate}
 use Rattle.kr_judge_prepared.specs.Tested.{IsCodeFor, IsTestedBy}
 use Rattle.kr_judge_prepared.specs.declared.contract.Contract.{Contract}
 use Rattle.kr_judge_prepared.specs.declared.contract.ProblemCode.{ProblemCode}
@@ -119,7 +118,7 @@ module _ (problem : Problem) (made : ProblemCode) (is : IsCodeFor problem made) 
       go n None h = refl
       go n (Some m) h = absurd h
 
-  -- what the code says in every meaning, with the node of the predicate's first condition
+  -- the code's meaning in every meaning of it, with the node of the predicate's first condition
   tested : (contract : Contract) (root : ℕ) (verdict : Verdict) (start : State) → made.contract ≡ Some contract → start ≡ test_start problem v fuel
       → ((n : Numbering) (e : Node) (es : List Node) → map n.origin made.predicate.conditions.items ≡ e ∷ es → n.origin root ≡ e)
       → ((d : Doing) → IsMeaning made.predicate.code d → verdict ≡ verdict_at made.predicate.code d root contract start) → Some verdict ≡ verdict_with problem v fuel

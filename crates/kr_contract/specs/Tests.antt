@@ -69,12 +69,12 @@ abbrev pub Decides : {A : Type 0} → Code → Result A Verdict → World → (D
 Decides {A} code (Ok a) w judged = IsPlain w × ((d : Doing) → IsMeaning code d → (next : A → State → Verdict) → judged d next ≡ next a (state_of w))
 Decides {A} code (Err v) w judged = (d : Doing) → IsMeaning code d → (next : A → State → Verdict) → judged d next ≡ v
 
--- the same of a condition: where it holds, it is followed
+-- likewise of a condition: where it holds, the test goes on
 abbrev pub Holds : Code → Option Verdict → World → (Doing → (State → Verdict) → Verdict) → Type 0
 Holds code None w judged = IsPlain w × ((d : Doing) → IsMeaning code d → (next : State → Verdict) → judged d next ≡ next (state_of w))
 Holds code (Some v) w judged = (d : Doing) → IsMeaning code d → (next : State → Verdict) → judged d next ≡ v
 
--- what was given stands elsewhere
+-- the result is elsewhere
 abbrev pub given_as : {A B E : Type 0} → B → Result A E → Result B E
 given_as b (Ok a) = Ok b
 given_as b (Err e) = Err e

@@ -11,7 +11,7 @@ use kr_base::NoMemory;
 use kr_build::{build, update_within};
 use kr_heap::Heap;
 use kr_space_layout::Layout;
-use kr_vector::{Slot, Vector};
+use kr_vector::Vector;
 use std::alloc::Global;
 
 /// A heap that is kept from candidate to candidate: where it is built, it is this vector's.
@@ -45,17 +45,6 @@ pub(crate) fn fit(alloc: Global, vector: &mut Vector, slots: u32) -> Result<(), 
     Ok(())
 }
 
-/// Becomes the same candidate.
-fn copy(copy: &mut Vector, layout: &Layout, vector: &Vector)
-    requires vector { IsVector (space_of (bare layout.now)) vector.now }
-    requires long { length copy.old ≡ length (slots (bare layout.now)) }
-    ensures { copy.new ≡ vector.now }
-{
-    'each: for slot in 0..layout.slots() {
-        copy.set(Slot(slot), vector.get(Slot(slot)));
-    }
-}
-
 /// Builds a candidate's heap anew.
 fn build_anew(
     alloc: Global,
@@ -72,7 +61,7 @@ fn build_anew(
     kept.is_built = false;
     fit(alloc, &mut kept.vector, layout.slots())?;
     kept.heap = build(alloc, layout, vector)?;
-    copy(&mut kept.vector, layout, vector);
+    kept.vector.copy_from(vector);
     kept.is_built = true;
     Ok(())
 }

@@ -1,4 +1,4 @@
-//! What a test says of the method under test on a candidate, by its contract: its verdict.
+//! The verdict of the method under test on a candidate, by its contract.
 #![tactic(auto)]
 
 mod heap;

@@ -40,7 +40,7 @@ fn body_ended(end: Stop) -> Verdict
     }
 }
 
-/// What an expression of the contract gives, or the verdict.
+/// The value of an expression of the contract, or the verdict.
 fn evaluate(
     alloc: Global,
     code: &Code,
@@ -122,7 +122,7 @@ fn take_values(values: &mut Vec<Value>, locals: &[Local]) -> Result<(), NoMemory
     Ok(())
 }
 
-/// What the method gives on `this`, with the locals as its arguments, or the verdict.
+/// The result of the method on `this`, with the locals as its arguments, or the verdict.
 pub(crate) fn run_body(
     alloc: Global,
     code: &Code,
@@ -151,7 +151,7 @@ pub(crate) fn run_body(
     }
 }
 
-/// The verdict of the postconditions: the first that doesn't hold says it.
+/// The verdict of the postconditions: by the first that doesn't hold.
 pub(crate) fn check_all(
     alloc: Global,
     code: &Code,

@@ -1,5 +1,5 @@
 // The world in which a test begins.
-ghost use Rattle.std.specs.Prelude.{◌≡◌, ◌<◌, ◌^◌, ◌++◌, OnOk, length, map};
+ghost use Rattle.std.specs.Prelude.{◌≡◌, ◌<◌, ◌^◌, OnOk, length, map};
 ghost use Rattle.kr_mean.specs.Heaps.{heap_of, value_at};
 ghost use Rattle.kr_mean.specs.Problem.{slots};
 ghost use Rattle.kr_mean.specs.Runs.{parameter_values};
@@ -13,28 +13,13 @@ ghost use Rattle.kr_contract.specs.Tests.{IsPlain};
 
 use kr_base::NoMemory;
 use kr_heap::Heap;
-use kr_run_state::{Local, Reads, World};
+use kr_run_state::{Local, World};
 use kr_space_layout::Layout;
 use kr_value::Value;
 use kr_vector::{Slot, Vector};
 use std::alloc::Global;
 
-/// A world without anything. It takes no memory.
-pub(crate) fn blank(alloc: Global) -> World {
-    World {
-        this: Value::Null,
-        locals: Vec::new(alloc),
-        result: None,
-        olds: Vec::new(alloc),
-        candidates: Heap::new(alloc),
-        made: Heap::new(alloc),
-        is_frozen: true,
-        fuel: 0,
-        reads: Reads::new(alloc),
-    }
-}
-
-/// What a candidate has at a slot.
+/// The value of a candidate at a slot.
 fn value_in(layout: &Layout, vector: &Vector, slot: u32) -> Value
     requires vector { IsVector (space_of (bare layout.now)) vector.now }
     requires slot { slot < length (slots (bare layout.now)) }

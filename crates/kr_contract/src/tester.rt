@@ -1,5 +1,5 @@
 // The verdicts of a problem's method under test.
-ghost use Rattle.std.specs.Prelude.{◌≡◌, ◌∷◌, IfOk, IsSome, List, OnOk, Some, length, map};
+ghost use Rattle.std.specs.Prelude.{◌≡◌, ◌∷◌, IfOk, IsSome, List, Some, map};
 ghost use Rattle.kr_code.specs.Resolved.{Numbering};
 ghost use Rattle.kr_mean.specs.Code.{Node};
 ghost use Rattle.kr_mean.specs.Runs.{tested_method};
@@ -9,22 +9,21 @@ ghost use Rattle.kr_space_layout.specs.Bounds.{bare};
 ghost use Rattle.kr_space_problem.specs.Posed.{posed};
 ghost use Rattle.kr_contract.specs.Kept.{IsKept};
 
-use crate::heap::{Kept, bring, fit};
-use crate::start::{begin, blank};
+use crate::heap::{Kept, bring};
+use crate::start::begin;
 use crate::trial::test;
 use kr_base::NoMemory;
-use kr_judge::Predicate;
+use kr_judge::{Predicate, blank_world};
 use kr_judge_prepared::{Contract, Prepared};
 use kr_mean::Verdict;
 use kr_run_frames::Stack;
 use kr_run_state::{Old, World};
-use kr_step::Candidates;
 use kr_value::Value;
-use kr_vector::{Slot, Vector};
+use kr_vector::Vector;
 use std::alloc::Global;
 use std::marker::Model;
 
-/// What is kept from test to test: the heap of a candidate, a world, a stack, and lists.
+/// Rooms that are kept from test to test: the heap of a candidate, a world, a stack, and lists.
 #[derive(Drop)]
 pub struct Rooms {
     pub kept: Kept,
@@ -41,8 +40,6 @@ pub struct Tester<'p> {
     alloc: Global,
     prepared: &'p Prepared,
     rooms: Rooms,
-    // the vector of a candidate that stands
-    vector: Vector,
 }
 
 impl<'p> Model for Tester<'p> {
@@ -130,62 +127,22 @@ fn verdict_with_fuel(
     }
 }
 
-/// Becomes the vector of a candidate that stands.
-fn take<C: Candidates>(vector: &mut Vector, slots: u32, candidate: &C)
-    requires long { slots ≡ length (C.vector candidate.now) }
-    requires fits { length vector.old ≡ slots }
-    ensures { vector.new ≡ C.vector candidate.now }
-{
-    for slot in 0..slots {
-        vector.set(Slot(slot), candidate.index(slot));
-    }
-}
-
-/// The verdict on the candidate that stands, with the problem's fuel, where a method is tested.
-fn verdict_on<C: Candidates>(
-    alloc: Global,
-    prepared: &Prepared,
-    rooms: &mut Rooms,
-    room: &mut Vector,
-    candidate: &C,
-) -> Result<Option<Verdict>, NoMemory>
-    requires vector { IsVector (space_of (posed prepared.now.problem)) (C.vector candidate.now) }
-    requires kept { IsKept (bare prepared.now.problem.layout) rooms.old.kept }
-    ensures kept { IsKept (bare prepared.now.problem.layout) rooms.new.kept }
-    ensures verdict { IfOk result (λ verdict. verdict ≡ verdict_of (posed prepared.now.problem) (C.vector candidate.now)) }
-{
-    let _ = prepared.predicate();
-    match prepared.contract() {
-        None => Ok(None),
-        Some(contract) => {
-            let layout = prepared.layout();
-            let slots = layout.slots();
-            fit(alloc, room, slots)?;
-            take(room, slots, candidate);
-            let verdict = judge(alloc, prepared, contract, rooms, &*room, layout.fuel())?;
-            Ok(Some(verdict))
-        }
-    }
-}
-
 impl<'p> Tester<'p> {
     /// Nothing is tested yet. It takes no memory.
     pub fn new(alloc: Global, prepared: &'p Prepared) -> Result<Tester<'p>, NoMemory>
         ensures { IfOk result (λ tester. tester ≡ prepared.now) }
     {
         let kept = Kept::new(alloc)?;
-        let vector = Vector::zero(alloc, 0)?;
         Ok(Tester {
             alloc,
             prepared,
             rooms: Rooms {
                 kept,
-                world: blank(alloc),
+                world: blank_world(alloc),
                 stack: Stack::new(alloc),
                 olds: Vec::new(alloc),
                 arguments: Vec::new(alloc),
             },
-            vector,
         })
     }
 
@@ -199,19 +156,14 @@ impl<'p> Tester<'p> {
         verdict_with_fuel(self.alloc, self.prepared, &mut self.rooms, vector, fuel)
     }
 
-    /// The verdict on the candidate that stands, with the problem's fuel; none where a problem is listed: then nothing is done.
-    pub fn verdict_on<C: Candidates>(&mut self, candidate: &C) -> Result<Option<Verdict>, NoMemory>
-        requires vector { IsVector (space_of (posed self.old.problem)) (C.vector candidate.now) }
-        ensures verdict { IfOk result (λ verdict. verdict ≡ verdict_of (posed self.old.problem) (C.vector candidate.now)) }
+    /// The verdict on a candidate, with the problem's fuel; none where a problem is listed: then nothing is done.
+    pub fn verdict_on(&mut self, vector: &Vector) -> Result<Option<Verdict>, NoMemory>
+        requires vector { IsVector (space_of (posed self.old.problem)) vector.now }
+        ensures verdict { IfOk result (λ verdict. verdict ≡ verdict_of (posed self.old.problem) vector.now) }
         ensures same { self.new ≡ self.old }
     {
-        verdict_on(
-            self.alloc,
-            self.prepared,
-            &mut self.rooms,
-            &mut self.vector,
-            candidate,
-        )
+        let fuel = self.prepared.layout().fuel();
+        verdict_with_fuel(self.alloc, self.prepared, &mut self.rooms, vector, fuel)
     }
 }
 

@@ -16,7 +16,7 @@ use kr_run_state::{Old, World};
 use kr_value::Value;
 use std::alloc::Global;
 
-/// What the postconditions see beside the world: the result, and the values of `\old`s.
+/// The environment of the postconditions beside the world: the result, and the values of `\old`s.
 fn show(world: &mut World, olds: &[Old], given: Value) -> Result<(), NoMemory>
     requires { IsPlain world.old }
     ensures plain { IsPlain world.new }
@@ -27,7 +27,7 @@ fn show(world: &mut World, olds: &[Old], given: Value) -> Result<(), NoMemory>
     Ok(())
 }
 
-/// The verdict behind the body: `this.repOk()`, and then the postconditions.
+/// The verdict after the body: `this.repOk()`, and then the postconditions.
 fn check_behind(
     alloc: Global,
     code: &Code,
@@ -51,8 +51,8 @@ fn check_behind(
     }
 }
 
-/// The verdict of a test, in the world in which it begins: the values of `\old`s, the body, and what is checked behind it, with
-/// one fuel for all. The lists are room that is used again.
+/// The verdict of a test, in the world in which it begins: the values of `\old`s, the body, and the checks after it, with one
+/// fuel for all. The lists are rooms that are used again.
 pub(crate) fn test(
     alloc: Global,
     code: &Code,

@@ -2,4 +2,10 @@
 #![tactic(auto)]
 
 #[cfg(test)]
+mod composed;
+#[cfg(test)]
+mod problems;
+#[cfg(test)]
+mod random;
+#[cfg(test)]
 mod rows;

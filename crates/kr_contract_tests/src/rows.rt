@@ -29,7 +29,7 @@ fn is_tested(prepared: &Prepared) -> bool
     }
 }
 
-/// Whether both calls say this verdict.
+/// Whether both calls give this verdict.
 fn says(
     alloc: Global,
     prepared: &Prepared,
@@ -92,7 +92,7 @@ fn judge_all(rt: &impl Abort, alloc: Global, prepared: &Prepared) -> Result<(), 
     judge_rows(rt, alloc, prepared, &mut tester, &mut vector)
 }
 
-/// The same of a problem that ends here.
+/// Likewise of a problem, which is dropped here.
 fn judge_once(rt: &impl Abort, alloc: Global, prepared: Prepared) -> Result<(), NoMemory> {
     judge_all(rt, alloc, &prepared)
 }

@@ -8,7 +8,7 @@ use Rattle.kr_base.specs.Bounds.{less}
 use Rattle.kr_base.specs.Entries.{within, NoneSpent}
 use Rattle.kr_base.proofs.Bounds.{irreflexive, transitive}
 use Rattle.kr_core.specs.declared.segment.Segment.{Segment}
-use Rattle.kr_core.specs.States.{capped}
+use Rattle.kr_base.specs.Causes.{capped}
 use Rattle.kr_core.specs.Openings.{AscendBetween, AreInside, untouched, segments_at, end_of, opening}
 use Rattle.kr_core.specs.Kept.{first_after}
 use Rattle.kr_core.proofs.Spent.{not_both, within-none}

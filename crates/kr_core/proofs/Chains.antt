@@ -5,7 +5,8 @@ use Rattle.kr_base.specs.declared.entry.Entry.{Entry}
 use Rattle.kr_base.specs.Bounds.{less}
 use Rattle.kr_base.specs.Entries.{within, NoneSpent}
 use Rattle.kr_core.specs.declared.segment.Segment.{Segment}
-use Rattle.kr_core.specs.States.{capped, has_remainder, is_owned, is_closed, segment_of, change, Each}
+use Rattle.kr_base.specs.Causes.{capped}
+use Rattle.kr_core.specs.States.{has_remainder, is_owned, is_closed, segment_of, change, Each}
 use Rattle.kr_core.specs.Kept.{first_after}
 use Rattle.kr_core.specs.Counts.{EndsSpent}
 

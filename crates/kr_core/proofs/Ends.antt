@@ -14,7 +14,8 @@ use Rattle.kr_base.proofs.Bounds.{irreflexive, connected, not_above}
 use Rattle.kr_core.specs.declared.segment.Segment.{Segment}
 use Rattle.kr_core.specs.declared.event.Event.{Event}
 use Rattle.kr_core.specs.declared.event.Event.TheVariants.{Take, Steal, Report, GiveUp, Drain, StopAt, Look}
-use Rattle.kr_core.specs.States.{State, capped, has_remainder, is_owned, is_closed, Each}
+use Rattle.kr_base.specs.Causes.{capped}
+use Rattle.kr_core.specs.States.{State, has_remainder, is_owned, is_closed, Each}
 use Rattle.kr_core.specs.Openings.{end_of}
 use Rattle.kr_core.specs.Kept.{NumbersDiffer, Adjoin, beginning, IsLastClosed, IsKept, KeptLaw}
 use Rattle.kr_core.specs.Counts.{IsSpentFlag, HonestRuns, counted, IsCounted, last_stop, AllClosed, IsListed, CountingLaw}

@@ -3,7 +3,8 @@ use Rattle.std.proofs.Common.{◌≡◌, ℕ, suc, ◌+◌, ◌-◌, ◌^◌, �
 use Rattle.std.specs.List.{sum_by}
 use Rattle.std.proofs.lemmas.List.{at_drop_all}
 use Rattle.kr_core.specs.declared.segment.Segment.{Segment}
-use Rattle.kr_core.specs.States.{capped, is_closed}
+use Rattle.kr_base.specs.Causes.{capped}
+use Rattle.kr_core.specs.States.{is_closed}
 use Rattle.kr_core.specs.Steps.{front, gone, left}
 
 abbrev pub rows_in : List Segment → ℕ

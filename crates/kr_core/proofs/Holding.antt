@@ -5,7 +5,7 @@ use Rattle.std.specs.Option.{option_map}
 use Rattle.std.proofs.lemmas.Bool.Decides.{nat_tests}
 use Rattle.kr_base.specs.declared.span.Bound.{Bound}
 use Rattle.kr_base.specs.declared.span.Bound.TheVariants.{At}
-use Rattle.kr_base.specs.Bounds.{less}
+use Rattle.kr_base.specs.Bounds.{less, is_cut}
 use Rattle.kr_base.proofs.Bounds.{irreflexive}
 use Rattle.kr_core.specs.declared.segment.Segment.{Segment}
 use Rattle.kr_core.specs.declared.event.Event.{Event}
@@ -13,7 +13,7 @@ use Rattle.kr_core.specs.declared.event.Event.TheVariants.{Take, Steal, Report, 
 use Rattle.kr_core.specs.declared.event.Lease.{Lease}
 use Rattle.kr_core.specs.declared.event.Reply.{Reply}
 use Rattle.kr_core.specs.declared.event.Reply.TheVariants.{Lease as Leased, Go, Done, Noted}
-use Rattle.kr_core.specs.States.{State, is_cut, has_remainder, is_owned, is_owned_by, is_closed, segment_of, change, Each}
+use Rattle.kr_core.specs.States.{State, has_remainder, is_owned, is_owned_by, is_closed, segment_of, change, Each}
 use Rattle.kr_core.specs.Openings.{segments_at, end_of, opening}
 use Rattle.kr_core.specs.Steps.{Step, after, may_take, may_steal, may_report, may_give_up, may_stop, owned, lowered, stolen, scanned, left, stopped, IsLease, IsLeased, IsReported}
 use Rattle.kr_core.specs.Kept.{Runs, NumbersDiffer, IsKept}

@@ -11,7 +11,8 @@ use Rattle.kr_core.specs.declared.event.Event.TheVariants.{Take, Steal, Report, 
 use Rattle.kr_core.specs.declared.event.Reply.{Reply}
 use Rattle.kr_core.specs.declared.event.Reply.TheVariants.{Lease as Leased, Go, Done, Noted}
 use Rattle.kr_core.specs.declared.segment.Segment.{Segment}
-use Rattle.kr_core.specs.States.{State, has_remainder, is_owned, segment_of, change, capped}
+use Rattle.kr_base.specs.Causes.{capped}
+use Rattle.kr_core.specs.States.{State, has_remainder, is_owned, segment_of, change}
 use Rattle.kr_core.specs.Steps.{Step, fits, after, replay, IsReply, IsLeased, IsReported, may_take, may_steal, may_report, owned, stolen, scanned}
 use Rattle.kr_core.specs.Logs.{ReplayLaw, GrowthLaw}
 use Rattle.kr_core.proofs.Bools.{and-left}

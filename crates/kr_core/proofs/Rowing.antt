@@ -14,7 +14,8 @@ use Rattle.kr_core.specs.declared.segment.Segment.{Segment}
 use Rattle.kr_core.specs.declared.event.Event.{Event}
 use Rattle.kr_core.specs.declared.event.Event.TheVariants.{Take, Steal, Report, GiveUp, Drain, StopAt, Look}
 use Rattle.kr_core.specs.declared.event.Reply.{Reply}
-use Rattle.kr_core.specs.States.{State, capped, is_closed, segment_of, change, Each}
+use Rattle.kr_base.specs.Causes.{capped}
+use Rattle.kr_core.specs.States.{State, is_closed, segment_of, change, Each}
 use Rattle.kr_core.specs.Openings.{segments_at, end_of, opening}
 use Rattle.kr_core.specs.Steps.{Step, fits, after, owned, lowered, stolen, scanned, front, left, stopped}
 use Rattle.kr_core.specs.Kept.{first_after}

@@ -14,7 +14,8 @@ use Rattle.kr_core.specs.declared.segment.Segment.{Segment}
 use Rattle.kr_core.specs.declared.event.Event.{Event}
 use Rattle.kr_core.specs.declared.event.Event.TheVariants.{Take, Steal, Report, GiveUp, Drain, StopAt, Look}
 use Rattle.kr_core.specs.declared.event.Reply.{Reply}
-use Rattle.kr_core.specs.States.{State, capped, has_remainder, is_owned, is_closed, segment_of, change}
+use Rattle.kr_base.specs.Causes.{capped}
+use Rattle.kr_core.specs.States.{State, has_remainder, is_owned, is_closed, segment_of, change}
 use Rattle.kr_core.specs.Steps.{Step, may_take, may_steal, may_report, may_give_up, may_stop, gone, left, stopped, owned, scanned, lowered, stolen}
 use Rattle.kr_core.specs.Kept.{Runs}
 use Rattle.kr_core.specs.Counts.{EndsSpent, TellsFrom, IsHonest, HonestRuns}

@@ -7,7 +7,8 @@ use Rattle.kr_base.specs.Bounds.{less}
 use Rattle.kr_base.specs.Entries.{Ascends, within, NoneSpent}
 use Rattle.kr_base.proofs.Bounds.{irreflexive, not_above}
 use Rattle.kr_core.specs.declared.segment.Segment.{Segment}
-use Rattle.kr_core.specs.States.{capped, has_remainder, is_owned, is_owned_by, is_closed, segment_of, change}
+use Rattle.kr_base.specs.Causes.{capped}
+use Rattle.kr_core.specs.States.{has_remainder, is_owned, is_owned_by, is_closed, segment_of, change}
 use Rattle.kr_core.specs.Steps.{may_report, owned, lowered, stolen, scanned}
 use Rattle.kr_core.specs.Kept.{first_after}
 use Rattle.kr_core.specs.Counts.{EndsSpent}

@@ -1,4 +1,4 @@
--- Between crates: what the machine counts, where its events say what the entries are: every interleaving counts each entry once.
+-- To be believed: what the machine counts, where its events say what the entries are: every interleaving counts each entry once.
 use Rattle.std.specs.Prelude.{ℕ, ◌+◌, ◌≡◌, List, [], ◌∷◌, ◌++◌, Bool, true, false, Option, Some, None, length}
 use Rattle.std.specs.List.{sum_by, count_by, flat_map}
 use Rattle.kr_base.specs.declared.span.Bound.{Bound}
@@ -11,7 +11,8 @@ use Rattle.kr_core.specs.declared.segment.Segment.{Segment}
 use Rattle.kr_core.specs.declared.event.Event.{Event}
 use Rattle.kr_core.specs.declared.event.Event.TheVariants.{Take, Steal, Report, GiveUp, Drain, StopAt, Look}
 use Rattle.kr_core.specs.declared.event.Reply.{Reply}
-use Rattle.kr_core.specs.States.{State, capped, is_closed, segment_of, Each}
+use Rattle.kr_base.specs.Causes.{capped}
+use Rattle.kr_core.specs.States.{State, is_closed, segment_of, Each}
 use Rattle.kr_core.specs.Openings.{AreInside, opening, end_of}
 use Rattle.kr_core.specs.Steps.{Step}
 use Rattle.kr_core.specs.Kept.{beginning}

@@ -1,4 +1,4 @@
--- Between crates: the state that a span and its cuts begin in.
+-- To be believed: the state that a span and its cuts begin in.
 use Rattle.std.specs.Prelude.{ℕ, ◌+◌, ◌≡◌, List, [], ◌∷◌, true, false, if◌then◌else◌, None, length}
 use Rattle.kr_base.specs.declared.span.Bound.{Bound}
 use Rattle.kr_base.specs.declared.span.Bound.TheVariants.{At}

@@ -9,7 +9,8 @@ use Rattle.kr_base.specs.Entries.{Ascends, is_valid, within}
 use Rattle.kr_core.specs.declared.segment.Segment.{Segment}
 use Rattle.kr_core.specs.declared.event.Event.{Event}
 use Rattle.kr_core.specs.declared.event.Event.TheVariants.{Take, Steal, Report, GiveUp, Drain, StopAt, Look}
-use Rattle.kr_core.specs.States.{State, capped, Each}
+use Rattle.kr_base.specs.Causes.{capped}
+use Rattle.kr_core.specs.States.{State, Each}
 use Rattle.kr_core.specs.Openings.{AreInside, opening}
 use Rattle.kr_core.specs.Counts.{HonestRuns, counted}
 

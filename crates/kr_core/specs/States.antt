@@ -1,4 +1,4 @@
--- Between crates: the machine's state, and the words for its segments.
+-- To be believed: the machine's state, and the words for its segments.
 use Rattle.std.specs.Prelude.{ℕ, suc, ◌-◌, ◌^◌, List, [], ◌∷◌, Bool, true, false, ◌&&◌, not, ◌==◌, if◌then◌else◌, Option, Some, None, min}
 use Rattle.kr_base.specs.declared.span.Bound.{Bound}
 use Rattle.kr_base.specs.declared.span.Bound.TheVariants.{At, End}
@@ -13,18 +13,6 @@ pub record State : Type 0 where
   pub past : ℕ
   pub end : Bound
   pub spent : Bool
-
--- a count stands still at the last number of 64 bits
-abbrev pub capped : ℕ → ℕ
-capped n = min n (2 ^ 64 - 1)
-
-abbrev pub is_cut : Bound → Bool
-is_cut (At cut) = true
-is_cut End = false
-
--- neither stands before the other
-abbrev pub is_same : Bound → Bound → Bool
-is_same a b = not (less a b) && not (less b a)
 
 abbrev pub has_remainder : Segment → Bool
 has_remainder s = less s.mark s.upto

@@ -1,17 +1,18 @@
--- Between crates: the steps of the machine: of each event, where it fits, the new state and the reply.
+-- To be believed: the steps of the machine: of each event, where it fits, the new state and the reply.
 use Rattle.std.specs.Prelude.{ℕ, ◌+◌, ◌-◌, ◌^◌, ◌≡◌, List, [], ◌∷◌, Bool, true, false, ◌&&◌, ◌||◌, not, ◌==◌, nat_lt, nat_le, if◌then◌else◌, Option, Some, None, length}
 use Rattle.std.specs.List.{sum_by}
 use Rattle.std.specs.Option.{option_map}
 use Rattle.kr_base.specs.declared.span.Bound.{Bound}
 use Rattle.kr_base.specs.declared.span.Bound.TheVariants.{At}
-use Rattle.kr_base.specs.Bounds.{less}
+use Rattle.kr_base.specs.Bounds.{less, is_cut, is_same}
 use Rattle.kr_core.specs.declared.segment.Segment.{Segment}
 use Rattle.kr_core.specs.declared.event.Event.{Event}
 use Rattle.kr_core.specs.declared.event.Event.TheVariants.{Take, Steal, Report, GiveUp, Drain, StopAt, Look}
 use Rattle.kr_core.specs.declared.event.Lease.{Lease}
 use Rattle.kr_core.specs.declared.event.Reply.{Reply}
 use Rattle.kr_core.specs.declared.event.Reply.TheVariants.{Lease as Leased, Go, Done, Noted}
-use Rattle.kr_core.specs.States.{State, capped, is_cut, is_same, has_remainder, is_owned, is_owned_by, is_closed, segment_of, change}
+use Rattle.kr_base.specs.Causes.{capped}
+use Rattle.kr_core.specs.States.{State, has_remainder, is_owned, is_owned_by, is_closed, segment_of, change}
 
 -- Take
 

@@ -1,7 +1,8 @@
-// What a step writes in the segments.
+// Changes of the segments.
 ghost use Rattle.std.specs.Prelude.{◌≡◌, ◌<◌, ◌≤◌, true, false, [], ◌∷◌, length, drop, vec_len, vec_capacity};
 ghost use Rattle.std.specs.List.{sum_by};
-ghost use Rattle.kr_core.specs.States.{capped, change};
+ghost use Rattle.kr_base.specs.Causes.{capped};
+ghost use Rattle.kr_core.specs.States.{change};
 ghost use Rattle.kr_core.specs.Steps.{owned, lowered, stolen, scanned, gone, left, stopped};
 ghost use Rattle.kr_core.specs.Reaches.{owner_behind};
 
@@ -19,7 +20,7 @@ pub fn set_owner(segments: &mut Vec<Segment>, number: u64, owner: Option<u32>)
     }
 }
 
-/// The victim ends at the cut, and what is behind it is a segment of the seat. `after` and `mark` are the same cut.
+/// The victim ends at the cut, and the rest of it is a segment of the seat. `after` and `mark` are the same cut.
 pub fn cut_segment(
     segments: &mut Vec<Segment>,
     victim: u64,
@@ -90,7 +91,7 @@ pub fn end_at(
     }
 }
 
-/// How many closed segments stand at the front, the last of all not among them.
+/// The number of closed segments at the front, the last of all not counted.
 pub fn gone_count(segments: &[Segment]) -> usize
     ensures { result ≡ length (gone segments.now) }
 {
@@ -102,7 +103,7 @@ pub fn gone_count(segments: &[Segment]) -> usize
     count
 }
 
-/// What was tried in the segments.
+/// The number of candidates tried in the segments.
 pub fn tried_of(segments: &[Segment]) -> u64
     ensures { result ≡ capped (sum_by (λ s. s.tried) segments.now) }
 {

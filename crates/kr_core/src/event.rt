@@ -1,8 +1,8 @@
-// What the machine is told, and what it answers.
+// Events, and the replies to them.
 
 use kr_base::{Bound, Cut};
 
-/// What happens to the segments. Seats are the workers' numbers, and segments go by their numbers.
+/// An event. Seats are the workers' numbers, and segments go by their numbers.
 #[derive(Drop)]
 pub enum Event {
     /// The seat becomes the owner of a segment.
@@ -46,7 +46,7 @@ pub enum Event {
     },
 }
 
-/// What a seat has to scan: a segment from its mark on.
+/// A part that a seat is to scan: a segment from its mark on.
 #[derive(Drop)]
 pub struct Lease {
     pub seat: u32,
@@ -55,7 +55,7 @@ pub struct Lease {
     pub upto: Bound,
 }
 
-/// What the machine answers an event that it took.
+/// The reply to an event that was taken.
 #[derive(Drop)]
 pub enum Reply {
     /// The lease of the segment that was taken or stolen.

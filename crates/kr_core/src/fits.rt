@@ -1,14 +1,16 @@
 // Where an event fits: the cases of the step relation, asked of the segments.
 ghost use Rattle.std.specs.Prelude.{◌≡◌, ◌<◌, IfSome, IfNone, length, if◌then◌else◌, ◌&&◌, nat_lt, nat_le};
 ghost use Rattle.std.specs.List.{sum_by};
-ghost use Rattle.kr_core.specs.States.{capped, is_cut, segment_of, place_of};
+ghost use Rattle.kr_base.specs.Causes.{capped};
+ghost use Rattle.kr_base.specs.Bounds.{is_cut};
+ghost use Rattle.kr_core.specs.States.{segment_of, place_of};
 ghost use Rattle.kr_core.specs.Steps.{may_take, may_steal, may_report, may_give_up, may_stop, front};
 
 use crate::Segment;
-use crate::bounds::{is_at, is_before, is_behind, is_cut};
+use crate::bounds::is_at;
 use kr_base::{Bound, Cut};
 
-/// Where the segment of that number stands.
+/// The place of the segment of that number.
 pub fn place(segments: &[Segment], number: u64) -> Option<usize>
     ensures none { IfNone result (segment_of number segments.now ≡ None) }
     ensures some { IfSome result (λ i. (i ≡ place_of number segments.now) × (i < length segments.now)) }
@@ -42,14 +44,14 @@ pub fn may_take(segments: &[Segment], number: u64) -> bool
     }
 }
 
-/// Steal: it has an owner, and the cut stands between its mark and its upto.
+/// Steal: it has an owner, and the cut is between its mark and its upto.
 pub fn may_steal(segments: &[Segment], victim: u64, cut: &Cut) -> bool
     ensures { result ≡ may_steal cut.now (segment_of victim segments.now) }
 {
     match segment_of(segments, victim) {
         None => false,
         Some(segment) => {
-            segment.is_owned() && is_before(&segment.mark, cut) && is_behind(&segment.upto, cut)
+            segment.is_owned() && segment.mark.is_below_cut(cut) && segment.upto.is_above_cut(cut)
         }
     }
 }
@@ -58,7 +60,7 @@ fn counts_fit(reach: &Bound, rows: u64, tried: u64, spent: bool) -> bool
     ensures { result ≡ (if spent then is_cut reach.now && nat_lt rows tried else nat_le rows tried) }
 {
     if spent {
-        is_cut(reach) && rows < tried
+        reach.is_cut() && rows < tried
     } else {
         rows <= tried
     }

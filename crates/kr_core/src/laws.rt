@@ -1,4 +1,4 @@
-// What holds of every run of the machine.
+// Laws of every run of the machine.
 ghost use Rattle.kr_core.specs.Kept.{KeptLaw};
 ghost use Rattle.kr_core.specs.Counts.{CountingLaw};
 ghost use Rattle.kr_core.specs.Rows.{RowsLaw};
@@ -36,7 +36,7 @@ pub fn owners_law()
     ensures { OwnersLaw }
 {}
 
-/// What an event answers: a lease is the seat's, of the segment as it then stands.
+/// A lease that is answered is the seat's, of the segment as it is then.
 pub fn leases_law()
     ensures { LeasesLaw }
 {}

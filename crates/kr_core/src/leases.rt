@@ -34,7 +34,7 @@ pub fn lease_of(segments: &[Segment], seat: u32, number: u64) -> Result<Lease, N
     lease(seat, segment.number, mark, &segment.upto)
 }
 
-/// The lease of what is behind the cut in a segment that may be stolen from, under its new number.
+/// The lease of the rest after the cut, in a segment that may be stolen from, under its new number.
 pub fn lease_behind(
     segments: &[Segment],
     seat: u32,

@@ -1,7 +1,8 @@
 // The machine: its state, and one step for an event.
 ghost use Rattle.std.specs.Prelude.{◌≡◌, ◌+◌, ◌<◌, ◌↔◌, true, IsTrue, IfOk, OnErr, IfErr, IfSome, IfNone, length};
 ghost use Rattle.std.specs.List.{sum_by};
-ghost use Rattle.kr_core.specs.States.{capped, segment_of, place_of};
+ghost use Rattle.kr_base.specs.Causes.{capped};
+ghost use Rattle.kr_core.specs.States.{segment_of, place_of};
 ghost use Rattle.kr_core.specs.Steps.{Step, fits, front, gone};
 ghost use Rattle.kr_core.specs.Refusals.{IsRefused};
 ghost use Rattle.kr_core.specs.Openings.{opening, AreInside};
@@ -72,7 +73,7 @@ impl Core {
         })
     }
 
-    /// Whether a span can be opened with these cuts: they ascend strictly and stand strictly inside it.
+    /// Whether a span can be opened with these cuts: they ascend strictly and are strictly inside it.
     pub fn can_open(span: &Span, cuts: &[Cut]) -> bool
         ensures { IsTrue result ↔ AreInside cuts.now span.now }
     {
@@ -245,7 +246,7 @@ impl Core {
         self.segments.as_slice()
     }
 
-    /// Where the segment of that number stands.
+    /// The place of the segment of that number.
     pub fn place(&self, number: u64) -> Option<usize>
         ensures none { IfNone result (segment_of number self.now.segments ≡ None) }
         ensures some { IfSome result (λ i. (i ≡ place_of number self.now.segments) × (i < length self.now.segments)) }

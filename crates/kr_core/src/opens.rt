@@ -4,7 +4,6 @@ ghost use Rattle.kr_base.specs.Bounds.{less};
 ghost use Rattle.kr_core.specs.Openings.{AreInside, segments_at, untouched, end_of};
 
 use crate::Segment;
-use crate::bounds::is_behind;
 use kr_base::{Bound, Cut, NoMemory, Span};
 use std::alloc::Global;
 
@@ -12,7 +11,7 @@ use std::alloc::Global;
 pub fn end_of(span: &Span) -> Result<Bound, NoMemory>
     ensures { IfOk result (λ end. end ≡ end_of span.now) }
 {
-    if is_behind(&span.upto, &span.after) {
+    if span.upto.is_above_cut(&span.after) {
         span.upto.try_clone()
     } else {
         Ok(Bound::At(span.after.try_clone()?))
@@ -59,10 +58,10 @@ pub fn segments_at(
 fn is_between(begin: &Cut, cut: &Cut, upto: &Bound) -> bool
     ensures { result ≡ (less (Bound.At begin.now) (Bound.At cut.now) && less (Bound.At cut.now) upto.now) }
 {
-    begin.is_below(cut) && is_behind(upto, cut)
+    begin.is_below(cut) && upto.is_above_cut(cut)
 }
 
-/// Whether the cuts ascend strictly and stand strictly inside the span.
+/// Whether the cuts ascend strictly and are strictly inside the span.
 pub fn are_inside(cuts: &[Cut], span: &Span) -> bool
     ensures { IsTrue result ↔ AreInside cuts.now span.now }
 {

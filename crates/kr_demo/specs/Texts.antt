@@ -1,7 +1,7 @@
 -- To be believed: the texts of the demo, line by line.
 use Rattle.std.specs.Prelude.{ℕ, List, ◌++◌, codes, decimal}
 
--- the source, before and behind the number of nodes
+-- the source, before and after the number of nodes
 abbrev pub source_front : List ℕ
 source_front =
     codes "import java.util.*;\n" ++
@@ -40,7 +40,7 @@ source_back =
 abbrev pub source_text : ℕ → List ℕ
 source_text n = source_front ++ decimal n ++ source_back
 
--- the finitization, before and behind the number of nodes
+-- the finitization, before and after the number of nodes
 abbrev pub finitization_front : List ℕ
 finitization_front =
     codes "root = \"Tree\"\n" ++

@@ -33,7 +33,7 @@ class Tree {
     }
     return seen.size() == ";
 
-/// What follows it.
+/// The text after it.
 const SOURCE_BACK: &[u8] = b";
   }
 }
@@ -46,7 +46,7 @@ fuel = 2000
 Tree = 1
 Node = ";
 
-/// What follows it.
+/// The text after it.
 const FINITIZATION_BACK: &[u8] = b"
 [fields]
 \"Tree.root\" = [\"null\", \"Node\"]
@@ -66,14 +66,14 @@ fn around(alloc: Global, front: &[u8], number: u32, back: &[u8]) -> Result<Vec<u
     Ok(text)
 }
 
-/// The source: a class of binary trees, of which `repOk` accepts those with so many nodes.
+/// The source: a class of binary trees, of which `repOk` accepts those with this many nodes.
 pub fn demo_source(alloc: Global, nodes: u32) -> Result<Vec<u8>, NoMemory>
     ensures text { IfOk result (λ text. text.items ≡ source_text nodes) }
 {
     around(alloc, SOURCE_FRONT, nodes, SOURCE_BACK)
 }
 
-/// The finitization: one tree, and so many nodes for it.
+/// The finitization: one tree, and this many nodes for it.
 pub fn demo_finitization(alloc: Global, nodes: u32) -> Result<Vec<u8>, NoMemory>
     ensures text { IfOk result (λ text. text.items ≡ finitization_text nodes) }
 {

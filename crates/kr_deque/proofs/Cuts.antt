@@ -8,8 +8,8 @@ use Rattle.kr_base.specs.Bounds.{less}
 use Rattle.kr_base.specs.Cuts.{is_before}
 use Rattle.std.specs.Prelude.{Result, Ok, Err, OnOk}
 use Rattle.kr_survey.specs.Joins.{joined, lists}
-use Rattle.kr_deque_joining.specs.Spans.{is_ahead, Adjoins}
-use Rattle.kr_deque_joining.specs.Joined.{AllAhead}
+use Rattle.kr_survey.specs.Spans.{is_ahead, Adjoins}
+use Rattle.kr_deque_hands.specs.Pieces.{AllAhead}
 use Rattle.kr_deque_hands.specs.Building.{EachAhead}
 use Rattle.kr_deque.specs.Cutting.{IsLaidOut}
 

@@ -8,7 +8,7 @@ use Rattle.kr_base.specs.Bounds.{less}
 use Rattle.kr_base.specs.Entries.{is_within, within, through_spent}
 use Rattle.kr_base.proofs.Bounds.{not_above_less}
 use Rattle.kr_survey.specs.declared.part.Listing.{Listing}
-use Rattle.kr_deque_joining.specs.Listings.{listed_in, Lists}
+use Rattle.kr_survey.specs.Listings.{listed_in, Lists}
 
 no_key : (a b : Bound) (key : List ℕ) → less a b ≡ false → is_within a b key ≡ false
 no_key a b key h = go (less a (At key)) refl

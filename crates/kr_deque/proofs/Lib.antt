@@ -2,3 +2,11 @@ pub mod Cuts
 pub mod Listed
 pub mod Empty
 pub mod Worked
+pub mod Counts
+pub mod Parts
+pub mod Chains
+pub mod Checked
+pub mod Following
+pub mod Orders
+pub mod Summing
+pub mod Whole

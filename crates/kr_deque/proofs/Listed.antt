@@ -3,13 +3,13 @@ use Rattle.std.proofs.Common.{◌≡◌, ℕ, ◌+◌, List, [], ◌∷◌, ◌+
 use Rattle.std.proofs.lemmas.List.{map-append}
 use Rattle.kr_base.specs.declared.span.Span.{Span}
 use Rattle.kr_base.specs.declared.entry.Entry.{Entry}
-use Rattle.kr_deque_joining.specs.declared.piece.Piece.{Piece}
-use Rattle.kr_deque_joining.specs.Spans.{is_ahead, covering}
+use Rattle.kr_survey.specs.declared.piece.Piece.{Piece}
+use Rattle.kr_survey.specs.Spans.{is_ahead, covering}
 use Rattle.std.specs.Prelude.{◌||◌, false}
-use Rattle.kr_deque_joining.specs.declared.joining.JoinRefusal.TheVariants.{Gap, Double}
-use Rattle.kr_deque_joining.specs.Breaks.{is_gap, is_double, NoBreak, Refuses}
-use Rattle.kr_deque_joining.specs.Listings.{IsPieceOf}
-use Rattle.kr_deque_joining.specs.Joined.{spans_of, AllAhead, ArePiecesOf}
+use Rattle.kr_deque.specs.declared.joining.JoinRefusal.TheVariants.{Gap, Double}
+use Rattle.kr_deque.specs.Breaks.{is_gap, is_double, NoBreak, Refuses}
+use Rattle.kr_survey.specs.Listings.{IsPieceOf}
+use Rattle.kr_deque_hands.specs.Pieces.{spans_of, AllAhead, ArePiecesOf}
 use Rattle.kr_deque_hands.specs.Turns.{Splits, listed}
 use Rattle.kr_deque.specs.Found.{IsFound}
 use Rattle.kr_deque_hands.proofs.Carrying.{ahead_append, covering_append, split_key, split_ahead}

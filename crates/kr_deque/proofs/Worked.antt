@@ -5,9 +5,9 @@ use Rattle.std.proofs.lemmas.Option.{slice_get-get_or, slice_get_within, get_or_
 use Rattle.kr_base.specs.declared.span.Span.{Span}
 use Rattle.kr_base.specs.declared.entry.Entry.{Entry}
 use Rattle.kr_survey.specs.Joins.{joined, lists}
-use Rattle.kr_deque_joining.specs.declared.piece.Piece.{Piece}
-use Rattle.kr_deque_joining.specs.Spans.{covering}
-use Rattle.kr_deque_joining.specs.Joined.{spans_of, AllAhead, ArePiecesOf}
+use Rattle.kr_survey.specs.declared.piece.Piece.{Piece}
+use Rattle.kr_survey.specs.Spans.{covering}
+use Rattle.kr_deque_hands.specs.Pieces.{spans_of, AllAhead, ArePiecesOf}
 use Rattle.kr_deque_hands.specs.declared.hand.Hand.{Hand}
 use Rattle.kr_deque_hands.specs.declared.work.Work.{Work}
 use Rattle.kr_deque_hands.specs.Hands.{own, IsHandOf, AreHandsOf, IsSettled, AllSettled, IsSound, AllSound, given_at, Works, IsFresh, AllFresh}

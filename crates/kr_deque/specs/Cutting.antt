@@ -4,7 +4,7 @@ use Rattle.std.proofs.Common.{Vec, Global}
 use Rattle.kr_base.specs.declared.span.Bound.TheVariants.{At}
 use Rattle.kr_base.specs.declared.span.Span.{Span}
 use Rattle.kr_survey.specs.Joins.{joined, lists}
-use Rattle.kr_deque_joining.specs.Spans.{is_ahead, Adjoins}
+use Rattle.kr_survey.specs.Spans.{is_ahead, Adjoins}
 use Rattle.kr_deque_hands.specs.Building.{EachAhead}
 
 -- the lists' spans adjoin from the start of the whole to the rest, which goes on to its end

@@ -1,2 +1,5 @@
 pub mod Cutting
 pub mod Found
+pub mod Breaks
+pub mod Joined
+pub mod Checking

@@ -3,13 +3,13 @@ ghost use Rattle.std.specs.Prelude.{◌≡◌, ◌+◌, ◌<◌, ◌≤◌, ◌+
 ghost use Rattle.kr_base.specs.declared.span.Bound.TheVariants.{At};
 ghost use Rattle.kr_base.specs.Bounds.{less};
 ghost use Rattle.kr_survey.specs.Joins.{joined, lists};
-ghost use Rattle.kr_deque_joining.specs.Spans.{is_ahead, Adjoins};
+ghost use Rattle.kr_survey.specs.Spans.{is_ahead, Adjoins};
 ghost use Rattle.kr_deque_hands.specs.Building.{EachAhead};
 ghost use Rattle.kr_deque.specs.Cutting.{IsLaidOut};
 
 use kr_base::{Bound, Cut, NoMemory, Span};
 use kr_deque_hands::copy;
-use kr_deque_joining::is_before;
+use kr_survey::is_before;
 use std::alloc::Global;
 use std::mem;
 
@@ -34,7 +34,7 @@ fn add_one(alloc: Global, spans: &mut Vec<Vec<Span>>, span: Span) -> Result<(), 
     Ok(())
 }
 
-// Cuts off the rest's front at a cut, where that stands strictly inside.
+// Cuts the front of the rest off at a cut, if that is strictly inside.
 #[tactic(auto, using(crate::proofs::Cuts::laid_more))]
 fn cut_at(
     alloc: Global,
@@ -75,8 +75,8 @@ fn pad(alloc: Global, spans: &mut Vec<Vec<Span>>, count: u32) -> Result<(), NoMe
     Ok(())
 }
 
-/// A list for each worker: the parts of the span between the cuts 0.1, 0.2 and so on below the number of workers that stand
-/// strictly inside, part i in list i, and empty lists behind them.
+/// A list for each worker: the parts of the span between the cuts 0.1, 0.2 and so on below the number of workers that are
+/// strictly inside, part i in list i, and empty lists after them.
 #[tactic(auto, using(crate::proofs::Cuts::laid_none, crate::proofs::Cuts::laid_all))]
 pub fn spans_for(alloc: Global, span: &Span, workers: u32) -> Result<Vec<Vec<Span>>, NoMemory>
     requires workers { 0 < workers }

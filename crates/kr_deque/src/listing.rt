@@ -2,19 +2,19 @@
 ghost use Rattle.std.specs.Prelude.{◌≡◌, ◌+◌, ◌<◌, ◌≤◌, ◌∷◌, [], true, None, length, All, IfOk, OnOk, IfErr};
 ghost use Rattle.kr_survey.specs.Joins.{joined, lists};
 ghost use Rattle.kr_base.specs.declared.span.Bound.TheVariants.{At};
-ghost use Rattle.kr_deque_joining.specs.Spans.{is_ahead, covering, one, has_key, AreParts, Adjoins};
-ghost use Rattle.kr_deque_joining.specs.Joined.{spans_of, AllAhead, ArePiecesOf};
-ghost use Rattle.kr_deque_joining.specs.Listings.{listed_in, Lists};
+ghost use Rattle.kr_survey.specs.Spans.{is_ahead, covering, one, has_key, AreParts, Adjoins};
+ghost use Rattle.kr_deque_hands.specs.Pieces.{spans_of, AllAhead, ArePiecesOf};
+ghost use Rattle.kr_survey.specs.Listings.{listed_in, Lists};
 ghost use Rattle.kr_deque_hands.specs.Building.{EachAhead};
 ghost use Rattle.kr_deque_hands.specs.Hands.{IsHandOf, AreHandsOf, Works};
 ghost use Rattle.kr_deque.specs.Found.{AllWorked, IsFound};
 
 use crate::cutting::spans_for;
+use crate::{JoinRefusal, join_pieces, joined_law, parts_law};
 use kr_base::{NoMemory, Span};
 use kr_deque_hands::{Gathered, Hand, Work, scan_piece, work_at};
-use kr_deque_joining::{JoinRefusal, Piece, is_before, join_pieces, joined_law, parts_law};
 use kr_io::Gate;
-use kr_survey::{Listing, Rows, Survey};
+use kr_survey::{Listing, Piece, Rows, Survey, is_before};
 use std::alloc::Global;
 use std::sync::Wait;
 use std::thread;
@@ -173,7 +173,7 @@ fn nothing<R>(alloc: Global) -> Listing<R>
 }
 
 /// The listing of a span, by so many workers over deques, in threads of their own: rows, number of entries and spent key are
-/// those of the survey's entries there, whatever the schedule. The caller scans what they left for want of memory.
+/// those of the survey's entries there, whatever the schedule. Spans that are left when workers run out of memory are scanned by the caller.
 pub fn list_deque<S: Survey<Row: Drop + Send> + Sync, G: Gate + Sync, W: Threads + Wait + Sync>(
     rt: &W,
     alloc: Global,

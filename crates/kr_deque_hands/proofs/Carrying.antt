@@ -9,12 +9,12 @@ use Rattle.kr_base.specs.declared.span.Span.{Span}
 use Rattle.kr_base.specs.declared.entry.Entry.{Entry}
 use Rattle.kr_base.specs.Bounds.{less}
 use Rattle.kr_base.specs.Entries.{is_within}
-use Rattle.kr_deque_joining.specs.declared.piece.Piece.{Piece}
-use Rattle.kr_deque_joining.specs.Spans.{one, is_ahead, has_key, covering}
-use Rattle.kr_deque_joining.specs.Listings.{IsPieceOf}
-use Rattle.kr_deque_joining.specs.Joined.{spans_of, AllAhead, ArePiecesOf}
-use Rattle.kr_deque_joining.proofs.Counts.{not_both, counted_append}
-use Rattle.kr_deque_joining.proofs.Chains.{two_parts}
+use Rattle.kr_survey.specs.declared.piece.Piece.{Piece}
+use Rattle.kr_survey.specs.Spans.{one, is_ahead, has_key, covering}
+use Rattle.kr_survey.specs.Listings.{IsPieceOf}
+use Rattle.kr_deque_hands.specs.Pieces.{spans_of, AllAhead, ArePiecesOf}
+use Rattle.kr_deque_hands.proofs.Covers.{not_both, counted_append}
+use Rattle.kr_deque_hands.proofs.Covers.{two_parts}
 use Rattle.kr_deque_hands.specs.declared.rule.Log.{Log}
 use Rattle.kr_deque_hands.specs.declared.hand.Hand.{Hand}
 use Rattle.kr_deque_hands.specs.Building.{Owner}

@@ -4,9 +4,9 @@ use Rattle.std.specs.Prelude.{Option, Some, None, MatchOption}
 use Rattle.std.proofs.lemmas.List.{append-nil}
 use Rattle.crossbeam_deque.specs.Handles.{worker_view, worker_flavor}
 use Rattle.kr_base.specs.declared.span.Span.{Span}
-use Rattle.kr_deque_joining.specs.Spans.{how_many}
-use Rattle.kr_deque_joining.specs.Joined.{AllAhead}
-use Rattle.kr_deque_joining.proofs.Counts.{counted_append}
+use Rattle.kr_survey.specs.Spans.{how_many}
+use Rattle.kr_deque_hands.specs.Pieces.{AllAhead}
+use Rattle.kr_deque_hands.proofs.Covers.{counted_append}
 use Rattle.kr_deque_hands.specs.declared.task.Task.{Task}
 use Rattle.kr_deque_hands.specs.declared.task.Task.TheVariants.{Whole, Mark}
 use Rattle.kr_deque_hands.specs.declared.rule.Log.{Log}

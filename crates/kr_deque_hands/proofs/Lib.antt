@@ -1,3 +1,4 @@
+pub mod Covers
 pub mod Halved
 pub mod Turns
 pub mod Carrying

@@ -8,9 +8,9 @@ use Rattle.std.proofs.lemmas.Bool.Decides.{nat_tests}
 use Rattle.crossbeam_deque.specs.Handles.{view, IsPassOf, worker_deque, worker_view}
 use Rattle.kr_base.specs.declared.span.Span.{Span}
 use Rattle.kr_base.specs.declared.entry.Entry.{Entry}
-use Rattle.kr_deque_joining.specs.declared.piece.Piece.{Piece}
-use Rattle.kr_deque_joining.specs.Spans.{how_many, has_key, covering}
-use Rattle.kr_deque_joining.specs.Joined.{spans_of, AllAhead, ArePiecesOf}
+use Rattle.kr_survey.specs.declared.piece.Piece.{Piece}
+use Rattle.kr_survey.specs.Spans.{how_many, has_key, covering}
+use Rattle.kr_deque_hands.specs.Pieces.{spans_of, AllAhead, ArePiecesOf}
 use Rattle.kr_deque_hands.specs.declared.rule.Log.{Log}
 use Rattle.kr_deque_hands.specs.declared.rule.View.{View}
 use Rattle.kr_deque_hands.specs.declared.hand.Hand.{Hand}
@@ -19,8 +19,8 @@ use Rattle.kr_deque_hands.specs.declared.gathering.Gathered.{Gathered}
 use Rattle.kr_deque_hands.specs.Hands.{Theft, Front, own, stolen, stolen_in, following, AreHandsOf, IsSettled, AllSettled, IsSound, AllSound, IsDone, AllDone, given_at}
 use Rattle.kr_deque_hands.specs.Building.{Owner}
 use Rattle.kr_deque_hands.specs.Gathering.{Drains, IsShared, TakesIn, found_at, pieces_in, came_of, taken_of, IsSoundlyFound, IsCollected, last_of, IsOpen}
-use Rattle.kr_deque_joining.proofs.Counts.{counted_append}
-use Rattle.kr_deque_joining.proofs.Parts.{lt-true}
+use Rattle.kr_deque_hands.proofs.Covers.{counted_append}
+use Rattle.std.proofs.lemmas.Bool.{ltb-true}
 use Rattle.kr_deque_hands.proofs.Carrying.{ahead_append, covering_append}
 
 some_front : (fronts : List Front) (i : ℕ) → i < length fronts → (s : Front) × (slice_get fronts i ≡ Some s)
@@ -44,7 +44,7 @@ le-false : (n m : ℕ) → nat_lt n m ≡ false → m ≤ n
 le-false n m h = grind (arith, nat_tests)
 
 cases_le : (m n : ℕ) → (m ≤ n) ⊎ (n < m)
-cases_le m n = elim (nat_lt n m) as (λ b. nat_lt n m ≡ b → (m ≤ n) ⊎ (n < m)) [ true ↦ λ e. inr (lt-true n m e) | false ↦ λ e. inl (le-false n m e) ] refl
+cases_le m n = elim (nat_lt n m) as (λ b. nat_lt n m ≡ b → (m ≤ n) ⊎ (n < m)) [ true ↦ λ e. inr (ltb-true n m e) | false ↦ λ e. inl (le-false n m e) ] refl
 
 some-none : (o : Option Theft) → is_some o ≡ true → o ≡ None → ⊥
 some-none o h e = cc (sym h ∙ ap (λ (x : Option Theft). is_some x) e)

@@ -11,9 +11,9 @@ use Rattle.kr_base.specs.Entries.{Ascends, is_spent, within, through_spent, entr
 use Rattle.kr_base.proofs.Bounds.{connected}
 use Rattle.kr_survey.specs.declared.part.Part.{Part}
 use Rattle.kr_survey.specs.Scans.{rows_of, any_spent, last_key, walked, IsScan, GoesOn, ScanLaw}
-use Rattle.kr_deque_joining.specs.declared.piece.Piece.{Piece}
-use Rattle.kr_deque_joining.specs.Spans.{is_ahead}
-use Rattle.kr_deque_joining.specs.Listings.{spent_in, listed_in, IsPieceOf}
+use Rattle.kr_survey.specs.declared.piece.Piece.{Piece}
+use Rattle.kr_survey.specs.Spans.{is_ahead}
+use Rattle.kr_survey.specs.Listings.{spent_in, listed_in, IsPieceOf}
 use Rattle.kr_deque_hands.specs.Turns.{Splits, Ends, IsPart}
 
 take_whole : {R : Type 0} (m : ℕ) (es : List (Entry R)) → any_spent (take m (through_spent es)) ≡ true → take m (through_spent es) ≡ through_spent es

@@ -8,8 +8,8 @@ use Rattle.std.proofs.lemmas.Bool.Decides.{nat_tests}
 use Rattle.crossbeam_deque.specs.Tasks.{Pushes, Takes, Finds, Learns, Forks, Merges}
 use Rattle.crossbeam_deque.proofs.Lists.{at_set, at_snoc}
 use Rattle.kr_base.specs.declared.span.Span.{Span}
-use Rattle.kr_deque_joining.specs.Spans.{one, how_many, is_ahead}
-use Rattle.kr_deque_joining.specs.Joined.{AllAhead}
+use Rattle.kr_survey.specs.Spans.{one, how_many, is_ahead}
+use Rattle.kr_deque_hands.specs.Pieces.{AllAhead}
 use Rattle.kr_deque_hands.specs.declared.task.Task.{Task}
 use Rattle.kr_deque_hands.specs.declared.task.Task.TheVariants.{Whole, Mark}
 use Rattle.kr_deque_hands.specs.declared.rule.View.{View}

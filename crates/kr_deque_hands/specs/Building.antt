@@ -4,7 +4,7 @@ use Rattle.std.proofs.Common.{Vec, Global}
 use Rattle.crossbeam_deque.specs.declared.handles.Worker.{Worker}
 use Rattle.crossbeam_deque.specs.Handles.{view, IsPassOf, worker_deque, stealer_deque, worker_view, worker_flavor, worker_index, worker_capacity}
 use Rattle.kr_base.specs.declared.span.Span.{Span}
-use Rattle.kr_deque_joining.specs.Joined.{AllAhead}
+use Rattle.kr_deque_hands.specs.Pieces.{AllAhead}
 use Rattle.kr_deque_hands.specs.declared.task.Task.{Task}
 use Rattle.kr_deque_hands.specs.declared.rule.View.{View}
 use Rattle.kr_deque_hands.specs.declared.rule.InOrder.{InOrder}

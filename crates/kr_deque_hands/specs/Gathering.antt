@@ -2,9 +2,9 @@
 use Rattle.std.specs.Prelude.{◌≡◌, ℕ, ◌+◌, ◌≤◌, List, [], ◌∷◌, ◌++◌, Bool, true, Option, Some, length, slice_get}
 use Rattle.kr_base.specs.declared.span.Span.{Span}
 use Rattle.kr_base.specs.declared.entry.Entry.{Entry}
-use Rattle.kr_deque_joining.specs.declared.piece.Piece.{Piece}
-use Rattle.kr_deque_joining.specs.Spans.{how_many, covering}
-use Rattle.kr_deque_joining.specs.Joined.{spans_of, AllAhead, ArePiecesOf}
+use Rattle.kr_survey.specs.declared.piece.Piece.{Piece}
+use Rattle.kr_survey.specs.Spans.{how_many, covering}
+use Rattle.kr_deque_hands.specs.Pieces.{spans_of, AllAhead, ArePiecesOf}
 use Rattle.kr_deque_hands.specs.declared.rule.Log.{Log}
 use Rattle.kr_deque_hands.specs.declared.rule.View.{View}
 use Rattle.kr_deque_hands.specs.declared.hand.Hand.{Hand}

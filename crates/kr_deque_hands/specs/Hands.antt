@@ -5,9 +5,9 @@ use Rattle.crossbeam_deque.specs.Handles.{Pass, view, IsPassOf, worker_deque, st
 use Rattle.crossbeam_deque.specs.declared.handles.Stealer.{Stealer}
 use Rattle.kr_base.specs.declared.span.Span.{Span}
 use Rattle.kr_base.specs.declared.entry.Entry.{Entry}
-use Rattle.kr_deque_joining.specs.declared.piece.Piece.{Piece}
-use Rattle.kr_deque_joining.specs.Spans.{covering}
-use Rattle.kr_deque_joining.specs.Joined.{spans_of, AllAhead, ArePiecesOf}
+use Rattle.kr_survey.specs.declared.piece.Piece.{Piece}
+use Rattle.kr_survey.specs.Spans.{covering}
+use Rattle.kr_deque_hands.specs.Pieces.{spans_of, AllAhead, ArePiecesOf}
 use Rattle.kr_deque_hands.specs.declared.task.Task.{Task}
 use Rattle.kr_deque_hands.specs.declared.rule.Log.{Log}
 use Rattle.kr_deque_hands.specs.declared.rule.View.{View}

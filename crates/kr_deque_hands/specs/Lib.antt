@@ -1,3 +1,4 @@
+pub mod Pieces
 pub mod Logs
 pub mod Turns
 pub mod Hands

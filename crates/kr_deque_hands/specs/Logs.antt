@@ -3,8 +3,8 @@ use Rattle.std.specs.Prelude.{◌≡◌, ℕ, ◌+◌, ◌<◌, ◌≤◌, ◌==
 use mathlib.Core.Option.{some}
 use lib.ListN.{get_elem?}
 use Rattle.kr_base.specs.declared.span.Span.{Span}
-use Rattle.kr_deque_joining.specs.Spans.{is_ahead}
-use Rattle.kr_deque_joining.specs.Joined.{AllAhead}
+use Rattle.kr_survey.specs.Spans.{is_ahead}
+use Rattle.kr_deque_hands.specs.Pieces.{AllAhead}
 use Rattle.kr_deque_hands.specs.declared.task.Task.{Task}
 use Rattle.kr_deque_hands.specs.declared.task.Task.TheVariants.{Whole, Mark}
 use Rattle.kr_deque_hands.specs.declared.rule.Log.{Log}

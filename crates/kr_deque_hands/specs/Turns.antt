@@ -5,8 +5,8 @@ use Rattle.kr_base.specs.declared.span.Bound.TheVariants.{At}
 use Rattle.kr_base.specs.declared.span.Span.{Span}
 use Rattle.kr_base.specs.Bounds.{less}
 use Rattle.kr_survey.specs.declared.part.Part.{Part}
-use Rattle.kr_deque_joining.specs.declared.piece.Piece.{Piece}
-use Rattle.kr_deque_joining.specs.Spans.{is_ahead}
+use Rattle.kr_survey.specs.declared.piece.Piece.{Piece}
+use Rattle.kr_survey.specs.Spans.{is_ahead}
 
 -- a span is its first part, and a second one that goes on where the first one ends, or none
 abbrev pub Splits : Span → Span → Option Span → Type 0

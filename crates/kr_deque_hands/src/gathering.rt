@@ -1,19 +1,19 @@
-// What all hands found, and what is left, once all passes are joined again.
+// The pieces that all hands found, and the spans that are left, once all passes are joined again.
 ghost use Rattle.std.specs.Prelude.{◌≡◌, ◌+◌, ◌++◌, [], true, None, Some, length, slice_get, IfOk, OnOk, MatchOption, ℕ, List};
 ghost use Rattle.crossbeam_deque.specs.Handles.{view, IsPassOf, worker_deque, worker_flavor, worker_view};
 ghost use Rattle.kr_deque_hands.specs.Hands.{own, stolen, stolen_in, following, AllSettled, AllSound, AllDone, given_at, AreHandsOf};
 ghost use Rattle.kr_deque_hands.specs.Gathering.{Drains, IsShared, TakesIn, IsCollected, IsSoundlyFound, found_at, pieces_in, came_of, taken_of};
-ghost use Rattle.kr_deque_joining.specs.Spans.{how_many};
+ghost use Rattle.kr_survey.specs.Spans.{how_many};
 
 use crate::hand::Hand;
 use crate::rule::{Owner, Popped, Roles, Theft, Total};
 use crate::task::Task;
 use crate::work::Work;
 use kr_base::{NoMemory, Span};
-use kr_deque_joining::Piece;
+use kr_survey::Piece;
 use std::mem;
 
-/// The pieces that all hands found, and the spans that were left: those that a hand gave back for want of memory, and those
+/// The pieces that all hands found, and the spans that were left: those that a hand gave back when it ran out of memory, and those
 /// still on a deque.
 #[derive(Drop)]
 pub struct Gathered<R> {
@@ -107,7 +107,8 @@ impl<R: Drop> Gathered<R> {
 }
 
 impl Work {
-    /// What all hands found, and what is left: of the spans that came to their deques those that nobody took, and what they gave back for want of memory, and what their deques still hold. Where
+    /// All pieces that the hands found, and the spans that are left: those that nobody took, those that hands gave back when they
+    /// ran out of memory, and those still on a deque. Where
     /// each hand's worker came to its end, and none gave up, nothing is left.
     pub fn gather<R: Drop>(self, hands: Vec<Hand<R>>) -> Result<Gathered<R>, NoMemory>
         requires { AreHandsOf self hands.items }

@@ -5,7 +5,7 @@ ghost use Rattle.crossbeam_deque.specs.Handles.{view, worker_flavor, worker_view
 
 use crate::rule::{Owner, Theft};
 use kr_base::{NoMemory, Span};
-use kr_deque_joining::Piece;
+use kr_survey::Piece;
 
 /// How many spans a hand may push.
 pub const PUSHES: u32 = 4096;

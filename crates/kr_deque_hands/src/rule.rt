@@ -8,7 +8,7 @@ use kr_base::Span;
 use std::alloc::Global;
 use std::collections::LinkedList;
 
-/// What a pass of a deque may do, as its owner or its thief, and what it did. No value of it is made.
+/// The rights of a pass of a deque, as its owner or its thief, and what it did. No value of it is made.
 pub struct Log {
     pub owner: bool,
     pub thief: bool,
@@ -26,7 +26,7 @@ pub struct Marks {
     pub shut: bool,
 }
 
-/// What a pass knows. No value of it is made.
+/// The view of a pass. No value of it is made.
 pub struct View {
     pub log: Log,
     pub marks: Marks,
@@ -60,7 +60,7 @@ impl Outcome<Task, View> for Pushed {
     ghost then = { IsPushed };
 }
 
-/// What the owner takes.
+/// A task that the owner takes.
 pub struct Popped;
 
 impl Outcome<Task, View> for Popped {
@@ -69,14 +69,14 @@ impl Outcome<Task, View> for Popped {
     ghost empty = { λ v. MayBeEmpty v.log };
 }
 
-/// What the thief takes.
+/// A task that the thief takes.
 pub struct Stolen;
 
 impl Outcome<Task, View> for Stolen {
     ghost then = { IsStolen };
 }
 
-/// What a deque holds, where its owner has its thief's part.
+/// The contents of a deque whose owner has its thief's part.
 pub struct Total;
 
 impl Lesson<Task, View> for Total {
@@ -115,5 +115,5 @@ pub type Owner = Worker<Task, Global, View, InOrder>;
 /// A handle that takes at its front.
 pub type Front = Stealer<Task, Global, View, InOrder>;
 
-/// What a thief knows of a deque.
+/// A thief's view of a deque.
 pub type Theft = Pass<Task, View>;

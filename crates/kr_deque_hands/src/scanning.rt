@@ -2,13 +2,12 @@
 ghost use Rattle.std.specs.Prelude.{◌≡◌, ◌<◌, ◌≤◌, List, ℕ, true, IfOk};
 ghost use Rattle.kr_base.specs.declared.span.Bound.TheVariants.{At};
 ghost use Rattle.kr_survey.specs.Scans.{IsScan};
-ghost use Rattle.kr_deque_joining.specs.Spans.{is_ahead};
-ghost use Rattle.kr_deque_joining.specs.Listings.{IsPieceOf};
+ghost use Rattle.kr_survey.specs.Spans.{is_ahead};
+ghost use Rattle.kr_survey.specs.Listings.{IsPieceOf};
 ghost use Rattle.kr_deque_hands.specs.Turns.{Splits, Halves, Ends, IsPart};
 
 use kr_base::{Bound, Cut, NoMemory, Span, Steps, inside_law};
-use kr_deque_joining::{Piece, is_before};
-use kr_survey::{Part, Survey, scan_law};
+use kr_survey::{Part, Piece, Survey, is_before, scan_law};
 use std::marker::Brand;
 use std::sync::ledger::{Blank, Ledger};
 
@@ -109,7 +108,7 @@ fn piece_of<R: Drop>(whole: Span, part: Part<R>) -> Result<(Piece<R>, Option<Spa
     Ok((piece, rest))
 }
 
-/// The piece of the first 256 entries of a span, and what is left of the span behind it, if anything is. A spent entry ends
+/// The piece of the first 256 entries of a span, and the rest of the span after it, if there is any. A spent entry ends
 /// it: then the piece covers the whole span.
 pub fn scan_piece<S: Survey<Row: Drop>>(
     survey: &S,

@@ -2,8 +2,8 @@
 ghost use Rattle.std.specs.Prelude.{◌≡◌, ◌+◌, ◌<◌, ◌≤◌, ◌++◌, ◌∷◌, [], true, false, None, Some, length, is_none, IfOk, IfSome, OnOk, MatchOption};
 ghost use Rattle.crossbeam_deque.specs.Handles.{view, IsPassOf, worker_deque, stealer_deque, worker_flavor, worker_view, worker_index, worker_capacity, SameWorker};
 ghost use Rattle.kr_survey.specs.Joins.{lists};
-ghost use Rattle.kr_deque_joining.specs.Spans.{is_ahead};
-ghost use Rattle.kr_deque_joining.specs.Joined.{AllAhead};
+ghost use Rattle.kr_survey.specs.Spans.{is_ahead};
+ghost use Rattle.kr_deque_hands.specs.Pieces.{AllAhead};
 ghost use Rattle.kr_deque_hands.specs.Logs.{log, view_of, no_marks, given_more};
 ghost use Rattle.kr_deque_hands.specs.Hands.{own, IsFresh, AllFresh, AreHandsOf};
 ghost use Rattle.kr_deque_hands.specs.Building.{IsFilled, EachAhead, givens, IsBuilt};

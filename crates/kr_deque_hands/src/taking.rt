@@ -1,7 +1,7 @@
-// What a hand takes from deques, and pushes on its own.
+// Taking from deques, and pushing on the hand's own.
 ghost use Rattle.std.specs.Prelude.{◌≡◌, ◌+◌, ◌<◌, ◌≤◌, ◌++◌, ◌∷◌, [], true, false, length, vec_len, vec_capacity, None, is_some, IfSome, IfNone, MatchOption, MatchResult};
 ghost use Rattle.crossbeam_deque.specs.Handles.{view, IsPassOf, SamePass, stealer_deque, worker_flavor, worker_view, worker_index, worker_capacity};
-ghost use Rattle.kr_deque_joining.specs.Spans.{is_ahead};
+ghost use Rattle.kr_survey.specs.Spans.{is_ahead};
 ghost use Rattle.kr_deque_hands.specs.Logs.{TookFront, MayBeEmpty, IsPopped, turn, marks, view_of, popped_more, pushed_more, stolen_more};
 ghost use Rattle.kr_deque_hands.specs.Hands.{own, is_shut, stolen, IsSure, IsHandOf, IsRestSame, Stays};
 
@@ -14,8 +14,7 @@ use kr_base::Span;
 use std::sync::Wait;
 
 impl<R> Hand<R> {
-    /// Whether a call that this hand's worker made was refused memory: then the refusal is kept here, which nobody can make
-    /// up.
+    /// Whether the hand keeps a refusal of memory. Only a call of its worker puts one here, which no clause says.
     pub fn gave_up(&self) -> bool
         ensures { result ≡ is_some self.now.refused }
     {
@@ -148,7 +147,7 @@ impl<R> Hand<R> {
         self.shut = true;
     }
 
-    /// The first span of the next hand's deque; behind the last hand comes hand 0. It tries again until it has an answer, and
+    /// The first span of the next hand's deque; after the last hand comes hand 0. It tries again until it has an answer, and
     /// so may wait. `None` only where that deque was empty, or held a mark alone.
     #[tactic(auto, using(crate::proofs::Carrying::stays_passed))]
     pub fn steal<W: Wait>(&mut self, rt: &W, work: &Work) -> Option<Span>

@@ -1,8 +1,8 @@
-// What lies on a deque.
+// The tasks on a deque.
 
 use kr_base::Span;
 
-/// A span to be scanned, or a mark behind all spans that its owner had pushed: who takes it knows that those are taken. The
+/// A span to be scanned, or a mark after all spans that its owner had pushed: who takes it knows that those are taken. The
 /// marks of a deque are numbered.
 #[derive(Drop)]
 pub enum Task {

@@ -1,4 +1,4 @@
-// What the hands share.
+// The value that all hands share.
 
 use crate::rule::Front;
 use std::alloc::Global;

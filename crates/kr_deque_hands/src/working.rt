@@ -1,8 +1,8 @@
-// What a worker does with its hand.
+// A worker with its hand.
 ghost use Rattle.std.specs.Prelude.{◌≡◌, ◌∷◌, [], true, false, None, Some, is_some, length, IfOk, IfErr, IfSome, ◌+◌, ◌<◌, ◌≤◌};
-ghost use Rattle.kr_deque_joining.specs.Spans.{is_ahead};
-ghost use Rattle.kr_deque_joining.specs.Joined.{AllAhead};
-ghost use Rattle.kr_deque_joining.specs.Listings.{IsPieceOf};
+ghost use Rattle.kr_survey.specs.Spans.{is_ahead};
+ghost use Rattle.kr_deque_hands.specs.Pieces.{AllAhead};
+ghost use Rattle.kr_survey.specs.Listings.{IsPieceOf};
 ghost use Rattle.kr_deque_hands.specs.Turns.{Splits, listed, in_hand};
 ghost use Rattle.kr_deque_hands.specs.Hands.{own, stolen, is_shut, IsHandOf, Works, IsRestSame, Stays};
 
@@ -12,9 +12,8 @@ use crate::scanning::{halves, scan_piece};
 use crate::task::Task;
 use crate::work::Work;
 use kr_base::{NoMemory, Span};
-use kr_deque_joining::Piece;
 use kr_io::Gate;
-use kr_survey::Survey;
+use kr_survey::{Piece, Survey};
 use std::sync::Wait;
 use std::thread;
 
@@ -300,7 +299,7 @@ fn work_on<S: Survey<Row: Drop>, G: Gate, W: Wait>(
     }
 }
 
-/// The same with a hand that is lent.
+/// Works with a hand that is lent.
 #[tactic(auto, using(crate::proofs::Carrying::works_none, crate::proofs::Carrying::works_same, crate::proofs::Carrying::stays_same))]
 pub fn work_at<S: Survey<Row: Drop>, G: Gate, W: Wait>(
     rt: &W,

@@ -2,9 +2,9 @@
 use Rattle.std.proofs.Common.{◌≡◌, List, [], ◌∷◌, ◌++◌, true, sym, subst, ◌∙◌, ap}
 use Rattle.std.proofs.lemmas.List.{map-append}
 use Rattle.kr_base.specs.declared.span.Span.{Span}
-use Rattle.kr_deque_joining.specs.declared.piece.Piece.{Piece}
-use Rattle.kr_deque_joining.specs.Spans.{is_ahead}
-use Rattle.kr_deque_joining.specs.Joined.{AllAhead, spans_of}
+use Rattle.kr_survey.specs.declared.piece.Piece.{Piece}
+use Rattle.kr_survey.specs.Spans.{is_ahead}
+use Rattle.kr_deque_hands.specs.Pieces.{AllAhead, spans_of}
 
 ahead_append : (xs ys : List Span) → AllAhead xs → AllAhead ys → AllAhead (xs ++ ys)
 ahead_append [] ys h k = k

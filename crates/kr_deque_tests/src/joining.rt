@@ -1,12 +1,12 @@
 // Pieces of a span up to 1, cut at 0.2: each row has the pieces' spans, and what comes of them.
 ghost use Rattle.std.specs.Prelude.{◌≡◌, true, IfOk, OnOk};
-ghost use Rattle.kr_deque_joining.specs.Spans.{is_ahead};
-ghost use Rattle.kr_deque_joining.specs.Joined.{AllAhead, spans_of};
+ghost use Rattle.kr_survey.specs.Spans.{is_ahead};
+ghost use Rattle.kr_deque_hands.specs.Pieces.{AllAhead, spans_of};
 
 use crate::spans::ahead_of;
 use kr_base::{Cut, NoMemory, Span};
-use kr_deque_joining::{JoinRefusal, Piece, join_pieces};
-use kr_survey::{Listing, RowList};
+use kr_deque::{JoinRefusal, join_pieces};
+use kr_survey::{Listing, Piece, RowList};
 use std::alloc::Global;
 use std::process::Abort;
 use std::test::Fail;

@@ -28,7 +28,7 @@ fn after(number: u32) -> u32 {
     }
 }
 
-// The number behind the last, if these rows are the valid keys from a number on.
+// The number after the last, if these rows are the valid keys from a number on.
 fn numbered(rows: &[Cut], number: u32) -> Option<u32> {
     let mut number = number;
     for row in rows {
@@ -123,7 +123,7 @@ fn two_scans_at_once(rt: HostRuntime) -> Result<(), Fail> {
     Ok(())
 }
 
-// Whether so many workers list so many keys, of which one is spent, behind an unruly gate; and where none is spent, no key
+// Whether so many workers list so many keys, of which one is spent, with an unruly gate; and where none is spent, no key
 // was scanned twice.
 fn listed<W: Threads + Wait + Sync + Abort>(
     rt: &W,

@@ -1,9 +1,9 @@
 // Spans, and how they are read.
 ghost use Rattle.std.specs.Prelude.{◌≡◌, true, IfOk};
-ghost use Rattle.kr_deque_joining.specs.Spans.{is_ahead};
+ghost use Rattle.kr_survey.specs.Spans.{is_ahead};
 
 use kr_base::{Bound, Cut, NoMemory, Span};
-use kr_deque_joining::is_before;
+use kr_survey::is_before;
 use std::alloc::Global;
 use std::process::Abort;
 

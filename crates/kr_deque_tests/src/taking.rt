@@ -1,6 +1,6 @@
 // Spans that hands take of two deques, of which the first one holds two spans; and how many spans a hand may push.
 ghost use Rattle.std.specs.Prelude.{◌≡◌, ◌∷◌, [], true, length, nat_lt, IfOk};
-ghost use Rattle.kr_deque_joining.specs.Spans.{is_ahead};
+ghost use Rattle.kr_survey.specs.Spans.{is_ahead};
 ghost use Rattle.kr_deque_hands.specs.Building.{EachAhead};
 ghost use Rattle.kr_deque_hands.specs.Hands.{IsHandOf, AreHandsOf};
 
@@ -116,7 +116,7 @@ fn takes(rt: HostRuntime) -> Result<(), Fail> {
     Ok(())
 }
 
-// Whether so many spans, each pushed on an empty deque, are popped, and behind each there is none.
+// Whether so many spans, each pushed on an empty deque, are popped, and after each there is none.
 fn pops_each(
     rt: &impl Abort,
     alloc: Global,

@@ -1,17 +1,13 @@
 -- Each value of a domain that breaks no rule is an item.
-use Rattle.std.proofs.Common.{◌≡◌, ℕ, ℤ, List, [], ◌∷◌, ◌++◌, length, codes, Option, Some, None, option_and_then, refl}
+use Rattle.std.proofs.Common.{◌≡◌, ℕ, ℤ, List, [], length, codes, Option, Some, None, option_and_then, refl}
 use Rattle.toml.specs.Data.{Data, string, integer, float, boolean, datetime, array, table, Members, get_member, as_integer}
 use Rattle.kr_fin.specs.declared.shapes.Limits.{Limits}
 use Rattle.kr_fin.specs.declared.shapes.Shape.TheVariants.{Range}
 use Rattle.kr_fin.specs.Document.{range_in}
 use Rattle.kr_fin.specs.Faults.{range, required, number, unknown_keys}
-use Rattle.kr_fin.specs.Order.{Fault}
 use Rattle.kr_fin.specs.Shapes.{limits_of}
 use Rattle.kr_fin.specs.Laws.{ItemLaw}
-
-both_empty : (xs ys : List Fault) → xs ++ ys ≡ [] → (xs ≡ []) × (ys ≡ [])
-both_empty [] ys e = (refl, e)
-both_empty (x ∷ xs) ys e = absurd (cc (e))
+use Rattle.kr_base.proofs.ListLemmas.{append_is_nil}
 
 -- an integer that has to be there and breaks no rule is there
 whole : (limits : Limits) (at : List ℕ) (o : Option Data) → required (number limits at) at o ≡ []
@@ -27,7 +23,7 @@ whole limits at (Some (table ms)) e = absurd (cc (e))
 
 one_range : (limits : Limits) (at : List ℕ) (ms : Members) → range limits at ms ≡ [] → length (range_in ms) ≡ 1
 one_range limits at ms e =
-    let ends = both_empty _ _ (both_empty (unknown_keys Range (λ key. at) ms) _ e).1 in
+    let ends = append_is_nil _ _ (append_is_nil (unknown_keys Range (λ key. at) ms) _ e).1 in
     let from = whole limits at (get_member (codes "from") ms) ends.0 in
     let to = whole limits at (get_member (codes "to") ms) ends.1 in
     rw (from.1, to.1) refl

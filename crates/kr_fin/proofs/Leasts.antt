@@ -32,7 +32,7 @@ here f fs = Contains-append_left (f ∷ []) fs f (Contains-push [] f)
 there : {R : Type 0} (f g : Fault R) (fs : List (Fault R)) → Contains fs g → Contains (f ∷ fs) g
 there f g fs h = Contains-append_right (f ∷ []) fs g h
 
--- what is kept of a first fault and more
+-- the least of a first fault and more
 record Chosen {R : Type 0} (rank : R → ℕ) (f : Fault R) (fs : List (Fault R)) (g : Fault R) : Type 0 where
   is_one : (f ≡ g) ⊎ Contains fs g
   first : comes_before rank f g ≡ false
@@ -46,7 +46,7 @@ one_past : {R : Type 0} (f h g : Fault R) (fs : List (Fault R)) → (f ≡ g) �
 one_past f h g fs (inl same) = inl same
 one_past f h g fs (inr later) = inr (there h g fs later)
 
--- one more fault behind the first: it is kept, or the first is
+-- one more fault after the first: it is kept, or the first is
 chosen_step : {R : Type 0} (rank : R → ℕ) (f h : Fault R) (fs : List (Fault R)) (g : Fault R) (b : Bool) → comes_before rank h f ≡ b
     → fold (lesser rank) (cond b (Some h) (Some f)) fs ≡ Some g
     → (fold (lesser rank) (Some h) fs ≡ Some g → Chosen rank h fs g) → (fold (lesser rank) (Some f) fs ≡ Some g → Chosen rank f fs g)

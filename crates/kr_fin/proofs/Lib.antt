@@ -1,3 +1,4 @@
 pub mod Items
 pub mod Leasts
 pub mod Whole
+pub mod Names

@@ -9,7 +9,7 @@ use Rattle.toml.specs.Parse.{parse_document}
 use Rattle.kr_fin.specs.declared.refusal.FinRule.TheVariants.{TooLong, NotToml}
 use Rattle.kr_fin.specs.Meaning.{document_in, meaning, of_table, table_in}
 
--- what isn't told to be above a limit isn't
+-- a number that isn't found to be above a limit isn't
 pub within_limit : (n limit : ℕ) (told : Bool) → told ≡ false → (limit < n → told ≡ true) → n ≤ limit
 within_limit n limit told e above = elim (cases_Bool (leb n limit)) [
   | inl short ↦ leb-true n limit short

@@ -9,8 +9,9 @@ use Rattle.kr_fin.specs.declared.document.NamedDomain.{NamedDomain}
 use Rattle.kr_fin.specs.declared.document.FinDoc.{FinDoc}
 use Rattle.kr_fin.specs.declared.shapes.Limits.{Limits}
 use Rattle.kr_fin.specs.declared.shapes.Section.{Section}
-use Rattle.kr_fin.specs.declared.shapes.Section.TheVariants.{Objects, Arrays, Fields, Params}
+use Rattle.kr_fin.specs.declared.shapes.Section.TheVariants.{Objects, Domains, Arrays, Fields, Params}
 use Rattle.kr_fin.specs.Shapes.{name_of, have, counts, fuels}
+use Rattle.kr_fin.specs.Version.{version_of, objects_section}
 
 abbrev Text : Type 0
 Text = List ℕ
@@ -64,11 +65,27 @@ abbrev pub domain_of : Option Data → List Item
 domain_of None = []
 domain_of (Some d) = items_of (unwrap_or (as_array d) no_items)
 
--- ---- What the tables of names say
+-- ---- entries of the tables of names
 
 abbrev pub counts_of : Members → List Count
 counts_of no_members = []
-counts_of (member key d rest) = record { name = key; count = number_of counts (Some d) } ∷ counts_of rest
+counts_of (member key d rest) = record { name = key; class = key; count = number_of counts (Some d) } ∷ counts_of rest
+
+abbrev pub object_domain_of : Text → Members → Count
+object_domain_of key ms = record {
+  name = key;
+  class = text_of (get_member (codes "class") ms);
+  count = number_of counts (get_member (codes "count") ms);
+}
+
+abbrev pub object_domains_of : Members → List Count
+object_domains_of no_members = []
+object_domains_of (member key d rest) = object_domain_of key (members_of (Some d)) ∷ object_domains_of rest
+
+-- the objects of either version: in the first each class is its own domain
+abbrev pub objects_of : Section → Members → List Count
+objects_of Domains ms = object_domains_of ms
+objects_of _ ms = counts_of ms
 
 abbrev pub bound_of : Text → Members → ArrayBound
 bound_of key ms = record {
@@ -92,9 +109,10 @@ table_of section ms = members_of (get_member (name_of section) ms)
 
 unfoldable pub document_of : Members → FinDoc
 document_of ms = record {
+  version = version_of ms;
   root = text_of (get_member (codes "root") ms);
   fuel = number_of fuels (get_member (codes "fuel") ms);
-  objects = counts_of (table_of Objects ms);
+  objects = objects_of (objects_section ms) (table_of (objects_section ms) ms);
   arrays = bounds_of (table_of Arrays ms);
   fields = domains_of (table_of Fields ms);
   params = domains_of (table_of Params ms);

@@ -7,11 +7,12 @@ use Rattle.kr_fin.specs.declared.shapes.Limits.{Limits}
 use Rattle.kr_fin.specs.declared.shapes.Purpose.{Purpose}
 use Rattle.kr_fin.specs.declared.shapes.Purpose.TheVariants.{Lengths, Slot}
 use Rattle.kr_fin.specs.declared.shapes.Section.{Section}
-use Rattle.kr_fin.specs.declared.shapes.Section.TheVariants.{Objects, Arrays, Fields, Params}
+use Rattle.kr_fin.specs.declared.shapes.Section.TheVariants.{Objects, Domains, Arrays, Fields, Params}
 use Rattle.kr_fin.specs.declared.shapes.Shape.{Shape}
-use Rattle.kr_fin.specs.declared.shapes.Shape.TheVariants.{Document, Range, Array}
+use Rattle.kr_fin.specs.declared.shapes.Shape.TheVariants.{Document, Range, Array, ObjectDomain}
 use Rattle.kr_fin.specs.Order.{Fault, broken}
-use Rattle.kr_fin.specs.Shapes.{knows, name_of, item_of, have, counts, fuels, limits_of, is_pair}
+use Rattle.kr_fin.specs.Shapes.{knows, name_of, item_of, have, counts, fuels, versions, limits_of, is_pair, is_domain_name}
+use Rattle.kr_fin.specs.Version.{objects_section}
 
 abbrev Text : Type 0
 Text = List ℕ
@@ -28,7 +29,7 @@ abbrev pub of_kind : {X : Type 0} → (X → List Fault) → Text → Option X �
 of_kind faults at None = broken WrongKind at
 of_kind faults at (Some x) = faults x
 
--- each key is one that the table may have; `named` says which item another one breaks
+-- each key is one that the table may have; `named` gives the item of another one
 abbrev pub unknown_keys : Shape → (Text → Text) → Members → List Fault
 unknown_keys shape named no_members = []
 unknown_keys shape named (member key d rest) =
@@ -41,6 +42,11 @@ within limits at number = if have limits number then [] else broken OutOfLimit a
 
 abbrev pub number : Limits → Text → Data → List Fault
 number limits at d = of_kind (within limits at) at (as_integer d)
+
+-- ---- Texts
+
+abbrev pub text : Text → Data → List Fault
+text at d = of_kind (λ text. []) at (as_str d)
 
 -- ---- Domains
 
@@ -73,7 +79,18 @@ values purpose at (item d rest) = value purpose at d ++ values purpose at rest
 abbrev pub domain : Purpose → Text → Data → List Fault
 domain purpose at d = of_kind (values purpose at) at (as_array d)
 
--- ---- What the tables of names say of a name
+-- ---- a name in the tables of names
+
+-- the class of an object domain, and how many objects it has
+abbrev pub object_domain : Text → Members → List Fault
+object_domain at ms =
+    unknown_keys ObjectDomain (λ key. at) ms
+    ++ (required (text at) at (get_member (codes "class") ms)
+    ++ required (number counts at) at (get_member (codes "count") ms))
+
+-- an object domain of a name
+abbrev pub named_domain : Text → Text → Data → List Fault
+named_domain key at d = (if is_domain_name key then [] else broken WrongKind at) ++ of_kind (object_domain at) at (as_table d)
 
 -- how many arrays of a type there are, and how long they are
 abbrev pub bound : Text → Members → List Fault
@@ -88,6 +105,7 @@ keyed key at d = (if is_pair key then [] else broken WrongKind at) ++ domain Slo
 
 abbrev pub entry : Section → Text → Text → Data → List Fault
 entry Objects key at d = number counts at d
+entry Domains key at d = named_domain key at d
 entry Arrays key at d = of_kind (bound at) at (as_table d)
 entry Fields key at d = keyed key at d
 entry Params key at d = keyed key at d
@@ -107,7 +125,11 @@ section s ms = optional (λ d. of_kind (entries s) (name_of s) (as_table d)) (ge
 -- ---- The whole
 
 abbrev pub root : Members → List Fault
-root ms = required (λ d. of_kind (λ text. []) (codes "root") (as_str d)) (codes "root") (get_member (codes "root") ms)
+root ms = required (text (codes "root")) (codes "root") (get_member (codes "root") ms)
+
+-- 1 or 2, and it may be absent
+abbrev pub version : Members → List Fault
+version ms = optional (number versions (codes "version")) (get_member (codes "version") ms)
 
 abbrev pub fuel : Members → List Fault
 fuel ms = required (number fuels (codes "fuel")) (codes "fuel") (get_member (codes "fuel") ms)
@@ -115,9 +137,10 @@ fuel ms = required (number fuels (codes "fuel")) (codes "fuel") (get_member (cod
 unfoldable pub faults_in : Members → List Fault
 faults_in ms =
     unknown_keys Document (λ key. key) ms
+    ++ (version ms
     ++ (root ms
     ++ (fuel ms
-    ++ (section Objects ms
+    ++ (section (objects_section ms) ms
     ++ (section Arrays ms
     ++ (section Fields ms
-    ++ section Params ms)))))
+    ++ section Params ms))))))

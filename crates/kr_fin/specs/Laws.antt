@@ -11,6 +11,6 @@ use Rattle.kr_fin.specs.Order.{rank_of}
 abbrev pub LeastLaw : Type 0
 LeastLaw = by.LeastLaw rank_of
 
--- what breaks no rule as a value of a domain is one item of it
+-- a value of a domain that breaks no rule is one item of it
 abbrev pub ItemLaw : Type 0
 ItemLaw = (purpose : Purpose) (at : List ℕ) (d : Data) → value purpose at d ≡ [] → length (item_of d) ≡ 1

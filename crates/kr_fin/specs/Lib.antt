@@ -1,6 +1,8 @@
 pub mod Least
 pub mod Order
+pub mod Identifiers
 pub mod Shapes
+pub mod Version
 pub mod Faults
 pub mod Document
 pub mod Meaning

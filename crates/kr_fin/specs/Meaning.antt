@@ -36,7 +36,7 @@ unfoldable pub meaning : List ℕ → Result FinDoc Fault
 meaning bytes =
     if is_short bytes then of_table (table_in bytes) else Err (record { rule = TooLong; item = codes "size" })
 
--- the refusal is for want of memory, or for the fault that is wanted
+-- the refusal is out of memory, or the fault that is expected
 abbrev pub Refuses : Result FinDoc Fault → RefusalOf FinRule → Type 0
 Refuses wanted (refusal.Broken fault) = wanted ≡ Err fault
 Refuses wanted (refusal.NoMemory why) = Unit {0}

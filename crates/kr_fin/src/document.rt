@@ -1,10 +1,10 @@
-// What a finitization states.
+// The contents of a finitization.
 
 use crate::list::Listed;
 use crate::text::Text;
 
 /// A value of a domain, or several: a number, the numbers of a range with both its ends, a truth value, or a name:
-/// `null`, or a class or array type, which stands for all its objects.
+/// `null`, or an object domain or array type, which stands for all its objects.
 #[derive(Drop)]
 pub enum Item {
     Number(i64),
@@ -16,10 +16,11 @@ pub enum Item {
 /// The values that a slot may have, in their order.
 pub type Domain = Listed<Item>;
 
-/// A class, and how many objects it has.
+/// An object domain: its name, the class of its objects, and how many it has. In version 1 the name is the class's.
 #[derive(Drop)]
 pub struct Count {
     pub name: Text,
+    pub class: Text,
     pub count: u32,
 }
 
@@ -41,6 +42,8 @@ pub struct NamedDomain {
 /// A finitization. Each list is in the order in which the TOML table has its keys.
 #[derive(Drop)]
 pub struct FinDoc {
+    /// 1, or 2: whether names are those of classes, or of object domains.
+    pub version: u32,
     pub root: Text,
     pub fuel: u64,
     pub objects: Listed<Count>,

@@ -1,14 +1,17 @@
 // Which rules a table breaks: each part notes its faults, of which the least is kept.
-ghost use Rattle.std.specs.Prelude.{◌≡◌, ◌++◌, Some, None, fold, option_map, unwrap_or, string_bytes, OnOk, IfOk};
+ghost use Rattle.std.specs.Prelude.{◌≡◌, Some, None, fold, option_map, unwrap_or, string_bytes, OnOk, IfOk};
 ghost use Rattle.toml.specs.View.{view, table_view, array_view};
 ghost use Rattle.toml.specs.Data.{get_member};
 ghost use Rattle.kr_fin.specs.Order.{lesser, least as least_of};
 ghost use Rattle.kr_fin.specs.Faults as spec;
 ghost use Rattle.kr_fin.specs.Shapes as shape;
+ghost use Rattle.kr_fin.specs.Version as versions;
 
 use crate::least::Least;
 use crate::refusal::FinRule;
-use crate::shapes::{COUNTS, FUEL, Limits, Purpose, Section, Shape, is_pair};
+use crate::shapes::{
+    COUNTS, FUEL, Limits, Purpose, Section, Shape, VERSIONS, is_domain_name, is_pair,
+};
 use kr_base::{Fault, NoMemory};
 use std::alloc::Global;
 use toml::value::Array;
@@ -75,6 +78,30 @@ fn required_number(
 {
     match value {
         Some(value) => number(least, limits, at, value),
+        None => least.note(FinRule::MissingKey, at),
+    }
+}
+
+fn text(least: &mut Least<FinRule>, at: &str, value: &Value) -> Result<(), NoMemory>
+    ensures { OnOk result (least.new ≡ fold lesser least.old (spec.text at.now (view value.now))) }
+{
+    match value.as_str() {
+        Some(_) => Ok(()),
+        None => least.note(FinRule::WrongKind, at),
+    }
+}
+
+// A text that has to be there.
+fn required_text(
+    least: &mut Least<FinRule>,
+    at: &str,
+    value: Option<&Value>,
+) -> Result<(), NoMemory>
+    ensures { OnOk result (least.new ≡ fold lesser least.old
+        (spec.required (spec.text at.now) at.now (option_map (λ v. view v.now) value.entry))) }
+{
+    match value {
+        Some(value) => text(least, at, value),
         None => least.note(FinRule::MissingKey, at),
     }
 }
@@ -165,6 +192,33 @@ fn required_lengths(
     }
 }
 
+// The class of an object domain, and how many objects it has.
+fn object_domain(least: &mut Least<FinRule>, at: &str, table: &Table) -> Result<(), NoMemory>
+    ensures { OnOk result (least.new ≡ fold lesser least.old (spec.object_domain at.now (table_view table.now))) }
+{
+    unknown_keys(least, Shape::ObjectDomain, Some(at), table)?;
+    required_text(least, at, value_at(table, "class"))?;
+    required_number(least, COUNTS, at, value_at(table, "count"))
+}
+
+// An object domain of a name.
+fn named_domain(
+    least: &mut Least<FinRule>,
+    key: &str,
+    at: &str,
+    value: &Value,
+) -> Result<(), NoMemory>
+    ensures { OnOk result (least.new ≡ fold lesser least.old (spec.named_domain key.now at.now (view value.now))) }
+{
+    if !is_domain_name(key) {
+        least.note(FinRule::WrongKind, at)?;
+    }
+    match value.as_table() {
+        Some(table) => object_domain(least, at, table),
+        None => least.note(FinRule::WrongKind, at),
+    }
+}
+
 // How many arrays of a type there are, and how long they are.
 fn bound(least: &mut Least<FinRule>, at: &str, table: &Table) -> Result<(), NoMemory>
     ensures { OnOk result (least.new ≡ fold lesser least.old (spec.bound at.now (table_view table.now))) }
@@ -184,7 +238,7 @@ fn keyed(least: &mut Least<FinRule>, key: &str, at: &str, value: &Value) -> Resu
     domain(least, Purpose::Slot, at, value)
 }
 
-// What a table of names says of one of them.
+// The entry of a table of names for one of them.
 fn entry(
     least: &mut Least<FinRule>,
     section: Section,
@@ -196,6 +250,7 @@ fn entry(
 {
     match section {
         Section::Objects => number(least, COUNTS, at, value),
+        Section::Domains => named_domain(least, key, at, value),
         Section::Arrays => match value.as_table() {
             Some(table) => bound(least, at, table),
             None => least.note(FinRule::WrongKind, at),
@@ -240,12 +295,41 @@ fn section(least: &mut Least<FinRule>, section: Section, document: &Table) -> Re
 fn root(least: &mut Least<FinRule>, document: &Table) -> Result<(), NoMemory>
     ensures { OnOk result (least.new ≡ fold lesser least.old (spec.root (table_view document.now))) }
 {
-    match value_at(document, "root") {
-        Some(value) => match value.as_str() {
-            Some(_) => Ok(()),
-            None => least.note(FinRule::WrongKind, "root"),
-        },
-        None => least.note(FinRule::MissingKey, "root"),
+    required_text(least, "root", value_at(document, "root"))
+}
+
+// The version, which may be absent.
+fn version(least: &mut Least<FinRule>, document: &Table) -> Result<(), NoMemory>
+    ensures { OnOk result (least.new ≡ fold lesser least.old (spec.version (table_view document.now))) }
+{
+    match value_at(document, "version") {
+        Some(value) => number(least, VERSIONS, "version", value),
+        None => Ok(()),
+    }
+}
+
+/// Whether the document is to be read as version 2.
+#[tactic(auto, unfolding(crate::specs::Version::is_second))]
+pub(crate) fn is_second(document: &Table) -> bool
+    ensures { result ≡ versions.is_second (table_view document.now) }
+{
+    let Some(value) = value_at(document, "version") else {
+        return false;
+    };
+    match value.as_integer() {
+        Some(number) => number == 2,
+        None => false,
+    }
+}
+
+/// How the table of objects is to be read.
+pub(crate) fn objects_section(document: &Table) -> Section
+    ensures { result ≡ versions.objects_section (table_view document.now) }
+{
+    if is_second(document) {
+        Section::Domains
+    } else {
+        Section::Objects
     }
 }
 
@@ -259,9 +343,10 @@ pub(crate) fn least_fault(
 {
     let mut least = Least::new(alloc);
     unknown_keys(&mut least, Shape::Document, None, document)?;
+    version(&mut least, document)?;
     root(&mut least, document)?;
     required_number(&mut least, FUEL, "fuel", value_at(document, "fuel"))?;
-    section(&mut least, Section::Objects, document)?;
+    section(&mut least, objects_section(document), document)?;
     section(&mut least, Section::Arrays, document)?;
     section(&mut least, Section::Fields, document)?;
     section(&mut least, Section::Params, document)?;

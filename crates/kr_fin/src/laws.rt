@@ -1,4 +1,4 @@
-// What holds of the definitions of a finitization.
+// Laws of the definitions of a finitization.
 ghost use Rattle.kr_fin.specs.Laws.{LeastLaw, ItemLaw};
 
 /// The fault that is named is the least of all: the least rule, and of one rule the least item.

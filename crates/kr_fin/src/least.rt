@@ -65,7 +65,7 @@ impl<R: Ranked> Least<R> {
         Ok(())
     }
 
-    /// The same with the item as a text.
+    /// Likewise with the item as a text.
     pub fn note(&mut self, rule: R, item: &str) -> Result<(), NoMemory>
         ensures { OnOk result (self.new ≡ lesser R.rank_of self.old (record { rule = rule; item = item.now })) }
     {
@@ -77,7 +77,7 @@ impl<R: Ranked> Least<R> {
         self.alloc
     }
 
-    /// What was met, if anything.
+    /// The least fault, if any was met.
     pub fn into_fault(self) -> Option<Fault<R>>
         ensures { result ≡ self }
     {

@@ -2,6 +2,7 @@
 #![tactic(auto)]
 
 mod document;
+mod identifier;
 mod judge;
 mod laws;
 mod least;
@@ -11,10 +12,9 @@ mod refusal;
 mod shapes;
 mod text;
 
-pub use document::{ArrayBound, Count, Domain, FinDoc, Item, NamedDomain};
+pub use document::{ArrayBound, Count, FinDoc, Item, NamedDomain};
 pub use laws::{item_law, least_law};
 pub use least::{Least, Ranked};
 pub use list::Listed;
 pub use reading::{MAX_FIN_BYTES, is_too_long, read_fin};
 pub use refusal::{FinRefusal, FinRule};
-pub use text::Text;

@@ -1,5 +1,5 @@
 // Lists that contracts see as their items.
-ghost use Rattle.std.specs.Prelude.{◌≡◌, [], ◌∷◌, ◌++◌, length, OnOk, OnErr};
+ghost use Rattle.std.specs.Prelude.{◌≡◌, [], ◌∷◌, ◌++◌, OnOk, OnErr};
 
 use kr_base::NoMemory;
 use std::alloc::Global;

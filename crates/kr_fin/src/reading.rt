@@ -1,14 +1,15 @@
 // From bytes to a document.
-ghost use Rattle.std.specs.Prelude.{◌≡◌, ◌↔◌, ◌<◌, ℕ, length, IsTrue, Some, Ok, Err, option_map, option_and_then, option_to_list, unwrap_or, IfOk, IfErr, MatchResult};
+ghost use Rattle.std.specs.Prelude.{◌≡◌, ◌↔◌, ◌<◌, length, IsTrue, Some, Ok, Err, option_map, option_and_then, option_to_list, unwrap_or, IfOk, IfErr, MatchResult};
 ghost use Rattle.toml.specs.Data.{as_integer, get_member, no_members};
 ghost use Rattle.kr_fin.specs.Shapes.{counts, fuels};
 ghost use Rattle.toml.specs.Errors.{IsMemory};
 ghost use Rattle.toml.specs.View.{view, table_view, array_view};
 ghost use Rattle.kr_fin.specs.Document as spec;
 ghost use Rattle.kr_fin.specs.Meaning.{Refuses, document_in, meaning};
+ghost use Rattle.kr_fin.specs.Version as versions;
 
 use crate::document::{ArrayBound, Count, Domain, FinDoc, Item, NamedDomain};
-use crate::judge::{least_fault, value_at};
+use crate::judge::{is_second, least_fault, objects_section, value_at};
 use crate::list::Listed;
 use crate::refusal::{FinRefusal, FinRule};
 use crate::shapes::Section;
@@ -148,10 +149,55 @@ fn counts_of(alloc: Global, table: &Table) -> Result<Listed<Count>, NoMemory>
     let mut counts = Listed::new(alloc);
     for (key, value) in table {
         let name = Text::of(alloc, key.as_str())?;
+        let class = Text::of(alloc, key.as_str())?;
         let count = count_of(Some(value));
-        counts.push(Count { name, count })?;
+        counts.push(Count { name, class, count })?;
     }
     Ok(counts)
+}
+
+fn object_domain_of(alloc: Global, key: &str, table: &Table) -> Result<Count, NoMemory>
+    ensures { IfOk result (λ domain. domain ≡ spec.object_domain_of key.now (table_view table.now)) }
+{
+    let name = Text::of(alloc, key)?;
+    let class = text_of(alloc, value_at(table, "class"))?;
+    let count = count_of(value_at(table, "count"));
+    Ok(Count { name, class, count })
+}
+
+// The object domain of a name; of a value that is no table, one of no class.
+fn object_domain_at(alloc: Global, key: &str, value: &Value) -> Result<Count, NoMemory>
+    ensures { IfOk result (λ domain. domain ≡ spec.object_domain_of key.now (spec.members_of (Some (view value.now)))) }
+{
+    match value.as_table() {
+        Some(table) => object_domain_of(alloc, key, table),
+        None => Ok(Count {
+            name: Text::of(alloc, key)?,
+            class: Text::of(alloc, "")?,
+            count: 0,
+        }),
+    }
+}
+
+fn object_domains_of(alloc: Global, table: &Table) -> Result<Listed<Count>, NoMemory>
+    ensures { IfOk result (λ all. all ≡ spec.object_domains_of (table_view table.now)) }
+{
+    let mut domains = Listed::new(alloc);
+    for (key, value) in table {
+        let domain = object_domain_at(alloc, key.as_str(), value)?;
+        domains.push(domain)?;
+    }
+    Ok(domains)
+}
+
+// The objects that a table of either version has.
+fn objects_of(alloc: Global, section: Section, table: &Table) -> Result<Listed<Count>, NoMemory>
+    ensures { IfOk result (λ all. all ≡ spec.objects_of section (table_view table.now)) }
+{
+    match section {
+        Section::Domains => object_domains_of(alloc, table),
+        _ => counts_of(alloc, table),
+    }
 }
 
 fn bound_of(alloc: Global, key: &str, table: &Table) -> Result<ArrayBound, NoMemory>
@@ -215,12 +261,19 @@ fn section_of(document: &Table, section: Section) -> Option<&Table>
 }
 
 fn objects_in(alloc: Global, document: &Table) -> Result<Listed<Count>, NoMemory>
-    ensures { IfOk result (λ all. all ≡ spec.counts_of (spec.table_of Section.Objects (table_view document.now))) }
+    ensures { IfOk result (λ all. all ≡ spec.objects_of (versions.objects_section (table_view document.now)) (spec.table_of (versions.objects_section (table_view document.now)) (table_view document.now))) }
 {
-    match section_of(document, Section::Objects) {
-        Some(table) => counts_of(alloc, table),
+    let section = objects_section(document);
+    match section_of(document, section) {
+        Some(table) => objects_of(alloc, section, table),
         None => Ok(Listed::new(alloc)),
     }
+}
+
+fn version_of(document: &Table) -> u32
+    ensures { result ≡ versions.version_of (table_view document.now) }
+{
+    if is_second(document) { 2 } else { 1 }
 }
 
 fn arrays_in(alloc: Global, document: &Table) -> Result<Listed<ArrayBound>, NoMemory>
@@ -245,11 +298,12 @@ fn domains_in(
     }
 }
 
-// What a table states.
+// The contents of a table.
 #[tactic(auto, unfolding(crate::specs::Document::document_of))]
 fn document_of(alloc: Global, document: &Table) -> Result<FinDoc, NoMemory>
     ensures { IfOk result (λ doc. doc ≡ spec.document_of (table_view document.now)) }
 {
+    let version = version_of(document);
     let root = text_of(alloc, value_at(document, "root"))?;
     let fuel = fuel_of(value_at(document, "fuel"));
     let objects = objects_in(alloc, document)?;
@@ -257,6 +311,7 @@ fn document_of(alloc: Global, document: &Table) -> Result<FinDoc, NoMemory>
     let fields = domains_in(alloc, document, Section::Fields)?;
     let params = domains_in(alloc, document, Section::Params)?;
     Ok(FinDoc {
+        version,
         root,
         fuel,
         objects,
@@ -291,8 +346,8 @@ fn judge(alloc: Global, table: &Table) -> Result<FinDoc, FinRefusal>
     }
 }
 
-/// Want of memory that the reader of TOML tells: it hands no error of the allocator on, so that one is had by asking for
-/// more than there can be.
+/// Out of memory, as the reader of TOML reports it: it hands on no error of the allocator, so one is made by asking for more
+/// than there can be.
 fn lacking(alloc: Global, error: &toml::de::Error) -> NoMemory
     requires { IsMemory error.now }
 {

@@ -2,24 +2,29 @@
 ghost use Rattle.std.specs.Prelude.{◌≡◌, position};
 ghost use Rattle.kr_fin.specs.Shapes as spec;
 
-/// A table whose keys are fixed: the whole document, a range, or an array type's bound.
+use crate::identifier::is_identifier;
+
+/// A table whose keys are fixed: the whole document, a range, an array type's bound, or an object domain.
 #[derive(Clone, Copy, PartialEq, Eq)]
 pub enum Shape {
     Document,
     Range,
     Array,
+    ObjectDomain,
 }
 
-/// A table whose keys are names.
+/// A table whose keys are names: `Objects` is that of version 1, which counts the objects of classes, `Domains` that of
+/// version 2, which has object domains.
 #[derive(Clone, Copy, PartialEq, Eq)]
 pub enum Section {
     Objects,
+    Domains,
     Arrays,
     Fields,
     Params,
 }
 
-/// What a list of values is for: the lengths of arrays, or a slot.
+/// The use of a list of values: the lengths of arrays, or a slot.
 #[derive(Clone, Copy, PartialEq, Eq)]
 pub enum Purpose {
     Lengths,
@@ -42,6 +47,7 @@ impl Shape {
             Shape::Document => is_document_key(key),
             Shape::Range => key == "from" || key == "to",
             Shape::Array => key == "count" || key == "lengths",
+            Shape::ObjectDomain => key == "class" || key == "count",
         }
     }
 }
@@ -49,7 +55,8 @@ impl Shape {
 fn is_document_key(key: &str) -> bool
     ensures { result ≡ spec.knows Shape.Document key.now }
 {
-    key == "root"
+    key == "version"
+        || key == "root"
         || key == "fuel"
         || key == "objects"
         || key == "arrays"
@@ -64,6 +71,7 @@ impl Section {
     {
         match self {
             Section::Objects => "objects",
+            Section::Domains => "objects",
             Section::Arrays => "arrays",
             Section::Fields => "fields",
             Section::Params => "params",
@@ -88,6 +96,9 @@ impl Purpose {
 
 /// The limits of counts and lengths.
 pub(crate) const COUNTS: Limits = Limits { low: 0, high: 64 };
+
+/// The versions of the format.
+pub(crate) const VERSIONS: Limits = Limits { low: 1, high: 2 };
 
 /// The limits of the fuel.
 pub(crate) const FUEL: Limits = Limits {
@@ -130,4 +141,11 @@ pub(crate) fn is_pair(key: &[u8]) -> bool
         Some(at) => is_part(&key[..at]) && is_part(&key[at + 1..]),
         None => false,
     }
+}
+
+/// Whether an object domain may have the name: an identifier other than `null`.
+pub(crate) fn is_domain_name(key: &str) -> bool
+    ensures { result ≡ spec.is_domain_name key.now }
+{
+    is_identifier(key) && key != "null"
 }

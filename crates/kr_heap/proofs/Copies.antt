@@ -3,7 +3,7 @@ use Rattle.std.proofs.Common.{◌≡◌, ℕ, zero, suc, ◌+◌, ◌-◌, ◌<�
 use Rattle.std.specs.Prelude.{map, take, drop, slice_set}
 use Rattle.std.proofs.lemmas.List.{take-append-drop, take_all, length-drop}
 
--- one more of the first is as another list has it
+-- one more element is copied
 taken_set : {X Y : Type 0} (f : X → Y) (xs : List X) (x : X) (ys : List X) (k : ℕ) (d : X) → k < length xs → k < length ys → take k (map f xs) ≡ take k (map f ys) → f x ≡ f (get_or ys k d) → take (suc k) (map f (slice_set xs k x)) ≡ take (suc k) (map f ys)
 taken_set f [] x ys k d a b t e = absurd (omega (arith, a))
 taken_set f (z ∷ zs) x [] k d a b t e = absurd (omega (arith, b))
@@ -27,6 +27,6 @@ map_rest f (suc n) (x ∷ xs) = map_rest f n xs
 pub to_the_end : {X : Type 0} (n m : ℕ) (xs : List X) → m ≡ length xs - n → take m (drop n xs) ≡ drop n xs
 to_the_end n m xs e = take_all m (drop n xs) (omega (arith, e, length-drop n xs))
 
--- the first ones, and the rest behind them
+-- the first items, and the rest after them
 pub first_and_rest : {X Y : Type 0} (f : X → Y) (xs front all : List X) (n : ℕ) → map f front ≡ take n (map f xs) → map f all ≡ map f front ++ map f (drop n xs) → map f all ≡ map f xs
 first_and_rest f xs front all n e g = g ∙ (ap (λ ys. ys ++ map f (drop n xs)) e ∙ (ap (λ ys. take n (map f xs) ++ ys) (map_rest f n xs) ∙ take-append-drop n (map f xs)))

@@ -17,7 +17,7 @@ there objects o row lt is = get_or-map shown objects o row no_object lt ∙ ap s
 abbrev pub made : Class → List Value → HeapObject
 made class values = record { class = class; values = values }
 
--- another object in its place, of its class and with these values
+-- another object of the same class with these values replaces it
 pub replaced : (objects : List Object) (o : ℕ) (row new : Object) (vs : List Value) → o < length objects → row ≡ get_or objects o row → new.class ≡ row.class → new.values ≡ vs → map shown (slice_set objects o new) ≡ with_values (map shown objects) o vs
 replaced objects o row new vs lt is class values =
     map-set shown objects o new
@@ -26,12 +26,12 @@ replaced objects o row new vs lt is class values =
     ∙ ap (λ (us : List Value). made row.class us) values
     ∙ ap (λ (x : HeapObject). made x.class vs) (sym (there objects o row lt is)))
 
--- with what is made of its values
+-- with values computed from the old ones
 pub changed : (change : List Value → List Value) (objects : List Object) (o : ℕ) (row new : Object) → o < length objects → row ≡ get_or objects o row → new.class ≡ row.class → new.values ≡ change row.values → map shown (slice_set objects o new) ≡ with_values (map shown objects) o (change (object_in (map shown objects) o).values)
 changed change objects o row new lt is class values =
     replaced objects o row new (change (object_in (map shown objects) o).values) lt is class (values ∙ ap (λ (x : HeapObject). change x.values) (sym (there objects o row lt is)))
 
--- with what it had
+-- with the old values
 pub kept : (objects : List Object) (o : ℕ) (row new : Object) → row ≡ get_or objects o row → new.class ≡ row.class → new.values ≡ row.values → map shown (slice_set objects o new) ≡ map shown objects
 kept objects o row new is class values =
     map-set_same shown objects o new row (ap (λ (c : Class). made c new.values) class ∙ ap (λ (us : List Value). made row.class us) values ∙ ap shown is)

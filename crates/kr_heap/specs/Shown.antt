@@ -1,4 +1,4 @@
--- Between crates: an object of the code, as one of the meaning.
+-- Between crates: an object of the code as one of the meaning.
 use Rattle.kr_value.specs.Heaps.{HeapObject}
 use Rattle.kr_heap.specs.declared.object.Object.{Object}
 

@@ -29,7 +29,7 @@ impl Model for Heap {
     ghost view = { λ h. map shown h.objects.items };
 }
 
-/// The first objects become those at their numbers among others.
+/// The first objects replace those at their numbers in another list.
 fn copy_into(objects: &mut Vec<Object>, others: &[Object]) -> Result<(), NoMemory>
     requires { length objects.old.items ≤ length others.now }
     ensures long { length objects.new.items ≡ length objects.old.items }
@@ -41,7 +41,7 @@ fn copy_into(objects: &mut Vec<Object>, others: &[Object]) -> Result<(), NoMemor
     Ok(())
 }
 
-/// Copies of objects come behind all others.
+/// Appends copies of objects.
 fn append_copies(
     alloc: Global,
     objects: &mut Vec<Object>,
@@ -55,7 +55,7 @@ fn append_copies(
     Ok(())
 }
 
-/// Others' objects in place of these, in the room that is there.
+/// Replaces the objects by copies of others, in existing room.
 fn copy_objects(alloc: Global, objects: &mut Vec<Object>, others: &[Object]) -> Result<(), NoMemory>
     ensures { OnOk result (map shown objects.new.items ≡ map shown others.now) }
 {
@@ -66,7 +66,7 @@ fn copy_objects(alloc: Global, objects: &mut Vec<Object>, others: &[Object]) -> 
 }
 
 impl Heap {
-    /// No objects. It takes no memory.
+    /// Allocates nothing.
     pub fn new(alloc: Global) -> Self
         ensures { result ≡ [] }
     {
@@ -75,7 +75,7 @@ impl Heap {
         }
     }
 
-    /// Others' objects in place of these, in the room that is there.
+    /// Replaces the objects by copies of others, in existing room.
     pub fn copy_from(&mut self, alloc: Global, other: &Heap) -> Result<(), NoMemory>
         ensures { OnOk result (self.new ≡ other.now) }
     {
@@ -89,7 +89,7 @@ impl Heap {
         self.objects.len()
     }
 
-    /// What an object is of.
+    /// The class of an object.
     #[inline(always)]
     pub fn class_of(&self, object: Obj) -> Class
         ensures { result ≡ (object_in self.now object).class }
@@ -100,7 +100,7 @@ impl Heap {
         }
     }
 
-    /// How many values an object has.
+    /// The number of an object's values.
     #[inline(always)]
     pub fn size_of(&self, object: Obj) -> usize
         ensures { result ≡ length (object_in self.now object).values }
@@ -111,7 +111,7 @@ impl Heap {
         }
     }
 
-    /// What an object has at a spot; none where it has no such spot.
+    /// The value of an object at a spot, if it has that spot.
     #[inline(always)]
     pub fn read(&self, object: Obj, spot: Spot) -> Option<Value>
         ensures { result ≡ found (object_in self.now object) spot }
@@ -122,7 +122,7 @@ impl Heap {
         }
     }
 
-    /// Gives an object another value in one of its fields or elements, where it has that.
+    /// Writes a value to a field or element of an object, if it has that.
     #[inline(always)]
     pub fn write(&mut self, object: Obj, at: usize, value: Value)
         ensures { self.new ≡ with_value self.old object at value }
@@ -141,7 +141,7 @@ impl Heap {
         self.objects[object as usize].values.as_slice()
     }
 
-    /// The members of a collection, to be changed.
+    /// The members of a collection, for changes.
     #[inline(always)]
     pub fn members_mut(&mut self, object: Obj) -> &mut Members
         requires { object < length self.old }
@@ -152,7 +152,7 @@ impl Heap {
         &mut found.values
     }
 
-    /// A new object with these values, behind all others.
+    /// Adds an object with these values at the end.
     pub fn allocate(&mut self, class: Class, values: Vec<Value>) -> Result<Obj, NoMemory>
         requires { length values.items ≤ 2147483647 }
         ensures number { IfOk result (λ o. o ≡ length self.old) }
@@ -168,14 +168,14 @@ impl Heap {
         Ok(number)
     }
 
-    /// The first objects alone.
+    /// Keeps the first objects only.
     pub fn truncate(&mut self, count: usize)
         ensures { self.new ≡ take count self.old }
     {
         self.objects.truncate(count);
     }
 
-    /// An object's first values alone, as where an array gets shorter.
+    /// Keeps an object's first values only, for an array that gets shorter.
     pub fn truncate_values(&mut self, object: Obj, count: usize)
         ensures { self.new ≡ with_values self.old object (take count (object_in self.old object).values) }
     {
@@ -184,7 +184,7 @@ impl Heap {
         }
     }
 
-    /// One value more for an object, as where an array gets longer.
+    /// Pushes a value to an object, for an array that gets longer.
     pub fn push_value(&mut self, object: Obj, value: Value) -> Result<(), NoMemory>
         ensures added { OnOk result (self.new ≡ with_values self.old object ((object_in self.old object).values ++ value ∷ [])) }
         ensures unchanged { OnErr result (self.new ≡ self.old) }

@@ -1,4 +1,4 @@
-//! The heap of a running program, as code: its objects with their classes and values, and the members of collections.
+//! The heap of a running program: objects with their classes and values, and the members of collections.
 #![tactic(auto)]
 
 mod heap;

@@ -1,9 +1,9 @@
-// Lists of what is copied: others' items, and one more.
+// Lists of `Copy` items: copying from another list, and pushing.
 ghost use Rattle.std.specs.Prelude.{◌≡◌, ◌≤◌, [], ◌∷◌, ◌++◌, length, OnErr, OnOk};
 
 use kr_base::NoMemory;
 
-/// Others in place of these, in the room that is there.
+/// Replaces the items by copies of others, in existing room.
 #[inline(always)]
 pub fn refill<T: Copy + Drop>(items: &mut Vec<T>, others: &[T]) -> Result<(), NoMemory>
     ensures few { length items.new.items ≤ length others.now }
@@ -20,7 +20,7 @@ pub fn refill<T: Copy + Drop>(items: &mut Vec<T>, others: &[T]) -> Result<(), No
     Ok(())
 }
 
-/// One more at the end: where there is room, without a call.
+/// Pushes an item; without a call if there is room.
 #[inline(always)]
 pub fn append<T: Copy + Drop>(items: &mut Vec<T>, item: T) -> Result<(), NoMemory>
     ensures added { OnOk result (items.new.items ≡ items.old.items ++ item ∷ []) }

@@ -1,4 +1,4 @@
-// What an object has, in order: fields, elements, or the members of a collection.
+// The members of an object in order: fields, elements, or the members of a collection.
 ghost use Rattle.std.specs.Prelude.{◌≡◌, ◌<◌, ◌≤◌, [], ◌∷◌, ◌++◌, length, take, slice_get, slice_set, OnOk, OnErr, IfOk, MatchOption};
 ghost use Rattle.std.specs.List.{remove};
 
@@ -8,19 +8,19 @@ use kr_value::Value;
 use std::alloc::Global;
 use std::marker::Model;
 
-/// Want of memory for more values than an object has: each takes more than two bytes.
+/// Out of memory, for more values than an object can have: they would need more than 4 GiB.
 pub fn too_many(values: &[Value]) -> NoMemory
     requires { 2147483647 ≤ length values.now }
 {
     NoMemory::at_limit(values.len() as u64 * 2 + 1)
 }
 
-/// The fields, elements or members of an object: at most 2147483647, so that a length is an int. The first one is taken away
-/// in constant time, on average over the calls. Contracts see the list.
+/// The fields, elements or members of an object: at most 2147483647, so that a length is an int. Removing the first one
+/// takes constant time, amortized. Contracts see the list.
 #[derive(Drop)]
 pub struct Members {
     items: Vec<Value>,
-    // how many of the items are gone from the front
+    // the number of removed items at the front
     gone: usize,
 }
 
@@ -36,7 +36,7 @@ impl Model for Members {
 }
 
 impl Members {
-    /// No members. It takes no memory.
+    /// Allocates nothing.
     pub fn new(alloc: Global) -> Self
         ensures { result ≡ [] }
     {
@@ -54,14 +54,13 @@ impl Members {
         Members { items, gone: 0 }
     }
 
-    /// The same members once more.
     pub fn copy(&self, alloc: Global) -> Result<Members, NoMemory>
         ensures { IfOk result (λ members. members ≡ self.now) }
     {
         Ok(Members::from_vec(self.as_slice().to_vec(alloc)?))
     }
 
-    /// Others' members in place of these, in the room that is there.
+    /// Replaces the members by copies of others, in existing room.
     #[inline(always)]
     pub fn copy_from(&mut self, others: &Members) -> Result<(), NoMemory>
         ensures { OnOk result (self.new ≡ others.now) }
@@ -86,7 +85,7 @@ impl Members {
         self.as_slice().get(at).copied()
     }
 
-    /// Puts another member at a position, where there is one.
+    /// Replaces the member at a position, if there is one.
     #[inline(always)]
     #[tactic(auto, using(crate::proofs::Parts::drop_replaced))]
     pub fn set(&mut self, at: usize, member: Value)
@@ -97,7 +96,7 @@ impl Members {
         }
     }
 
-    // Gives the room of what is gone back.
+    // Gives back the room of removed items.
     #[cold]
     #[inline(never)]
     fn compact(&mut self)
@@ -121,7 +120,7 @@ impl Members {
         append(&mut self.items, member)
     }
 
-    /// Takes the first member away.
+    /// Removes the first member.
     #[inline(always)]
     pub fn pop_first(&mut self) -> Option<Value>
         ensures { MatchOption result ((self.old ≡ []) × (self.new ≡ [])) (λ m. self.old ≡ m ∷ self.new) }
@@ -131,7 +130,7 @@ impl Members {
         Some(first)
     }
 
-    /// Takes the member at a position away.
+    /// Removes the member at a position.
     #[tactic(auto, using(crate::proofs::Parts::drop_removed))]
     pub fn remove(&mut self, at: usize)
         requires { at < length self.old }
@@ -140,7 +139,7 @@ impl Members {
         let _ = self.items.remove(self.gone + at);
     }
 
-    /// The first members alone.
+    /// Keeps the first members only.
     #[tactic(auto, using(crate::proofs::Parts::drop_taken))]
     pub fn truncate(&mut self, count: usize)
         ensures { self.new ≡ take count self.old }

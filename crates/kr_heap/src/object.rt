@@ -4,7 +4,7 @@ use kr_base::NoMemory;
 use kr_value::{Class, Spot, Value};
 use std::alloc::Global;
 
-/// What it is of, and its fields, elements or members.
+/// An object: its class, and its fields, elements or members.
 #[derive(Drop)]
 pub struct Object {
     pub class: Class,
@@ -16,7 +16,7 @@ impl Object {
     ghost use Rattle.kr_heap.specs.Objects.{found};
     ghost use Rattle.kr_heap.specs.Shown.{shown};
 
-    /// What it has at a spot; none where it has no such spot.
+    /// The value at a spot, if the object has that spot.
     #[inline(always)]
     pub fn read(&self, spot: Spot) -> Option<Value>
         ensures { result ≡ found (shown self.now) spot }
@@ -37,7 +37,6 @@ impl Object {
         }
     }
 
-    /// The same object once more.
     pub fn copy(&self, alloc: Global) -> Result<Object, NoMemory>
         ensures { IfOk result (λ object. shown object ≡ shown self.now) }
     {
@@ -47,7 +46,7 @@ impl Object {
         })
     }
 
-    /// Another's class and values in place of these, in the room that is there.
+    /// Replaces class and values by those of another object, in existing room.
     #[inline(always)]
     pub fn copy_from(&mut self, other: &Object) -> Result<(), NoMemory>
         ensures { OnOk result (shown self.new ≡ shown other.now) }

@@ -1,4 +1,4 @@
--- Between crates: what files and sinks in memory hold, and what they count.
+-- Between crates: the state and the counts of files and sinks in memory.
 use Rattle.std.specs.Prelude.{◌≡◌, ℕ, ◌+◌, ◌-◌, ◌^◌, ◌==◌, min, length, List, Bool, not, ◌||◌, ◌&&◌, Option, option_map, string_bytes}
 use Rattle.std.specs.List.{list_any}
 use Rattle.std.specs.Option.{is_none}
@@ -6,11 +6,11 @@ use Rattle.kr_io.specs.declared.memory.MemFiles.{MemFiles}
 use Rattle.kr_io.specs.declared.sinks.MemSink.{MemSink}
 use Rattle.kr_io.specs.Held.{held_by}
 
--- the number of the call after so many, which stands still at the last number of 32 bits
+-- the number of the next call; it stops at 2^32 - 1
 abbrev pub next_call : ℕ → ℕ
 next_call calls = min (calls + 1) (2 ^ 32 - 1)
 
--- whether the call after so many is listed
+-- whether the next call is listed
 abbrev pub is_next_listed : List ℕ → ℕ → Bool
 is_next_listed failing calls = list_any (λ number. number == next_call calls) failing
 
@@ -53,7 +53,7 @@ sink_failing sink = sink.failing.items
 abbrev pub sink_calls : MemSink → ℕ
 sink_calls sink = sink.calls
 
--- the bytes for which there is room
+-- the capacity in bytes
 abbrev pub sink_room : MemSink → ℕ
 sink_room sink = sink_capacity sink - length (sink_bytes sink)
 
@@ -61,7 +61,7 @@ sink_room sink = sink_capacity sink - length (sink_bytes sink)
 abbrev pub put_fails : MemSink → List ℕ → Bool
 put_fails sink piece = is_next_listed (sink_failing sink) (sink_calls sink) || (sink_room sink == 0 && not (length piece == 0))
 
--- a put leaves how the sink was made
+-- a put keeps the sink's parameters
 pub record IsMadeAlike (old new : MemSink) : Type 0 where
   pub capacity : sink_capacity new ≡ sink_capacity old
   pub step : sink_step new ≡ sink_step old

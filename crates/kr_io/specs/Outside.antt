@@ -1,4 +1,4 @@
--- Between crates: what the real files and the real output count.
+-- Between crates: the counts of the real files and the real output.
 use Rattle.std.specs.Prelude.{ℕ, List, Option, option_map, string_bytes}
 use Rattle.kr_io.specs.declared.disk.DiskFiles.{DiskFiles}
 use Rattle.kr_io.specs.declared.output.StdSink.{StdSink}

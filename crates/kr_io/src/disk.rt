@@ -1,7 +1,9 @@
 // The real files.
-ghost use Rattle.std.specs.Prelude.{◌≡◌, ◌≤◌, ◌++◌, None, option_map, string_bytes, length, take, IfOk, IfSome};
+ghost use Rattle.std.specs.Prelude.{◌≡◌, ◌≤◌, ◌<◌, ◌++◌, None, option_map, string_bytes, length, take, IfOk, IfSome};
+ghost use Rattle.std.specs.Io.KnownBytes.{Consumes, IsAtEnd};
 
 use crate::files::name_of;
+use crate::signals::{INTERRUPTIONS, is_interrupted};
 use crate::{Files, ReadRefusal};
 use kr_base::NoMemory;
 use std::alloc::Global;
@@ -10,7 +12,7 @@ use std::{fs, rt};
 
 const CHUNK: usize = 1 << 16;
 
-/// Files by their paths. It tells no bytes, counts each read that fails, and keeps the name of the last one.
+/// Files by their paths. Their bytes are not known to proofs. Each failed read is counted, and its name is kept.
 #[derive(Drop)]
 pub struct DiskFiles<'a, R: rt::Files> {
     rt: &'a R,
@@ -22,7 +24,7 @@ pub struct DiskFiles<'a, R: rt::Files> {
 impl<'a, R: rt::Files> DiskFiles<'a, R> {
     ghost use Rattle.kr_io.specs.Outside.{disk_faults, disk_last};
 
-    /// Files as the system has them.
+    /// Files of the operating system.
     pub fn new(rt: &'a R, alloc: Global) -> Self
         ensures faults { disk_faults result ≡ 0 }
         ensures last { disk_last result ≡ None }
@@ -43,25 +45,61 @@ fn append(bytes: &mut Vec<u8>, more: &[u8]) -> Result<(), NoMemory>
     Ok(())
 }
 
-/// The first bytes that a reader gives, at most so many.
+/// One read. Where a signal interrupts it, it is tried again.
+#[tactic(auto, using(crate::proofs::Front::keeps_same, crate::proofs::Front::keeps_keeps, crate::proofs::Front::keeps_appends, crate::proofs::Front::keeps_consumes))]
+fn read_some<S: Read>(source: &mut S, buffer: &mut [u8]) -> Result<usize, ReadRefusal>
+    ensures count { IfOk result (λ n. n ≤ length buffer.new) }
+    ensures bytes { IfOk result (λ n. Consumes (S.remaining source.old) (S.remaining source.new) (take n buffer.new)) }
+    ensures end { IfOk result (λ n. n ≡ 0 → 0 < length buffer.new → IsAtEnd (S.remaining source.new)) }
+{
+    for _ in 0..INTERRUPTIONS {
+        match source.read(buffer) {
+            Ok(count) => return Ok(count),
+            Err(error) if is_interrupted(&error) => {}
+            Err(_) => return Err(ReadRefusal::Failed),
+        }
+    }
+    Err(ReadRefusal::Failed)
+}
+
+/// A buffer on the heap: a small stack has no room for it.
+fn buffer_of(alloc: Global) -> Result<Vec<u8>, NoMemory>
+    ensures { IfOk result (λ buffer. length buffer.items ≡ 65536) }
+{
+    Ok(vec![in alloc; 0; CHUNK]?)
+}
+
+/// The first bytes of a reader, at most `most`, read through a buffer.
 #[tactic(auto, using(crate::proofs::Front::front_at_end, crate::proofs::Front::front_full))]
-fn read_front<S: Read>(alloc: Global, source: &mut S, most: usize) -> Result<Vec<u8>, ReadRefusal>
+fn read_through<S: Read>(
+    alloc: Global,
+    source: &mut S,
+    most: usize,
+    buffer: &mut [u8],
+) -> Result<Vec<u8>, ReadRefusal>
+    requires { 0 < length buffer.old }
     ensures short { IfOk result (λ v. length v.items ≤ most) }
     ensures bytes { IfOk result (λ v. IfSome (S.remaining source.old) (λ all. v.items ≡ take most all)) }
 {
     let mut bytes = Vec::new(alloc);
-    let mut buffer = [0u8; CHUNK];
     while bytes.len() < most {
-        let want = (most - bytes.len()).min(CHUNK);
-        let Ok(count) = source.read(&mut buffer[..want]) else {
-            return Err(ReadRefusal::Failed);
-        };
+        let want = (most - bytes.len()).min(buffer.len());
+        let count = read_some(source, &mut buffer[..want])?;
         if count == 0 {
             return Ok(bytes);
         }
         append(&mut bytes, &buffer[..count])?;
     }
     Ok(bytes)
+}
+
+/// The first bytes that a reader gives, at most so many.
+fn read_front<S: Read>(alloc: Global, source: &mut S, most: usize) -> Result<Vec<u8>, ReadRefusal>
+    ensures short { IfOk result (λ v. length v.items ≤ most) }
+    ensures bytes { IfOk result (λ v. IfSome (S.remaining source.old) (λ all. v.items ≡ take most all)) }
+{
+    let mut buffer = buffer_of(alloc)?;
+    read_through(alloc, source, most, &mut buffer)
 }
 
 fn read_file<R: rt::Files>(

@@ -1,5 +1,5 @@
-//! Where files come from and where text goes: the traits, and what stands behind them in memory and outside; and the
-//! gate that tests hold workers at.
+//! Reading files and writing text: the traits, implementations in memory and on the real system, and the gate that
+//! tests use to hold workers.
 #![tactic(auto)]
 
 mod disk;
@@ -7,6 +7,7 @@ mod files;
 mod gate;
 mod memory;
 mod output;
+mod signals;
 mod sinks;
 
 pub use disk::DiskFiles;

@@ -8,7 +8,6 @@ use crate::{Files, ReadRefusal};
 use kr_base::NoMemory;
 use std::alloc::Global;
 
-/// A named text.
 #[derive(Drop)]
 pub struct MemFile {
     pub name: String,
@@ -29,7 +28,7 @@ pub struct MemFiles {
 impl MemFiles {
     ghost use Rattle.kr_io.specs.Memory.{files_held, files_faults, files_last, files_failing, files_calls};
 
-    /// Files of these names and bytes. Of two of one name the first is read.
+    /// If two files have the same name, the first is read.
     pub fn new(alloc: Global, files: Vec<MemFile>, failing: Vec<u32>) -> Self
         ensures held { (name : List ℕ) → files_held result name ≡ held_by files.items name }
         ensures faults { files_faults result ≡ 0 }
@@ -59,7 +58,7 @@ fn find<'a>(files: &'a [MemFile], name: &str) -> Option<&'a [u8]>
     None
 }
 
-/// A copy of the first bytes, at most so many.
+/// A copy of the first bytes, at most `most`.
 fn first_of(alloc: Global, bytes: &[u8], most: usize) -> Result<Vec<u8>, NoMemory>
     ensures { IfOk result (λ first. first.items ≡ take most bytes.now) }
 {

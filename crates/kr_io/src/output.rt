@@ -1,11 +1,13 @@
-// A sink over a writer of std, as standard output.
-ghost use Rattle.std.specs.Prelude.{◌≡◌};
+// A sink on top of a writer of std, as standard output.
+ghost use Rattle.std.specs.Prelude.{◌≡◌, ◌<◌, ◌≤◌, length, take, MatchOption};
+ghost use Rattle.std.specs.Io.KnownBytes.{Appends, Keeps};
 
+use crate::signals::{INTERRUPTIONS, is_interrupted};
 use kr_base::{Failed, Sink};
 use std::io::Write;
 
-/// A writer, of which it tells the bytes that the writer tells to hold: standard output tells none. Each write that
-/// fails, or takes nothing of a piece that isn't empty, is counted.
+/// Writes to a writer, whose bytes are known only if the writer knows them; standard output doesn't. Counts each write
+/// that fails, or takes nothing of a nonempty piece.
 #[derive(Drop)]
 pub struct StdSink<W: Write + Drop> {
     inner: W,
@@ -15,12 +17,28 @@ pub struct StdSink<W: Write + Drop> {
 impl<W: Write + Drop> StdSink<W> {
     ghost use Rattle.kr_io.specs.Outside.{output_faults};
 
-    /// A sink that puts each piece by one write.
+    /// Each put is one write.
     pub fn new(inner: W) -> Self
         ensures { output_faults result ≡ 0 }
     {
         StdSink { inner, faults: 0 }
     }
+}
+
+/// Writes a front of a nonempty piece; tries again where a signal interrupts the write. None: it failed.
+#[tactic(auto, using(crate::proofs::Front::keeps_same, crate::proofs::Front::keeps_keeps, crate::proofs::Front::keeps_appends, crate::proofs::Front::keeps_consumes))]
+fn write_some<W: Write>(inner: &mut W, piece: &[u8]) -> Option<usize>
+    ensures within { MatchOption result (Keeps (W.contents inner.old) (W.contents inner.new)) (λ n. (0 < n) × (n ≤ length piece.now) × Appends (W.contents inner.old) (W.contents inner.new) (take n piece.now)) }
+{
+    for _ in 0..INTERRUPTIONS {
+        match inner.write(piece) {
+            Ok(0) => return None,
+            Ok(count) => return Some(count),
+            Err(error) if is_interrupted(&error) => {}
+            Err(_) => return None,
+        }
+    }
+    None
 }
 
 impl<W: Write + Drop> Sink for StdSink<W> {
@@ -32,9 +50,9 @@ impl<W: Write + Drop> Sink for StdSink<W> {
         if piece.is_empty() {
             return Ok(0);
         }
-        match self.inner.write(piece) {
-            Ok(count) if count > 0 => Ok(count),
-            _ => {
+        match write_some(&mut self.inner, piece) {
+            Some(count) => Ok(count),
+            None => {
                 self.faults = self.faults.saturating_add(1);
                 Err(Failed)
             }

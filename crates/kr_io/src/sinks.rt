@@ -4,7 +4,7 @@ ghost use Rattle.std.specs.Prelude.{◌≡◌, ◌≤◌, ◌<◌, [], Some, Non
 use kr_base::{Failed, NoMemory, Sink};
 use std::alloc::Global;
 
-/// Takes all, keeps and tells nothing, and never fails.
+/// Takes everything, keeps nothing, and never fails.
 #[derive(Clone, Copy)]
 pub struct SafeSink;
 
@@ -24,8 +24,8 @@ impl Sink for SafeSink {
     }
 }
 
-/// A buffer whose room is reserved when it is made. It takes at most `step` bytes a put, and fails at the calls whose
-/// numbers (from 1) are listed, and where it is full.
+/// A buffer with fixed room. It takes at most `step` bytes a put, and fails at the calls whose numbers (from 1) are
+/// listed, and when it is full.
 #[derive(Drop)]
 pub struct MemSink {
     bytes: Vec<u8>,
@@ -42,7 +42,7 @@ pub struct MemSink {
 impl MemSink {
     ghost use Rattle.kr_io.specs.Memory.{sink_bytes, sink_faults, sink_capacity, sink_step, sink_failing, sink_calls};
 
-    /// An empty sink. It takes all of its memory now.
+    /// An empty sink. Allocates all of its memory.
     pub fn new(
         alloc: Global,
         capacity: usize,
@@ -68,7 +68,7 @@ impl MemSink {
         })
     }
 
-    /// What was taken so far.
+    /// The bytes taken so far.
     pub fn bytes(&self) -> &[u8]
         ensures { result.now ≡ sink_bytes self.now }
     {

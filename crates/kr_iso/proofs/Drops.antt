@@ -2,7 +2,7 @@
 use Rattle.std.proofs.Common.{◌≡◌, ℕ, zero, suc, ◌+◌, ◌<◌, ◌∙◌, inl, inr, List, [], ◌∷◌, length, drop, get_or, refl, sym, arith, drop-cons, add-one, ap, Option, Some, None}
 use Rattle.kr_mean.specs.Problem.{DomainObject}
 use Rattle.kr_mean.specs.Space.{Space}
-use Rattle.kr_iso.specs.Choices.{IsUsed}
+use Rattle.kr_mean.specs.Choices.{IsUsed}
 use Rattle.kr_iso.specs.Choices.{PathIn}
 use Rattle.kr_iso.specs.Unused.{IsNear, IsReached}
 

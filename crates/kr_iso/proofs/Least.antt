@@ -7,7 +7,7 @@ use Rattle.kr_mean.specs.Blocks.{IsBlock, IsSpace, IsMoved, on_slot, on_index}
 use Rattle.kr_base.specs.Cuts.{Before}
 use Rattle.kr_mean.specs.Readings.{AllBelow, IsReading}
 use Rattle.kr_mean.specs.Runs.{key_along}
-use Rattle.kr_iso.specs.Choices.{IsUsed, MayStand, AllowedAlong}
+use Rattle.kr_mean.specs.Choices.{IsUsed, MayStand, AllowedAlong}
 use Rattle.kr_mean.specs.Isomorphism.{IsLeast}
 use Rattle.kr_iso.specs.Laws.{ChoiceLaw}
 use Rattle.kr_iso.specs.Swap.{swap}
@@ -25,7 +25,7 @@ key_renamed S name v w [] below r = refl
 key_renamed S name v w (s ∷ ss) below r =
     ap (λ (x : ℕ). x ∷ key_along w (map (on_slot S name) ss)) (r.values s below.0) ∙ ap (λ (l : List ℕ). on_index S name s (get_or v s 0) ∷ l) (key_renamed S name v w ss below.1 r)
 
--- what is used after one more step
+-- the objects used after one more step
 pub split_used : (S : Space) (path : List (ℕ × ℕ)) (p : ℕ × ℕ) (c k : ℕ) → IsUsed S (path ++ p ∷ []) c k → IsUsed S path c k ⊎ (S.object_at p.0 p.1 ≡ Some (record { domain = c; number = k }))
 split_used S [] p c k (inl h) = inr h
 split_used S [] p c k (inr h) = inl h
@@ -123,7 +123,7 @@ dec_used S (p ∷ path) c k = go (dec_obj (S.object_at p.0 p.1) c k) (dec_used S
     go (inr h) (inl u) = inl (inr u)
     go (inr h) (inr u) = inr (λ x. elim x [ inl a ↦ h a | inr b ↦ u b ])
 
--- an unused object that stands before another
+-- an unused object that is numbered before another
 pub record Unused (S : Space) (path : List (ℕ × ℕ)) (c n : ℕ) : Type 0 where
   pub number : ℕ
   pub before : number < n

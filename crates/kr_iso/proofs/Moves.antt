@@ -1,4 +1,4 @@
--- A renaming by objects and places, and the same as arithmetic.
+-- A renaming by objects and places equals one by arithmetic.
 use Rattle.std.proofs.Common.{◌≡◌, ℕ, ◌+◌, ◌-◌, ◌*◌, ◌<◌, List, [], ◌∷◌, Option, Some, None, refl, sym, ap, ◌∙◌, subst, get_or, arith}
 use Rattle.std.specs.Prelude.{map}
 use Rattle.kr_mean.specs.Places.{SlotPlace, This, Parameter, At}
@@ -7,7 +7,7 @@ use Rattle.kr_mean.specs.Space.{Space, IsVector, IsRenaming, IsRenamed, IsRename
 use Rattle.kr_mean.specs.Blocks.{width_in, IsBlock, IsPart, IsSpace, IsMoved, RenamingLaw, on_slot, on_index}
 use Rattle.kr_mean.specs.Readings.{AllBelow, AreRenamedSlots, IsReading}
 
--- ---- the same spot
+-- ---- equal spots
 
 pub same_self : (p : SlotPlace) → IsSameSpot p p
 same_self This = tt

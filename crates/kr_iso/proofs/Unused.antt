@@ -3,7 +3,8 @@ use Rattle.std.proofs.Common.{◌≡◌, ℕ, zero, suc, ◌+◌, ◌<◌, ◌�
 use Rattle.std.proofs.lemmas.Bool.{cases_lt, cases_eq}
 use Rattle.kr_mean.specs.Problem.{DomainObject}
 use Rattle.kr_mean.specs.Space.{Space}
-use Rattle.kr_iso.specs.Choices.{IsUsed, MayStand, AllowedPath}
+use Rattle.kr_iso.specs.Choices.{AllowedPath}
+use Rattle.kr_mean.specs.Choices.{IsUsed, MayStand}
 use Rattle.kr_iso.specs.Unused.{IsBarred, IsReached, MayNotStand}
 use Rattle.kr_iso.proofs.Least.{split_used, used_more, used_last}
 
@@ -50,7 +51,7 @@ counts_on S before (p ∷ path) d next c a =
 counts : (S : Space) (path : List (ℕ × ℕ)) (d : ℕ) → AllowedPath S [] path → (n : ℕ) × Counts S path d n
 counts S path d a = counts_on S [] path d 0 (record { below = λ k u. absurd u; used = λ k h. absurd (omega arith) }) a
 
--- ---- an object may stand exactly where it is the first, or one that stands is at most one less
+-- ---- an object is allowed exactly where it is the first, or one used before is at most one less
 
 reached : (S : Space) (path : List (ℕ × ℕ)) (d k : ℕ) → (k ≡ 0 → ⊥) → IsUsed S path d k ⊎ ((j : ℕ) → j < k → IsUsed S path d j) → IsReached S path (record { domain = d; number = k })
 reached S path d k some (inl used) = (k, omega arith, used)
@@ -70,9 +71,9 @@ reached_may S path o a r =
 pub may_reached : (S : Space) (path : List (ℕ × ℕ)) (o : DomainObject) → (o.number ≡ 0 → ⊥) → MayStand S path (Some o) → IsReached S path o
 may_reached S path o some may = reached S path o.domain o.number some may
 
--- ---- what may stand at an index
+-- ---- allowed indices
 
--- an object that comes no later may stand too
+-- an object that comes no later is allowed too
 earlier_may : (S : Space) (path : List (ℕ × ℕ)) (d j k : ℕ) → AllowedPath S [] path → j ≤ k → IsUsed S path d k ⊎ ((i : ℕ) → i < k → IsUsed S path d i) → MayStand S path (Some (record { domain = d; number = j }))
 earlier_may S path d j k a le (inl used) =
     let c = counts S path d a in

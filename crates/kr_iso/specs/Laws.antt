@@ -4,7 +4,7 @@ use Rattle.kr_mean.specs.Space.{Space, IsVector}
 use Rattle.kr_mean.specs.Blocks.{IsSpace}
 use Rattle.kr_mean.specs.Readings.{IsReading}
 use Rattle.kr_mean.specs.Isomorphism.{IsLeast}
-use Rattle.kr_iso.specs.Choices.{AllowedAlong}
+use Rattle.kr_mean.specs.Choices.{AllowedAlong}
 
 -- A vector is least exactly where each index along its order is allowed after those before it.
 abbrev pub ChoiceLaw : Type 0 → Type 0

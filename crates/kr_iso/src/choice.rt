@@ -1,6 +1,7 @@
 // The next choice at a slot.
-ghost use Rattle.std.specs.Prelude.{◌≡◌, ◌<◌, [], Some, IsTrue, ◌↔◌};
-ghost use Rattle.kr_iso.specs.Choices.{PathIn, AllowedPath, IsAllowed, IsNextChoice, MayStand};
+ghost use Rattle.std.specs.Prelude.{◌<◌, [], Some, IsTrue, ◌↔◌};
+ghost use Rattle.kr_iso.specs.Choices.{PathIn, AllowedPath};
+ghost use Rattle.kr_mean.specs.Choices.{MayStand, IsAllowed, IsNextChoice};
 ghost use Rattle.kr_iso.specs.Objects.{object_of, shown};
 ghost use Rattle.kr_iso.specs.Unused.{IsBarred, IsNear, IsReached, MayNotStand};
 
@@ -19,7 +20,7 @@ fn is_near(other: Option<Object>, object: Object) -> bool
     }
 }
 
-/// Whether an object stands on the path whose number is at most one less: looked for from the path's end.
+/// Whether an object whose number is at most one less occurs on the path; searched from the path's end.
 #[inline(always)]
 fn is_reached<S: Slots>(slots: &S, path: &[(u32, u32)], object: Object) -> bool
     requires { PathIn (S.space slots.now) path.now }
@@ -36,7 +37,7 @@ fn is_reached<S: Slots>(slots: &S, path: &[(u32, u32)], object: Object) -> bool
     false
 }
 
-/// Whether an object may stand after a path.
+/// Whether an object is allowed after a path.
 #[inline(always)]
 fn may_stand<S: Slots>(slots: &S, path: &[(u32, u32)], object: Object) -> bool
     requires path { PathIn (S.space slots.now) path.now }
@@ -46,7 +47,7 @@ fn may_stand<S: Slots>(slots: &S, path: &[(u32, u32)], object: Object) -> bool
     object.number == 0 || is_reached(slots, path, object)
 }
 
-/// Whether an object that may not stand is of the same domain and comes no later, so that this one may not stand either.
+/// Whether an object that is not allowed is of the same domain and comes no later, so that this one isn't allowed either.
 #[inline(always)]
 fn is_barred(barred: Option<Object>, object: Object) -> bool
     ensures { IsTrue result ↔ IsBarred (shown barred) (object_of object) }
@@ -57,7 +58,7 @@ fn is_barred(barred: Option<Object>, object: Object) -> bool
     }
 }
 
-/// Whether an index is allowed after a path. Notes an object that may not stand.
+/// Whether an index is allowed after a path. Notes an object that isn't allowed.
 #[inline(always)]
 fn is_allowed<S: Slots>(
     slots: &S,

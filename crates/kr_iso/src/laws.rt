@@ -1,4 +1,4 @@
-// What makes a candidate the least of its class.
+// A candidate is the least of its class exactly where each of its choices is allowed.
 ghost use Rattle.kr_iso.specs.Laws.{ChoiceLaw};
 ghost use Rattle.kr_mean.specs.Blocks.{RenamingLaw};
 
@@ -7,7 +7,7 @@ pub fn choice_law<M>()
     ensures { ChoiceLaw M }
 {}
 
-/// A renaming by objects and places is the same as arithmetic on the numbers of slots and on indices.
+/// A renaming by objects and places equals arithmetic on the numbers of slots and on indices.
 pub fn renaming_law()
     ensures { RenamingLaw }
 {}

@@ -1,5 +1,5 @@
-//! Which choices of a search lead to the least candidate of each class: of each class domain only objects that stand on
-//! the path already, and the next unused one.
+//! Which choices of a search lead to the least candidate of each class: of each class domain only objects that already occur on
+//! the path, and the next unused one.
 #![tactic(auto)]
 
 mod choice;

@@ -1,4 +1,4 @@
-// What candidates are made of.
+// The slots of candidates.
 ghost use Rattle.std.specs.Prelude.{◌≡◌, ◌<◌};
 ghost use Rattle.kr_mean.specs.Space.{Space};
 ghost use Rattle.kr_iso.specs.Objects.{shown};
@@ -7,7 +7,7 @@ use crate::Object;
 
 /// The slots of a problem, with their domains.
 pub trait Slots {
-    /// What candidates need to know of them.
+    /// The slots of a problem, as candidates need them.
     ghost space: { Self → Space };
 
     /// How many slots there are.
@@ -19,7 +19,7 @@ pub trait Slots {
         requires { slot < (space self.now).slots }
         ensures { result ≡ (space self.now).size slot };
 
-    /// The object that an index of a slot stands for, if it is one.
+    /// The object that is the value at an index of a slot, if it is one.
     fn object_at(&self, slot: u32, index: u32) -> Option<Object>
         requires slot { slot < (space self.now).slots }
         requires index { index < (space self.now).size slot }

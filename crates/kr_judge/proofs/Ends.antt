@@ -1,4 +1,4 @@
--- What a run says, from what its conditions say.
+-- The end of a run, from the ends of its conditions.
 use Rattle.std.proofs.Common.{◌≡◌, ℕ, Bool, true, false, List, [], ◌∷◌, ◌++◌, Result, Ok, Err, refl, sym, ap, subst, ◌∙◌}
 use Rattle.std.specs.Prelude.{flat_map, if◌then◌else◌}
 use Rattle.kr_mean.specs.declared.kind.Stop.{Stop}
@@ -11,7 +11,6 @@ use Rattle.kr_mean.specs.Steps.{Outcome}
 use Rattle.kr_run_state.specs.Noting.{noted_once}
 use Rattle.kr_run_state.specs.Ends.{IsEnd}
 use Rattle.kr_run_state.specs.declared.world.Halt.{Halt}
-use Rattle.kr_run_state.specs.declared.world.Halt.TheVariants.{Ended}
 use Rattle.kr_run_state.specs.declared.world.World.{World}
 use Rattle.kr_space_layout.specs.Bounds.{Bounds, bare, problem_with}
 use Rattle.kr_judge.proofs.Orders.{once, with_all, with_both}

@@ -1,13 +1,12 @@
--- Slots that come behind others, and what is left where they go again.
+-- Slots that follow others, and those left where they are removed again.
 use Rattle.std.proofs.Common.{◌≡◌, ℕ, zero, suc, ◌<◌, ◌≤◌, arith, ◌⊎◌, inl, inr, Bool, true, false, List, [], ◌∷◌, ◌++◌, length, take, drop, ◌+◌, add-one, refl, sym, ap, ◌∙◌, subst}
 use Rattle.std.specs.Prelude.{flat_map, map, reverse, ◌||◌, ◌==◌, if◌then◌else◌}
 use Rattle.std.proofs.Math.Seq.{take-append_seam, drop-cons}
-use Rattle.std.proofs.lemmas.Bool.{eqb-true, eq-eqb}
+use Rattle.std.proofs.lemmas.Bool.{eqb-true, eq-eqb, or_right, cases_Bool}
 use Rattle.std.proofs.lemmas.List.{append-nil, append_assoc, map-append, reverse-append, reverse-reverse, take-append-drop, take-map, take_all}
 use Rattle.std.proofs.lemmas.List.Concat.{flat_map-append}
 use Rattle.kr_mean.specs.Places.{SlotPlace}
 use Rattle.kr_mean.specs.Runs.{contains_number, is_same_place}
-use Rattle.kr_laws_slots.proofs.Membership.{bool_cases}
 use Rattle.kr_mean.specs.Places.{place_of}
 use Rattle.kr_value.specs.declared.place.SlotPlace.{SlotPlace as Place}
 use Rattle.kr_run_state.specs.Noting.{is_read}
@@ -16,10 +15,6 @@ use Rattle.kr_judge.specs.Orders.{AreMarked, EachOnce, with_slot, with_slots}
 use Rattle.kr_judge.specs.declared.accesses.Access.{Access}
 use Rattle.kr_judge.proofs.Orders.{contains_more, same_places, with_both}
 use Rattle.std.proofs.Common.{get_or}
-
-or_right : (a b : Bool) → b ≡ true → (a || b) ≡ true
-or_right true b h = refl
-or_right false b h = h
 
 -- ---- each once
 
@@ -49,7 +44,7 @@ once_less (t ∷ ts) s o =
 -- it isn't marked any more
 pub marked_less : (old new : List Bool) (ss : List ℕ) (s : ℕ) → AreMarked old (ss ++ s ∷ []) → contains_number ss s ≡ false
     → ((m : ℕ) → get_or new m false ≡ (if m == s then false else get_or old m false)) → AreMarked new ss
-marked_less old new ss s a e h = λ t. h t ∙ (ap (λ (b : Bool). if t == s then false else b) (a t ∙ contains_more ss s t) ∙ go t (bool_cases (t == s)))
+marked_less old new ss s a e h = λ t. h t ∙ (ap (λ (b : Bool). if t == s then false else b) (a t ∙ contains_more ss s t) ∙ go t (cases_Bool (t == s)))
   where
     go : (t : ℕ) → ((t == s) ≡ true) ⊎ ((t == s) ≡ false) → (if t == s then false else (if t == s then true else contains_number ss t)) ≡ contains_number ss t
     go t (inl i) = rw i (sym (ap (contains_number ss) (eqb-true t s i) ∙ e))
@@ -66,7 +61,7 @@ contains_at (s ∷ ss) (suc n) h = or_right (s == get_or ss n 0) (contains_numbe
 pub once_before : (ss : List ℕ) (n x : ℕ) → EachOnce ss → n < length ss → get_or ss n 0 ≡ x → contains_number (take n ss) x ≡ false
 once_before [] n x o h e = absurd (omega (arith, h))
 once_before (s ∷ ss) zero x o h e = refl
-once_before (s ∷ ss) (suc n) x o h e = go (bool_cases (s == x)) (once_before ss n x o.1 (omega (arith, h)) e)
+once_before (s ∷ ss) (suc n) x o h e = go (cases_Bool (s == x)) (once_before ss n x o.1 (omega (arith, h)) e)
   where
     go : ((s == x) ≡ true) ⊎ ((s == x) ≡ false) → contains_number (take n ss) x ≡ false → contains_number (take (suc n) (s ∷ ss)) x ≡ false
     go (inl i) r = absurd (cc (subst (λ (y : ℕ). contains_number ss y ≡ true) (e ∙ sym (eqb-true s x i)) (contains_at ss n (omega (arith, h))), o.0))
@@ -77,17 +72,17 @@ pub none_before : (ss : List ℕ) (n x : ℕ) → ((i : ℕ) → i < n → get_o
 none_before [] zero x h = refl
 none_before [] (suc n) x h = refl
 none_before (s ∷ ss) zero x h = refl
-none_before (s ∷ ss) (suc n) x h = go (bool_cases (s == x)) (none_before ss n x (λ k l. h (suc k) (omega (arith, l))))
+none_before (s ∷ ss) (suc n) x h = go (cases_Bool (s == x)) (none_before ss n x (λ k l. h (suc k) (omega (arith, l))))
   where
     go : ((s == x) ≡ true) ⊎ ((s == x) ≡ false) → contains_number (take n ss) x ≡ false → contains_number (take (suc n) (s ∷ ss)) x ≡ false
     go (inl i) r = absurd (h 0 (omega arith) (eqb-true s x i))
     go (inr i) r = ap (λ (b : Bool). b || contains_number (take n ss) x) i ∙ r
 
--- ---- slots behind others
+-- ---- slots after others
 
 behind : (order ss : List ℕ) → (more : List ℕ) × (with_slots order ss ≡ order ++ more)
 behind order [] = ([], sym (append-nil order))
-behind order (s ∷ ss) = go (bool_cases (contains_number order s)) (behind (with_slot order s) ss)
+behind order (s ∷ ss) = go (cases_Bool (contains_number order s)) (behind (with_slot order s) ss)
   where
     go : (contains_number order s ≡ true) ⊎ (contains_number order s ≡ false) → (more : List ℕ) × (with_slots (with_slot order s) ss ≡ with_slot order s ++ more)
         → (more : List ℕ) × (with_slots (with_slot order s) ss ≡ order ++ more)
@@ -153,7 +148,7 @@ module _ (slots_of : SlotPlace → List ℕ) where
       go false h f = f h
 
   with_slot_has : (order : List ℕ) (s t : ℕ) → contains_number order t ≡ true → contains_number (with_slot order s) t ≡ true
-  with_slot_has order s t h = go (bool_cases (contains_number order s))
+  with_slot_has order s t h = go (cases_Bool (contains_number order s))
     where
       go : (contains_number order s ≡ true) ⊎ (contains_number order s ≡ false) → contains_number (with_slot order s) t ≡ true
       go (inl e) = rw e h
@@ -164,7 +159,7 @@ module _ (slots_of : SlotPlace → List ℕ) where
           here false = h
 
   with_slot_new : (order : List ℕ) (s t : ℕ) → (s == t) ≡ true → contains_number (with_slot order s) t ≡ true
-  with_slot_new order s t q = go (bool_cases (contains_number order s))
+  with_slot_new order s t q = go (cases_Bool (contains_number order s))
     where
       go : (contains_number order s ≡ true) ⊎ (contains_number order s ≡ false) → contains_number (with_slot order s) t ≡ true
       go (inl e) = rw e (subst (λ (x : ℕ). contains_number order x ≡ true) (eqb-true s t q) e)
@@ -176,7 +171,7 @@ module _ (slots_of : SlotPlace → List ℕ) where
 
   with_slots_new : (order ss : List ℕ) (t : ℕ) → contains_number ss t ≡ true → contains_number (with_slots order ss) t ≡ true
   with_slots_new order [] t h = absurd (cc (h))
-  with_slots_new order (s ∷ ss) t h = go (bool_cases (s == t)) (with_slots_new (with_slot order s) ss t)
+  with_slots_new order (s ∷ ss) t h = go (cases_Bool (s == t)) (with_slots_new (with_slot order s) ss t)
     where
       go : ((s == t) ≡ true) ⊎ ((s == t) ≡ false) → (contains_number ss t ≡ true → contains_number (with_slots (with_slot order s) ss) t ≡ true) → contains_number (with_slots (with_slot order s) ss) t ≡ true
       go (inl e) f = with_slots_has (with_slot order s) ss t (with_slot_new order s t e)

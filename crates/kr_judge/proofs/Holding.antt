@@ -25,12 +25,12 @@ use Rattle.kr_run.specs.Answers.{Answers}
 use Rattle.kr_judge.specs.Judged.{hold_at, HoldsAs, MeansAs}
 use Rattle.kr_judge.specs.One.{OneAs}
 
--- what follows a value
+-- after a value
 pub followed : {B : Type 0} (m : Run Value) (f : Value → Run B) (seen new : List SlotPlace) (s t : State) (v : Value) → noting seen (m s) ≡ record { said = Ok v; after = t; reads = new } → noting seen (bind m f s) ≡ noting new (f v t)
 unfolding bind
 followed m f seen new s t v h = came (λ o. continued o f) (λ rs o. continued_reads rs o f) seen new (m s) (Ok v) t h
 
--- what follows the end of a run
+-- after the end of a run
 pub ended : (m : Run Value) (f : Value → Run Bool) (seen : List SlotPlace) (s : State) (e : Stop) (w : World) → noting seen (m s) ≡ record { said = Err e; after = state_of w; reads = w.reads } → noting seen (bind m f s) ≡ record { said = Err e; after = state_of w; reads = w.reads }
 unfolding bind
 ended m f seen s e w h = came (λ o. continued o f) (λ rs o. continued_reads rs o f) seen w.reads (m s) (Err e) (state_of w) h
@@ -54,8 +54,8 @@ pub halted : (code : Code) (h : Halt) (w before : World) (i : ℕ) → Answers c
 halted code (Ended e) w before i a = λ d m rest. ended (d.value i) (λ v. where_true v rest) before.reads (state_of before) e w ((a None tt).1 d m)
 halted code (Memory why) w before i a = tt
 
--- ---- what is left of the conditions
+-- ---- the rest of the conditions
 
--- what is left is what there was to look at
+-- the rest of the conditions are those to be looked at
 abbrev pub LeadsOn : Code → List ℕ → State → List SlotPlace → List ℕ → State → List SlotPlace → Type 0
 LeadsOn code all s seen rest t new = (d : Doing) → IsMeaning code d → noting seen (hold_at d all s) ≡ noting new (hold_at d rest t)

@@ -1,20 +1,20 @@
 -- Slots that come one after another are the distinct ones of all that came.
 use Rattle.std.proofs.Common.{◌≡◌, ℕ, ◌⊎◌, inl, inr, Bool, true, false, List, [], ◌∷◌, ◌++◌, refl, sym, ap, ◌∙◌, subst}
-use Rattle.std.specs.Prelude.{filter, flat_map, not, ◌||◌, ◌==◌, ◌&&◌, if◌then◌else◌}
-use Rattle.std.proofs.lemmas.Bool.{eq-eqb, eqb-true}
+use Rattle.std.specs.Prelude.{filter, flat_map, not, ◌||◌, ◌==◌, if◌then◌else◌}
+use Rattle.std.proofs.lemmas.Bool.{eq-eqb, eqb-true, and_parts, cases_Bool}
 use Rattle.std.proofs.lemmas.List.{append-nil, append_assoc}
 use Rattle.std.proofs.lemmas.List.Concat.{flat_map-append}
 use Rattle.kr_value.specs.declared.object.Spot.{Spot}
-use Rattle.kr_value.specs.declared.object.Spot.TheVariants.{Field, Length, Element}
 use Rattle.kr_mean.specs.Heaps.{distinct}
 use Rattle.kr_mean.specs.Places.{SlotPlace, This, Parameter, At}
 use Rattle.kr_mean.specs.Runs.{contains_number, is_same_number, is_same_place, is_same_spot}
-use Rattle.kr_laws_slots.proofs.Membership.{Has, bool_cases}
+use Rattle.kr_laws_slots.proofs.Membership.{Has}
 use Rattle.kr_laws_slots.proofs.Reached.{has_flat}
 use Rattle.kr_laws_slots.proofs.SlotForks.{added, distinct_append}
 use Rattle.kr_run_state.specs.Noting.{is_read, with_read, noted_once}
 use Rattle.kr_build.specs.Visits.{IsMarked}
 use Rattle.kr_judge.specs.Orders.{AreMarked, with_slot, with_slots}
+use Rattle.kr_laws_slots.proofs.Places.{same_spots}
 
 pub with_both : (order xs ys : List ℕ) → with_slots order (xs ++ ys) ≡ with_slots (with_slots order xs) ys
 with_both order [] ys = refl
@@ -39,7 +39,7 @@ added_one (t ∷ ts) s = ap (filter (λ y. not (t == y))) (added_one ts s) ∙ g
 
 in_filter : (t s : ℕ) (ss : List ℕ) → (t == s) ≡ false → contains_number (filter (λ y. not (t == y)) ss) s ≡ contains_number ss s
 in_filter t s [] e = refl
-in_filter t s (u ∷ us) e = go (bool_cases (t == u)) (bool_cases (u == s)) (in_filter t s us e)
+in_filter t s (u ∷ us) e = go (cases_Bool (t == u)) (cases_Bool (u == s)) (in_filter t s us e)
   where
     go : ((t == u) ≡ true) ⊎ ((t == u) ≡ false) → ((u == s) ≡ true) ⊎ ((u == s) ≡ false) → contains_number (filter (λ y. not (t == y)) us) s ≡ contains_number us s
         → contains_number (filter (λ y. not (t == y)) (u ∷ us)) s ≡ contains_number (u ∷ us) s
@@ -50,7 +50,7 @@ in_filter t s (u ∷ us) e = go (bool_cases (t == u)) (bool_cases (u == s)) (in_
 
 in_distinct : (s : ℕ) (ss : List ℕ) → contains_number (distinct is_same_number ss) s ≡ contains_number ss s
 in_distinct s [] = refl
-in_distinct s (t ∷ ts) = go (bool_cases (t == s)) (in_distinct s ts)
+in_distinct s (t ∷ ts) = go (cases_Bool (t == s)) (in_distinct s ts)
   where
     go : ((t == s) ≡ true) ⊎ ((t == s) ≡ false) → contains_number (distinct is_same_number ts) s ≡ contains_number ts s → contains_number (distinct is_same_number (t ∷ ts)) s ≡ contains_number (t ∷ ts) s
     go (inl e) r = rw e refl
@@ -78,7 +78,7 @@ with_all xs = with_more [] xs
 -- ---- marks
 
 pub contains_more : (order : List ℕ) (s t : ℕ) → contains_number (order ++ s ∷ []) t ≡ (if t == s then true else contains_number order t)
-contains_more [] s t = go (bool_cases (s == t)) (bool_cases (t == s))
+contains_more [] s t = go (cases_Bool (s == t)) (cases_Bool (t == s))
   where
     go : ((s == t) ≡ true) ⊎ ((s == t) ≡ false) → ((t == s) ≡ true) ⊎ ((t == s) ≡ false) → contains_number (s ∷ []) t ≡ (if t == s then true else false)
     go (inl a) (inl b) = rw (a, b) refl
@@ -114,7 +114,7 @@ kept order [] t h = h
 kept order (s ∷ ss) t h = kept (with_slot order s) ss t (kept_one order s t h)
 
 there : (order : List ℕ) (s : ℕ) → contains_number (with_slot order s) s ≡ true
-there order s = go (bool_cases (contains_number order s))
+there order s = go (cases_Bool (contains_number order s))
   where
     go : (contains_number order s ≡ true) ⊎ (contains_number order s ≡ false) → contains_number (with_slot order s) s ≡ true
     go (inl e) = rw e e
@@ -134,26 +134,11 @@ none_new order (s ∷ ss) h =
 
 -- ---- places
 
-same_spots : (s t : Spot) → is_same_spot s t ≡ true → s ≡ t
-same_spots (Field f) (Field g) e = ap (λ (n : ℕ). Field n) (eqb-true f g e)
-same_spots (Element f) (Element g) e = ap (λ (n : ℕ). Element n) (eqb-true f g e)
-same_spots Length Length e = refl
-same_spots (Field f) Length e = absurd (cc (e))
-same_spots (Field f) (Element k) e = absurd (cc (e))
-same_spots Length (Field g) e = absurd (cc (e))
-same_spots Length (Element k) e = absurd (cc (e))
-same_spots (Element k) (Field g) e = absurd (cc (e))
-same_spots (Element k) Length e = absurd (cc (e))
-
-both_true : (a b : Bool) → (a && b) ≡ true → (a ≡ true) × (b ≡ true)
-both_true true b e = (refl, e)
-both_true false b e = absurd (cc (e))
-
 pub same_places : (p q : SlotPlace) → is_same_place p q ≡ true → p ≡ q
 same_places This This e = refl
 same_places (Parameter i) (Parameter j) e = ap (λ (n : ℕ). Parameter n) (eqb-true i j e)
 same_places (At o s) (At p t) e =
-    let r = both_true (o == p) (is_same_spot s t) e in
+    let r = and_parts (o == p) (is_same_spot s t) e in
     ap (λ (n : ℕ). At n s) (eqb-true o p r.0) ∙ ap (λ (x : Spot). At p x) (same_spots s t r.1)
 same_places This (Parameter j) e = absurd (cc (e))
 same_places This (At p t) e = absurd (cc (e))
@@ -164,7 +149,7 @@ same_places (At o s) (Parameter j) e = absurd (cc (e))
 
 read_has : (p : SlotPlace) (seen : List SlotPlace) → is_read p seen ≡ true → Has p seen
 read_has p [] e = absurd (cc (e))
-read_has p (q ∷ qs) e = go (bool_cases (is_same_place q p)) (read_has p qs)
+read_has p (q ∷ qs) e = go (cases_Bool (is_same_place q p)) (read_has p qs)
   where
     go : (is_same_place q p ≡ true) ⊎ (is_same_place q p ≡ false) → (is_read p qs ≡ true → Has p qs) → Has p (q ∷ qs)
     go (inl s) r = inl (same_places q p s)
@@ -173,7 +158,7 @@ read_has p (q ∷ qs) e = go (bool_cases (is_same_place q p)) (read_has p qs)
 -- the slots of places that were read, each once, are those of each place once
 module _ (slots_for : SlotPlace → List ℕ) where
   one_place : (seen : List SlotPlace) (p : SlotPlace) → with_slots [] (flat_map slots_for (with_read seen p)) ≡ with_slots (with_slots [] (flat_map slots_for seen)) (slots_for p)
-  one_place seen p = go (bool_cases (is_read p seen))
+  one_place seen p = go (cases_Bool (is_read p seen))
     where
       all : List ℕ
       all = flat_map slots_for seen

@@ -1,4 +1,4 @@
--- What a vector spells is the same with every program.
+-- The heap that a vector spells doesn't depend on the program.
 use Rattle.std.proofs.Common.{◌≡◌, ℕ, zero, suc, List, ◌++◌, refl, ap}
 use Rattle.std.specs.Prelude.{flat_map, length}
 use Rattle.kr_mean.specs.Heaps.{heap_of, met_within, objects_at, root_slots, slots_in, walk}

@@ -1,8 +1,7 @@
 -- The slots of places, of places that no candidate has none.
-use Rattle.std.proofs.Common.{◌≡◌, ℕ, zero, suc, ◌+◌, ◌<◌, ◌≤◌, Bool, true, false, [], ◌∷◌, length, refl, sym, ap, ◌∙◌, arith}
-use Rattle.std.specs.Prelude.{filter, ◌==◌, ◌&&◌}
-use Rattle.std.specs.List.{range_with_len}
-use Rattle.std.proofs.lemmas.Bool.{eqb-true}
+use Rattle.std.proofs.Common.{◌≡◌, ℕ, zero, suc, ◌+◌, ◌<◌, ◌≤◌, true, [], ◌∷◌, length, refl, sym, ap, ◌∙◌, arith}
+use Rattle.std.specs.Prelude.{◌==◌}
+use Rattle.std.proofs.lemmas.Bool.{eqb-true, and_parts, false_from_ne_true}
 use Rattle.kr_value.specs.declared.object.Class.{Class}
 use Rattle.kr_value.specs.declared.object.Class.TheVariants.{Object, Array, Set, List as ListClass}
 use Rattle.kr_value.specs.declared.object.Spot.{Spot}
@@ -13,28 +12,16 @@ use Rattle.kr_mean.specs.WellFormed.{IsWellFormed}
 use Rattle.kr_space_layout.specs.Layouts.{first_slot}
 use Rattle.kr_laws_slots.proofs.Numbering as numbering
 use Rattle.kr_laws_slots.proofs.Numbering.{object, width_at, parameters, parameter_slot, object_slot, SlotCase, is_this, is_parameter, is_spot, slot_case}
-use Rattle.kr_laws_slots.proofs.Places.{kind, class_at, spot_slots, spot_none}
+use Rattle.kr_laws_slots.proofs.Places.{kind, class_at, spot_slots, spot_none, filter_none}
 use Rattle.kr_build.proofs.Rows.{first_same}
 use Rattle.kr_judge.specs.Columns.{spot_at, HasNone}
 use Rattle.kr_space_layout.specs.Numbers.{HasNumber}
 
 -- ---- places that no candidate has
 
-no_slot : (p : ℕ → Bool) (lo n : ℕ) → ((s : ℕ) → lo ≤ s → s < lo + n → p s ≡ false) → filter p (range_with_len lo n) ≡ []
-no_slot p lo zero miss = refl
-no_slot p lo (suc n) miss = rw (miss lo (omega arith) (omega arith)) (no_slot p (lo + 1) n (λ s a b. miss s (omega (arith, a)) (omega (arith, b))))
-
-unless_true : (b : Bool) → (b ≡ true → ⊥) → b ≡ false
-unless_true true n = absurd (n refl)
-unless_true false n = refl
-
-both_true : (a b : Bool) → (a && b) ≡ true → (a ≡ true) × (b ≡ true)
-both_true true b e = (refl, e)
-both_true false b e = absurd (cc (e))
-
 module _ (problem : Problem) where
   nowhere : (place : SlotPlace) → ((s : ℕ) → s < length (slots problem) → is_same_place (slot_at problem s).place place ≡ true → ⊥) → slots_for problem place ≡ []
-  nowhere place never = no_slot (λ s. is_same_place (slot_at problem s).place place) 0 (length (slots problem)) (λ s l h. unless_true (is_same_place (slot_at problem s).place place) (never s (omega (arith, h))))
+  nowhere place never = filter_none (λ s. is_same_place (slot_at problem s).place place) 0 (length (slots problem)) (λ s l h. false_from_ne_true (is_same_place (slot_at problem s).place place) (never s (omega (arith, h))))
 
   pub no_parameter : (i : ℕ) → parameters problem ≤ i → slots_for problem (Parameter i) ≡ []
   no_parameter i past = nowhere (Parameter i) (λ s h t. go s t (slot_case problem s h))
@@ -61,7 +48,7 @@ module _ (problem : Problem) where
       go s t (is_spot d k j a b c z) =
           let p : (slot_at problem s).place ≡ At (heap_number problem (object d k)) (numbering.spotted_at problem d j).spot = ap (λ (x : ℕ). (slot_at problem x).place) z ∙ ap (λ (x : Slot). x.place) (object_slot problem d k j a b c).1 in
           let u : is_same_place (At (heap_number problem (object d k)) (numbering.spotted_at problem d j).spot) place ≡ true = sym (ap (λ (x : SlotPlace). is_same_place x place) p) ∙ t in
-          let r = both_true (heap_number problem (object d k) == number) (is_same_spot (numbering.spotted_at problem d j).spot spot) u in
+          let r = and_parts (heap_number problem (object d k) == number) (is_same_spot (numbering.spotted_at problem d j).spot spot) u in
           none (object d k) (record { domain = a; inside = b; is = eqb-true (heap_number problem (object d k)) number r.0 })
 
 -- ---- the slots of spots

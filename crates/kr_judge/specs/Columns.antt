@@ -1,4 +1,4 @@
--- Between crates: which of an object's slots stands for a spot.
+-- Between crates: an object's slot for a spot.
 use Rattle.std.specs.Prelude.{◌≡◌, ℕ, zero, suc, ◌<◌}
 use Rattle.kr_value.specs.declared.object.Class.{Class}
 use Rattle.kr_value.specs.declared.object.Class.TheVariants.{Object, Array, Set, List}
@@ -13,6 +13,6 @@ spot_at (Object c) j = Field j
 spot_at Set j = Field j
 spot_at List j = Field j
 
--- none of so many slots stands for the spot
+-- none of so many slots is for the spot
 abbrev pub HasNone : Class → ℕ → Spot → Type 0
 HasNone class width spot = (j : ℕ) → j < width → spot_at class j ≡ spot → ⊥

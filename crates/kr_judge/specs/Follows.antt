@@ -8,12 +8,12 @@ use Rattle.kr_judge.specs.Orders.{with_slots}
 use Rattle.kr_judge.specs.declared.accesses.Access.{Access}
 use Rattle.kr_judge.specs.declared.accesses.Accesses.{Accesses}
 
--- of places, the last one first: the slots of each have come to those before it
+-- of places, the last one first: the slots of each were added to those before it
 abbrev pub AreOf : (SlotPlace → List ℕ) → List Access → List ℕ → Type 0
 AreOf slots_of [] order = order ≡ []
 AreOf slots_of (a ∷ others) order = AreOf slots_of others (take a.before order) × (order ≡ with_slots (take a.before order) (slots_of (place_of a.place)))
 
--- the slots that have come are those of the places, and others behind them
+-- the slots so far are those of the places, followed by others
 abbrev pub Follow : (SlotPlace → List ℕ) → Accesses → Type 0
 Follow slots_of a = AreOf slots_of (reverse a.places.items) (take a.count a.order)
 

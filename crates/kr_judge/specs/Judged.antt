@@ -16,7 +16,7 @@ abbrev pub hold_at : Doing → List ℕ → Run Bool
 hold_at d [] = give true
 hold_at d (i ∷ is) = d.value i >>= (λ v. where_true v (hold_at d is))
 
--- the answer is the outcome's, with what was read before it and in it, each place once; where memory ran out nothing is said
+-- the answer is the outcome's, with what was read before it and in it, each place once; on out-of-memory nothing is known
 abbrev pub MeansAs : Result Bool Halt → World → List SlotPlace → Outcome Bool → Type 0
 MeansAs (Ok b) w seen o = noting seen o ≡ record { said = Ok b; after = state_of w; reads = w.reads }
 MeansAs (Err (Ended e)) w seen o = noting seen o ≡ record { said = Err e; after = state_of w; reads = w.reads }

@@ -1,4 +1,4 @@
--- Between crates: what is said of a run.
+-- Between crates: ends of runs.
 use Rattle.std.specs.Prelude.{◌≡◌, ℕ, Bool, true, false, List, [], Result, Ok, Err}
 use Rattle.kr_mean.specs.declared.kind.Stop.{Stop}
 use Rattle.kr_mean.specs.declared.kind.Stop.TheVariants.{Trapped, OutOfFuel, Stuck}
@@ -8,7 +8,7 @@ use Rattle.kr_mean.specs.Runs.{end_on, outcome_of}
 use Rattle.kr_run_state.specs.Noting.{noted_once}
 use Rattle.kr_judge.specs.declared.run.Ran.{Ran}
 
--- the end that is said so: of a run that is stuck what doesn't accept
+-- the end that this answer means; a stuck run doesn't accept
 abbrev pub end_said : Result Bool Stop → runs.End
 end_said (Ok true) = runs.True
 end_said (Ok false) = runs.False

@@ -1,5 +1,5 @@
 // The order of slots of the last run: of it the next run keeps what both have read from the start.
-ghost use Rattle.std.specs.Prelude.{◌≡◌, ◌<◌, ◌≤◌, ◌^◌, ◌++◌, ◌⊎◌, [], IfOk, OnOk, List, ℕ, flat_map, if◌then◌else◌, length, map, reverse, take, true};
+ghost use Rattle.std.specs.Prelude.{◌≡◌, ◌<◌, ◌≤◌, ◌^◌, ◌++◌, ◌⊎◌, [], OnOk, List, ℕ, flat_map, if◌then◌else◌, length, map, reverse, take, true};
 ghost use Rattle.kr_mean.specs.Heaps.{walk};
 ghost use Rattle.kr_mean.specs.Places.{SlotPlace as Place};
 ghost use Rattle.kr_mean.specs.Problem.{slots};
@@ -135,7 +135,7 @@ fn within(number: usize, a: usize, b: usize) -> usize
     }
 }
 
-/// How many places are the same from the start, where so many are; only those behind them are looked at.
+/// How many places are equal from the start, where so many are; only those after them are looked at.
 #[inline(always)]
 fn alike(places: &[Access], reads: &[SlotPlace], shared: usize) -> usize
     ensures few { result ≤ length places.now }
@@ -268,8 +268,8 @@ impl Accesses {
         Ok(())
     }
 
-    /// Becomes those of a candidate whose run has ended so and has read these places, of which so many were read from the
-    /// start by the run before, too. Only those behind them are looked up.
+    /// Becomes those of a candidate whose run has ended so and has read these places, of which so many were read from the start
+    /// by the run before, too. Only those after them are looked up.
     pub fn take(
         &mut self,
         layout: &Layout,

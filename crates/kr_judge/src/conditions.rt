@@ -1,5 +1,5 @@
 // Conditions, each looked at only where those before it hold.
-ghost use Rattle.std.specs.Prelude.{◌≡◌, map};
+ghost use Rattle.std.specs.Prelude.{map};
 ghost use Rattle.kr_code.specs.Resolved.{Numbering, IsCodeOf};
 ghost use Rattle.kr_judge.specs.Judged.{HoldsAs, MeansAs, hold_at};
 ghost use Rattle.kr_judge.specs.One.{OneAs};
@@ -46,7 +46,7 @@ fn hold(alloc: Global, code: &Code, world: &mut World, conditions: &[u32]) -> Re
     Ok(true)
 }
 
-/// Whether the conditions at these nodes hold: what the program says of them, the world that it leaves, and the places that
+/// Whether the conditions at these nodes hold, the world that they leave, and the places that
 /// were read, each where it is read first; or how the run ends.
 pub(crate) fn hold_all(
     alloc: Global,

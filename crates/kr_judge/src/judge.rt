@@ -68,7 +68,7 @@ impl Judge {
     }
 
     /// Runs the predicate on a candidate: how the run ends, and the order of the slots that decide it, those that it has read
-    /// and, where it accepts, the reachable ones behind them (Korat's order of first accesses). The run is counted.
+    /// and, where it accepts, the reachable ones after them (Korat's order of first accesses). The run is counted.
     pub fn judge<L: Ledger>(
         &mut self,
         layout: &Layout,

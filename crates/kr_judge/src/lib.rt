@@ -11,9 +11,7 @@ mod predicate;
 mod run;
 mod start;
 
-pub use accesses::{Access, Accesses};
+pub use accesses::Accesses;
 pub use judge::Judge;
-pub use order::Order;
 pub use predicate::Predicate;
-pub use run::{Ran, run_predicate};
-pub use start::begin;
+pub use start::{begin, blank_world};

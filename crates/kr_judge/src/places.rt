@@ -22,7 +22,7 @@ fn below(number: u32, bound: u32) -> Option<u32>
     if number < bound { Some(number) } else { None }
 }
 
-/// Which of an array's slots, so many, stands for a spot.
+/// An array's slot for a spot, of so many.
 fn array_column(array: u32, width: u32, spot: Spot) -> Option<u32>
     ensures { MatchOption result (HasNone (Array array) width spot) (λ j. (j < width) × (spot_at (Array array) j ≡ spot)) }
 {
@@ -36,7 +36,7 @@ fn array_column(array: u32, width: u32, spot: Spot) -> Option<u32>
     }
 }
 
-/// Which of the slots of an object that has fields stands for a spot.
+/// The slot for a spot of an object that has fields.
 fn field_column(width: u32, spot: Spot) -> Option<u32>
     ensures { MatchOption result ((j : ℕ) → j < width → Field j ≡ spot → ⊥) (λ j. (j < width) × (Field j ≡ spot)) }
 {
@@ -47,7 +47,7 @@ fn field_column(width: u32, spot: Spot) -> Option<u32>
     }
 }
 
-/// Which of an object's slots, so many, stands for a spot.
+/// An object's slot for a spot, of so many.
 fn column(class: Class, width: u32, spot: Spot) -> Option<u32>
     ensures { MatchOption result (HasNone class width spot) (λ j. (j < width) × (spot_at class j ≡ spot)) }
 {

@@ -19,7 +19,22 @@ use kr_value::{SlotPlace, Value};
 use kr_vector::{Slot, Vector};
 use std::alloc::Global;
 
-/// What a candidate has at a slot.
+/// A world without anything. It takes no memory.
+pub fn blank_world(alloc: Global) -> World {
+    World {
+        this: Value::Null,
+        locals: Vec::new(alloc),
+        result: None,
+        olds: Vec::new(alloc),
+        candidates: Heap::new(alloc),
+        made: Heap::new(alloc),
+        is_frozen: true,
+        fuel: 0,
+        reads: Reads::new(alloc),
+    }
+}
+
+/// The value of a candidate at a slot.
 fn value_in(layout: &Layout, vector: &Vector, slot: u32) -> Value
     requires vector { IsVector (space_of (bare layout.now)) vector.now }
     requires slot { slot < length (slots (bare layout.now)) }

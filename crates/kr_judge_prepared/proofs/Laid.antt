@@ -1,5 +1,5 @@
 -- Slots, domains and choices of a problem that is laid out.
-use Rattle.std.proofs.Common.{◌≡◌, ℕ, ◌<◌, List, Option, length, get_or, ap, sym, ◌∙◌, subst}
+use Rattle.std.proofs.Common.{◌≡◌, ℕ, ◌<◌, Option, length, get_or, ap, sym, ◌∙◌, subst}
 use Rattle.kr_mean.specs.Problem.{Problem, slots, choices_at}
 use Rattle.kr_mean.specs.Space.{no_choice, space_of}
 use Rattle.kr_mean.specs.WellFormed.{IsWellFormed}

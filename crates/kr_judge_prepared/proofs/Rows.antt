@@ -1,32 +1,26 @@
 -- The fields of classes, row by row.
-use Rattle.std.proofs.Common.{◌≡◌, ℕ, zero, suc, ◌+◌, ◌<◌, ◌≤◌, ◌⊎◌, inl, inr, List, [], ◌∷◌, ◌++◌, length, map, get_or, refl, sym, ap, ◌∙◌, subst, arith}
-use Rattle.std.specs.Prelude.{Option, Some, None, option_and_then, option_to_list, flat_map, reverse, All, Vec}
+use Rattle.std.proofs.Common.{◌≡◌, ℕ, ◌+◌, ◌<◌, ◌≤◌, ◌⊎◌, inl, inr, List, [], ◌∷◌, ◌++◌, length, map, get_or, refl, sym, ap, ◌∙◌, subst, arith}
+use Rattle.std.specs.Prelude.{Option, None, option_and_then, option_to_list, flat_map, reverse, All, Vec}
 use Rattle.std.specs.List.{range_with_len}
 use Rattle.std.specs.declared.alloc.Global.{Global}
 use Rattle.std.proofs.Math.ListN.{get_or-map}
-use Rattle.std.proofs.lemmas.List.{map_push, length-map, get_or_past}
+use Rattle.std.proofs.lemmas.List.{map_push, get_or_past}
 use Rattle.std.proofs.lemmas.List.Elements.{All-push}
 use Rattle.std.proofs.lemmas.List.FromFn.{get_or-map-range_with_len, length-map-range_with_len, map-range_with_len_more}
 use Rattle.std.proofs.lemmas.Bool.{cases_lt}
 use Rattle.kr_ast.specs.Arena.{Arena}
 use Rattle.kr_classes_table.specs.Table.{Table, Class, class_at, line_within, is_instance, own_fields, fields_of}
 use Rattle.kr_classes_table.specs.Table as table
-use Rattle.kr_classes_members.specs.Kept.{AreMembers, class_count, class_shown}
+use Rattle.kr_classes_members.specs.Kept.{AreMembers, class_count}
 use Rattle.kr_classes_members.specs.Shown.{IsField, field_shown, table_in}
 use Rattle.kr_classes_members.specs.declared.fields.Field.{Field}
 use Rattle.kr_classes_members.specs.declared.members.Members.{Members}
 use Rattle.kr_judge_prepared.specs.Fields.{AreFieldsOf, rows_of}
+use Rattle.kr_classes_members.proofs.Upwards.{kept_count}
+use Rattle.kr_classes_table.proofs.Tables.{past}
+use Rattle.kr_laws_runs.proofs.Overriders.{no_line}
 
-class_past : (ds : List Class) (c : ℕ) → length ds ≤ c → class_at ds c ≡ None
-class_past [] c h = refl
-class_past (d ∷ ds) zero h = absurd (omega (arith, h))
-class_past (d ∷ ds) (suc c) h = class_past ds c (omega (arith, h))
-
-no_line : (n : ℕ) (t : Table) → line_within n t None ≡ []
-no_line zero t = refl
-no_line (suc n) t = refl
-
--- what is no class has no fields
+-- a number past the classes has no fields
 no_fields : (t : Table) (c : ℕ) → length t.classes ≤ c → fields_of t c ≡ []
 no_fields t c h =
     ap (λ (d : Option Class). flat_map is_instance (flat_map (own_fields t) (reverse (c ∷ line_within (length t.classes) t (option_and_then (λ (e : Class). e.super) d))))) none
@@ -34,7 +28,7 @@ no_fields t c h =
     ∙ ap (λ (d : Option Class). flat_map is_instance (flat_map (λ (e : Class). e.fields) (option_to_list d) ++ [])) none)
   where
     none : class_at t.classes c ≡ None
-    none = class_past t.classes c h
+    none = past t.classes c h
 
 -- the fields of the first classes
 pub record AreFirstFields (files : List Arena) (n : ℕ) (rows : List (List Field)) : Type 0 where
@@ -59,15 +53,12 @@ one_more files n rows row h s e = record {
     pushed : rows_of (rows ++ row ∷ []) ≡ rows_of rows ++ row.items ∷ []
     pushed = map_push (λ (r : Vec Field Global). r.items) rows row
 
-counted : (files : List Arena) (m : Members) → AreMembers files m → class_count m ≡ length (table_in files).classes
-counted files m h = sym (length-map m.classes.items (class_shown files)) ∙ ap length h.shown
-
 -- those of all classes
 pub all_rows : (files : List Arena) (m : Members) (n : ℕ) (rows : List (List Field)) → AreMembers files m → n ≡ class_count m → AreFirstFields files n rows → AreFieldsOf files rows
 all_rows files m n rows h e r = record { stands = r.stands; shown = each }
   where
     all : n ≡ length (table_in files).classes
-    all = e ∙ counted files m h
+    all = e ∙ kept_count files m h
 
     at : (c : ℕ) → map (field_shown files) (get_or rows c []) ≡ get_or (map (fields_of (table_in files)) (range_with_len 0 n)) c []
     at c = sym (get_or-map (map (field_shown files)) rows c []) ∙ ap (λ (x : List (List table.Field)). get_or x c []) r.shown

@@ -1,5 +1,5 @@
 -- Between crates: what holds of a problem that is searched and written.
-use Rattle.std.specs.Prelude.{◌≡◌, List, Option}
+use Rattle.std.specs.Prelude.{List, Option}
 use Rattle.kr_mean.specs.Problem as problems
 use Rattle.kr_classes_members.specs.declared.fields.Field.{Field}
 use Rattle.kr_code.specs.Resolved.{Numbering}

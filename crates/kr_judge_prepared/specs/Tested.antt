@@ -12,7 +12,7 @@ use Rattle.kr_judge_prepared.specs.declared.contract.Contract.{Contract}
 use Rattle.kr_judge_prepared.specs.declared.contract.OldCode.{OldCode}
 use Rattle.kr_judge_prepared.specs.declared.contract.ProblemCode.{ProblemCode}
 
--- the `\old` that it stands for
+-- the `\old` of this code
 abbrev pub old_shown : Numbering → OldCode → OldNode
 old_shown n o = record { place = o.place; scope = (n.origin o.operand).scope; tree = (n.origin o.operand).tree }
 

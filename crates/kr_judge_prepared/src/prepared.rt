@@ -1,13 +1,14 @@
-// What is searched and written.
-ghost use Rattle.std.specs.Prelude.{◌≡◌, ◌<◌, ◌^◌, All, IfOk, is_some, length, map, option_copied};
+// Problems that are searched and written.
+ghost use Rattle.std.specs.Prelude.{◌≡◌, ◌<◌, ◌^◌, All, IfOk, IfSome, is_some, length, map, option_copied, option_map};
 ghost use Rattle.kr_classes_table.specs.Table.{fields_of};
-ghost use Rattle.kr_classes_members.specs.Shown.{IsField, field_shown, table_in};
+ghost use Rattle.kr_classes_members.specs.Shown.{IsField, IsMethod, field_shown, method_shown, table_in};
 ghost use Rattle.kr_mean.specs.Problem.{slots};
 ghost use Rattle.kr_mean.specs.Runs.{tested_method};
 ghost use Rattle.kr_mean.specs.WellFormed.{IsWellFormed};
 ghost use Rattle.kr_laws_pruning.specs.Laws.{IsLawful};
 ghost use Rattle.kr_space_layout.specs.Bounds.{problem_with};
-ghost use Rattle.kr_space_problem.specs.Posed.{posed};
+ghost use Rattle.kr_space_problem.specs.Posed.{IsPosed, posed};
+ghost use Rattle.kr_space_problem.specs.Subjects.{IsSubject};
 ghost use Rattle.kr_judge_prepared.specs.Accepting.{IsAccepted};
 ghost use Rattle.kr_judge_prepared.specs.Tested.{IsCodeFor};
 ghost use Rattle.kr_judge_prepared.specs.Preparing.{IsRunBy};
@@ -16,14 +17,27 @@ use crate::accepted::Accepted;
 use crate::contract::{Contract, ProblemCode};
 use crate::fields::{fields_at, fields_of_classes};
 use kr_base::NoMemory;
-use kr_classes_members::Field;
+use kr_classes_members::{Field, Method};
 use kr_classes_table::ClassId;
 use kr_judge::Predicate;
 use kr_laws_pruning::lawful_law;
 use kr_space_layout::Layout;
-use kr_space_problem::Problem;
+use kr_space_problem::{Problem, Subject};
 use std::alloc::Global;
 use std::marker::Model;
+
+/// The method under test of a problem, where one is tested.
+fn method_tested(problem: &Problem, subject: &Subject) -> Option<Method>
+    requires posed { IsPosed problem.now }
+    requires subject { IsSubject problem.now subject.now }
+    ensures stands { IfSome result (IsMethod problem.now.program.trees.items) }
+    ensures shown { option_map (method_shown problem.now.program.trees.items) result ≡ tested_method (posed problem.now) (posed problem.now).mode }
+{
+    match subject.tested {
+        None => None,
+        Some(number) => problem.program.roster.methods.get(number as usize).copied(),
+    }
+}
 
 /// An accepted problem of any mode, with the code of its predicate and of its method under test, and the fields of each class's
 /// objects. Contracts see the problem and the code.
@@ -73,7 +87,7 @@ impl Prepared {
         &self.accepted.problem().layout
     }
 
-    /// What has to hold, as code of its program.
+    /// The conditions, as code of its program.
     pub fn predicate(&self) -> &Predicate
         ensures run { IsRunBy (posed self.now.problem) result.now }
         ensures same { result.now ≡ self.now.predicate }
@@ -90,6 +104,14 @@ impl Prepared {
         self.code.contract.as_ref()
     }
 
+    /// The method under test, where one is tested.
+    pub fn method(&self) -> Option<Method>
+        ensures stands { IfSome result (IsMethod self.now.problem.program.trees.items) }
+        ensures shown { option_map (method_shown self.now.problem.program.trees.items) result ≡ tested_method (posed self.now.problem) (posed self.now.problem).mode }
+    {
+        method_tested(self.accepted.problem(), self.accepted.subject())
+    }
+
     /// The fields of a class's objects, inherited ones first; none of what is no class.
     pub fn fields(&self, class: ClassId) -> &[Field]
         ensures fields { All (IsField self.now.problem.program.trees.items) result.now }
@@ -98,8 +120,8 @@ impl Prepared {
         fields_at(self.rows.as_slice(), class)
     }
 
-    /// What holds of it: it breaks no rule; it is well formed; its orders fork and rename, and its runs read only what is reachable, as those of
-    /// each pure problem do; and its slots have numbers.
+    /// Its laws: it breaks no rule; it is well formed; its orders fork and rename, and its runs read only what is reachable, as
+    /// those of each pure problem do; and its slots have numbers.
     pub fn laws(&self)
         ensures accepted { IsAccepted self.now.problem }
         ensures well { IsWellFormed (posed self.now.problem) }

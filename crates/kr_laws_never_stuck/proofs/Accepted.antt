@@ -1,29 +1,30 @@
--- What is accepted has all that the laws on runs ask.
+-- Accepted problems have all properties that the laws on runs require.
 use Rattle.std.proofs.Common.{◌≡◌, ℕ, zero, suc, ◌+◌, ◌<◌, Bool, true, false, not, ◌&&◌, ◌==◌, List, [], ◌∷◌, ◌++◌, length, map, get_or, Option, Some, None, Result, Ok, Err, refl, sym, ap, ◌∙◌, subst, arith}
 use Rattle.std.specs.Prelude.{flat_map, codes, unwrap_or, is_none, MatchOption}
 use Rattle.std.proofs.lemmas.Bool.Decides.{nat_tests}
+use Rattle.std.proofs.lemmas.Bool.{and_parts}
 use Rattle.kr_ast.specs.Tree.{Tree}
 use Rattle.kr_classes_table.specs.Nodes.{nodes}
 use Rattle.kr_classes_table.specs.Types.{JavaType, BooleanType, is_same}
 use Rattle.kr_classes_table.specs.Table.{Heading, Table, Parameter, Method, table_of, method_named}
-use Rattle.kr_classes_table.specs.Arrays.{arrays_named, once, array_types_of}
+use Rattle.kr_classes_table.specs.Arrays.{arrays_named, array_types_of}
 use Rattle.kr_classes_table.specs.Rules.{class_fault}
 use Rattle.kr_types_meaning.specs.Typing.{IsWellTyped}
 use Rattle.kr_types_meaning.proofs.WellTyped.{well_typed_law}
 use Rattle.kr_mean.specs.declared.mode.Mode.{Mode}
 use Rattle.kr_mean.specs.declared.mode.Mode.TheVariants.{List as Listing, Method as Testing}
 use Rattle.kr_mean.specs.Program.{Program, program_with}
-use Rattle.kr_mean.specs.Problem.{Problem, ClassDomain, no_objects}
+use Rattle.kr_mean.specs.Problem.{Problem, domain_at, no_objects}
 use Rattle.kr_mean.specs.Runs.{class_number, root_class, tested_method}
 use Rattle.kr_mean.specs.Space.{space_of, IsVector}
 use Rattle.kr_fin.specs.declared.document.FinDoc.{FinDoc}
 use Rattle.kr_space_meaning.specs.Keys.{method_at}
-use Rattle.kr_space_meaning.specs.Bounds.{Setting, setting_of, bounded, class_domains, array_class_domain, domains_of, root_of, program_in, problem_in, problem_of}
-use Rattle.kr_space_meaning.specs.Faults.{is_predicate, S1, S2, S3_S5_S6, S4, S7, S8, S9, faults_in}
+use Rattle.kr_space_meaning.specs.Bounds.{Setting, setting_of, bounded, domains_of, object_number, root_of, program_in, problem_in, problem_of}
+use Rattle.kr_space_meaning.specs.Faults.{is_predicate}
 use Rattle.kr_fin.specs.Least.{IsLeast}
 use Rattle.kr_space_meaning.specs.Meaning.{faults_of, unless, meaning}
 use Rattle.kr_space_meaning.specs.Order.{Fault, least, rank_of}
-use Rattle.kr_space_meaning.proofs.Each.{both_none, unbroken}
+use Rattle.kr_space_meaning.proofs.Each.{unbroken}
 use Rattle.kr_fin.proofs.Leasts.{least_of_all}
 use Rattle.kr_space_meaning.proofs.WellFormed.{well_formed}
 use Rattle.kr_laws_shapes.proofs.Shapes.{file_shape}
@@ -35,8 +36,7 @@ use Rattle.kr_space.proofs.ReadLimits.{read_limits}
 use Rattle.kr_laws_never_stuck.specs.Grown.{AreGrown}
 use Rattle.kr_laws_never_stuck.proofs.Apart as places
 use Rattle.kr_laws_never_stuck.specs.Keys.{HasKeys}
-use Rattle.kr_laws_never_stuck.proofs.Values.{class_below}
-use Rattle.kr_laws_never_stuck.proofs.Typed.{domains_typed}
+use Rattle.kr_laws_never_stuck.proofs.Typed.{domains_typed, is_posed, object_class, root_domain_is, root_numbered, rooted_by, rules_of}
 use Rattle.kr_laws_never_stuck.specs.WellTyped.{AreFiles, IsNeverStuck}
 use Rattle.kr_laws_never_stuck.proofs.Programs.{well_typed, never_stuck as runs_never_stuck}
 use Rattle.kr_laws_never_stuck.specs.TypedContracts.{HasContract}
@@ -46,6 +46,7 @@ use Rattle.kr_laws_never_stuck.proofs.Fields.{fields_apart, field_keyed}
 use Rattle.kr_laws_never_stuck.proofs.Parameters.{parameter_found}
 use Rattle.kr_laws_never_stuck.proofs.Documents.{read_pairs}
 use Rattle.kr_laws_never_stuck.proofs.Arrays.{once_more}
+use Rattle.kr_base.proofs.ListLemmas.{append_is_nil}
 
 -- ---- the files
 
@@ -84,34 +85,9 @@ program_is files document mode =
 
 -- ---- the predicate
 
-predicate_rule : (problem : Problem) (setting : Setting) (mode : Mode) → faults_in problem setting mode ≡ [] → is_predicate (method_at setting.table (root_of setting) (codes "repOk")) ≡ true
-unfolding faults_in
-predicate_rule problem setting mode e =
-    let first = (both_none (S1 setting) (S2 setting mode ++ (S3_S5_S6 problem setting ++ (S4 setting ++ (S7 setting ++ (S8 setting mode ++ S9 setting))))) e).1 in
-    let second = (both_none (S2 setting mode) (S3_S5_S6 problem setting ++ (S4 setting ++ (S7 setting ++ (S8 setting mode ++ S9 setting)))) first).1 in
-    let third = (both_none (S3_S5_S6 problem setting) (S4 setting ++ (S7 setting ++ (S8 setting mode ++ S9 setting))) second).1 in
-    let fourth = (both_none (S4 setting) (S7 setting ++ (S8 setting mode ++ S9 setting)) third).1 in
-    holds (is_predicate (method_at setting.table (root_of setting) (codes "repOk"))) (unbroken _ _ _ (both_none (S7 setting) (S8 setting mode ++ S9 setting) fourth).0)
-  where
-    holds : (b : Bool) → not b ≡ false → b ≡ true
-    holds true e = refl
-    holds false e = absurd (cc (e))
-
-root_rule : (problem : Problem) (setting : Setting) (mode : Mode) → faults_in problem setting mode ≡ [] → (c : ℕ) × (root_of setting ≡ Some c)
-unfolding faults_in
-root_rule problem setting mode e = some (root_of setting) (unbroken _ _ (codes "root") (both_none _ _ (both_none (S1 setting) _ e).0).0)
-  where
-    some : (o : Option ℕ) → is_none o ≡ false → (c : ℕ) × (o ≡ Some c)
-    some (Some c) e = (c, refl)
-    some None e = absurd (cc (e))
-
 no_more : (ps : List Parameter) → (length ps == 0) ≡ true → ps ≡ []
 no_more [] e = refl
 no_more (p ∷ ps) e = let none : suc (length ps) ≡ 0 = grind (arith, nat_tests) in absurd (omega (arith, none))
-
-and_parts : (a b : Bool) → (a && b) ≡ true → (a ≡ true) × (b ≡ true)
-and_parts true b e = (refl, e)
-and_parts false b e = absurd (cc (e))
 
 predicate_found : (program : Program) (c : ℕ) → is_predicate (method_named program.table c (codes "repOk")) ≡ true → IsPredicate program c
 predicate_found program c e = go (method_named program.table c (codes "repOk")) refl e
@@ -155,17 +131,11 @@ tested_is problem table Listing m e q = absurd (cc (q))
 tested_is problem table (Testing name) m e q = (root_class problem, name, ap (λ (t : Table). method_named t (root_class problem) name) (sym e) ∙ q)
 
 -- the root's objects are of the root's class
-class_there : (setting : Setting) (k : ℕ) (hs : List Heading) (rest : List ClassDomain) (c : ℕ) → c < length hs → (get_or (class_domains setting k hs ++ rest) c no_objects).class ≡ Object (k + c)
-class_there setting k [] rest c l = absurd (omega (arith, l))
-class_there setting k (h ∷ hs) rest zero l = let z : k ≡ k + 0 = omega arith in ap Object z
-class_there setting k (h ∷ hs) rest (suc c) l = let z : k + 1 + c ≡ k + suc c = omega arith in class_there setting (k + 1) hs rest c (omega (arith, l)) ∙ ap Object z
-
-root_number : (program : Program) (setting : Setting) (mode : Mode) (c : ℕ) → root_of setting ≡ Some c → root_class (problem_in program setting mode) ≡ c
+root_at : (program : Program) (setting : Setting) (mode : Mode) (c d : ℕ) → root_of setting ≡ Some c → object_number 0 setting.objects setting.document.root c ≡ Some d → root_class (problem_in program setting mode) ≡ c
 unfolding problem_in
-root_number program setting mode c e =
-    let z : 0 + c ≡ c = omega arith in
-    ap (λ (o : Option ℕ). class_number (get_or (domains_of setting) (unwrap_or o 0) no_objects).class) e
-    ∙ (ap class_number (class_there setting 0 setting.table.headings (map (array_class_domain setting) setting.arrays) c (class_below setting.table.headings setting.document.root c e)) ∙ z)
+root_at program setting mode c d e n =
+    ap (λ (k : ℕ). class_number (get_or (domains_of setting) k no_objects).class) (root_domain_is setting c d e n)
+    ∙ ap class_number (object_class setting setting.document.root c d n)
 
 -- the predicate is that of the root's class
 has_predicate : (files : List Tree) (document : FinDoc) (mode : Mode) → faults_of files document mode ≡ [] → IsPredicate (problem_of files document mode).program (root_class (problem_of files document mode))
@@ -173,9 +143,12 @@ unfolding problem_in
 has_predicate files document mode e =
     let setting = setting_of files document in
     let problem = problem_of files document mode in
-    let root = root_rule problem setting mode e in
-    let rule = ap is_predicate (ap (λ (o : Option ℕ). method_at setting.table o (codes "repOk")) (sym root.1)) ∙ predicate_rule problem setting mode e in
-    predicate_found problem.program (root_class problem) (ap (λ (c : ℕ). is_predicate (method_named setting.table c (codes "repOk"))) (root_number (program_in setting) setting mode root.0 root.1) ∙ rule)
+    let rules = rules_of problem setting mode e in
+    let root = rooted_by setting rules.predicate in
+    let some = subst (λ (p : Problem). ((domain_at p p.root).count == 0) ≡ false) (is_posed setting mode) rules.some in
+    let number = root_numbered setting root.0 root.1 some in
+    let rule = ap is_predicate (ap (λ (o : Option ℕ). method_at setting.table o (codes "repOk")) (sym root.1)) ∙ rules.predicate in
+    predicate_found problem.program (root_class problem) (ap (λ (c : ℕ). is_predicate (method_named setting.table c (codes "repOk"))) (root_at (program_in setting) setting mode root.0 number.0 root.1 number.1) ∙ rule)
 
 pub never_stuck : NeverStuckLaw
 never_stuck sources bytes mode problem h vector is =

@@ -29,7 +29,7 @@ module _ (p : Place) where
   abbrev W : List Tree → ℕ
   W ts = weights.weight declared held ts
 
-  -- what stands at the place is what weighs
+  -- the node at the place is the one that weighs
   own_is : (t : Tree) → weights.own declared held t ≡ node_at p t
   own_is (trees.Declarator q n e) = refl
   own_is (trees.Old q e) = refl

@@ -1,25 +1,14 @@
 -- Lines of classes: each goes on as that of the superclass, to its end.
-use Rattle.std.proofs.Common.{◌≡◌, refl, sym, ap, ◌∙◌, subst, inl, inr, ◌⊎◌, ℕ, zero, suc, ◌≤◌, Bool, true, false, ◌||◌, List, [], ◌∷◌, length, arith}
+use Rattle.std.proofs.Common.{◌≡◌, refl, sym, ap, ◌∙◌, subst, inl, inr, ◌⊎◌, ℕ, zero, suc, ◌≤◌, true, false, List, [], ◌∷◌, length, arith}
 use Rattle.std.specs.Prelude.{Option, Some, None, nat_eq, option_and_then}
-use Rattle.std.proofs.lemmas.Bool.{eq-eqb, eqb-true}
+use Rattle.std.proofs.lemmas.Bool.{eq-eqb, eqb-true, or_cases, or_right, or_left}
 use Rattle.kr_classes_table.specs.Table.{Table, Class, class_at, super_of, line_within, ancestors, line_of, is_among, is_below}
 use Rattle.kr_classes_table.specs.Ancestors.{IsWhole}
 use Rattle.kr_laws_safety.specs.Typed.{first_class, IsLine}
 use Rattle.kr_laws_never_stuck.proofs.Unbroken.{Unbroken, not_broken}
+use Rattle.kr_laws_runs.proofs.Overriders.{no_line}
 
 -- ---- booleans
-
-pub or_one : (a b : Bool) → (a || b) ≡ true → (a ≡ true) ⊎ (b ≡ true)
-or_one true b e = inl refl
-or_one false b e = inr e
-
-pub or_right : (a b : Bool) → b ≡ true → (a || b) ≡ true
-or_right true b e = refl
-or_right false b e = e
-
-pub or_left : (a b : Bool) → a ≡ true → (a || b) ≡ true
-or_left true b e = refl
-or_left false b e = absurd (cc (e))
 
 -- ---- steps upwards
 
@@ -27,10 +16,6 @@ or_left false b e = absurd (cc (e))
 abbrev above : ℕ → Table → Option ℕ → Option ℕ
 above zero t o = o
 above (suc k) t o = above k t (option_and_then (super_of t) o)
-
-no_line : (n : ℕ) (t : Table) → line_within n t None ≡ []
-no_line zero t = refl
-no_line (suc n) t = refl
 
 none_above : (k : ℕ) (t : Table) → above k t None ≡ None
 none_above zero t = refl
@@ -60,7 +45,7 @@ longer : (j k : ℕ) (t : Table) (o : Option ℕ) (d : ℕ) → j ≤ k → is_a
 longer zero k t o d l h = absurd (cc (h))
 longer (suc j) zero t o d l h = absurd (omega (arith, l))
 longer (suc j) (suc k) t None d l h = absurd (cc (h))
-longer (suc j) (suc k) t (Some c) d l h = go (or_one (nat_eq d c) (is_among d (line_within j t (super_of t c))) h) (longer j k t (super_of t c) d (omega (arith, l)))
+longer (suc j) (suc k) t (Some c) d l h = go (or_cases (nat_eq d c) (is_among d (line_within j t (super_of t c))) h) (longer j k t (super_of t c) d (omega (arith, l)))
   where
     go : (nat_eq d c ≡ true) ⊎ (is_among d (line_within j t (super_of t c)) ≡ true) → (is_among d (line_within j t (super_of t c)) ≡ true → is_among d (line_within k t (super_of t c)) ≡ true) → is_among d (line_within (suc k) t (Some c)) ≡ true
     go (inl e) f = or_left (nat_eq d c) (is_among d (line_within k t (super_of t c))) e
@@ -70,7 +55,7 @@ longer (suc j) (suc k) t (Some c) d l h = go (or_one (nat_eq d c) (is_among d (l
 again : (k : ℕ) (t : Table) (o : Option ℕ) (e : ℕ) → ((c : ℕ) → is_among c (line_within k t (super_of t c)) ≡ true → ⊥) → above k t o ≡ Some e → is_among e (line_within k t o) ≡ true → ⊥
 again zero t o e acyclic h i = cc (i)
 again (suc k) t None e acyclic h i = cc (i)
-again (suc k) t (Some c) e acyclic h i = go (or_one (nat_eq e c) (is_among e (line_within k t (super_of t c))) i) (again k t (super_of t c) e (λ x j. acyclic x (longer k (suc k) t (super_of t x) x (omega arith) j)) h)
+again (suc k) t (Some c) e acyclic h i = go (or_cases (nat_eq e c) (is_among e (line_within k t (super_of t c))) i) (again k t (super_of t c) e (λ x j. acyclic x (longer k (suc k) t (super_of t x) x (omega arith) j)) h)
   where
     go : (nat_eq e c ≡ true) ⊎ (is_among e (line_within k t (super_of t c)) ≡ true) → (is_among e (line_within k t (super_of t c)) ≡ true → ⊥) → ⊥
     go (inl j) f = acyclic c (in_line k t (super_of t c) c (h ∙ ap (λ (x : ℕ). Some x) (eqb-true e c j)))
@@ -154,7 +139,7 @@ module _ (t : Table) (rules : Unbroken t) (whole : IsWhole t) where
   -- a line has the lines of its classes
   chain_has : (cs : List ℕ) → Chain cs → (d e : ℕ) → is_among d cs ≡ true → is_among e (line_of t d) ≡ true → is_among e cs ≡ true
   chain_has [] h d e i j = absurd (cc (i))
-  chain_has (c ∷ cs) h d e i j = go (or_one (nat_eq d c) (is_among d cs) i) (λ k. chain_has cs h.1 d e k j)
+  chain_has (c ∷ cs) h d e i j = go (or_cases (nat_eq d c) (is_among d cs) i) (λ k. chain_has cs h.1 d e k j)
     where
       go : (nat_eq d c ≡ true) ⊎ (is_among d cs ≡ true) → (is_among d cs ≡ true → is_among e cs ≡ true) → is_among e (c ∷ cs) ≡ true
       go (inl k) f = ap (λ (xs : List ℕ). is_among e (c ∷ xs)) h.0 ∙ (ap (λ (x : ℕ). is_among e (line_of t x)) (sym (eqb-true d c k)) ∙ j)

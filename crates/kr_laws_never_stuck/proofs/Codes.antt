@@ -1,6 +1,7 @@
 -- Code of the grammar's shape, whose created array types have numbers.
 use Rattle.std.proofs.Common.{◌≡◌, refl, sym, ap, ◌∙◌, subst, inl, inr, ◌⊎◌, ℕ, ◌+◌, Bool, true, false, ◌||◌, List, [], ◌∷◌, ◌++◌, Some}
 use Rattle.std.specs.Prelude.{flat_map, if◌then◌else◌}
+use Rattle.std.proofs.lemmas.Bool.{or_cases, or_right, or_left}
 use Rattle.kr_ast.specs.Tree as trees
 use Rattle.kr_ast.specs.Tree.{Tree}
 use Rattle.kr_classes_table.specs.Nodes.{nodes}
@@ -11,14 +12,13 @@ use Rattle.kr_types_meaning.specs.Scopes.{Scope, Declaring, Locals, Fields, Cons
 use Rattle.kr_types_meaning.specs.Rules.{is_ensuring}
 use Rattle.kr_laws_shapes.specs.Expressions.{Shaped}
 use Rattle.kr_laws_shapes.specs.Shapes as shapes
-use Rattle.kr_laws_shapes.specs.Shapes.{MayBeExpression, IsDeclarator, AreDeclarators, One, Several}
+use Rattle.kr_laws_shapes.specs.Shapes.{MayBeExpression, AreDeclarators, One, Several}
 use Rattle.kr_laws_types.specs.Shapes.{Sort, Expression, Expressions, Statement, Statements, Declarators, HasNumber, IsCode}
 use Rattle.kr_laws_types.specs.Expressions.{plain}
 use Rattle.kr_laws_runs.proofs.Respects.{AllOf, all_front, all_back}
 use Rattle.kr_laws_safety.proofs.Heaps.{same_type}
 use Rattle.kr_laws_safety.proofs.Vectors.{type_same}
 use Rattle.kr_laws_safety.specs.Typed.{Olds}
-use Rattle.kr_laws_never_stuck.proofs.Chains.{or_one, or_left, or_right}
 use Rattle.kr_laws_never_stuck.proofs.Shaped.{AreStatements}
 
 -- ---- numbers of array types
@@ -30,7 +30,7 @@ IsNumbered arrays hs t = Unit {0}
 
 listed_front : (t : JavaType) (xs ys : List JavaType) → is_listed t xs ≡ true → is_listed t (xs ++ ys) ≡ true
 listed_front t [] ys h = absurd (cc (h))
-listed_front t (x ∷ xs) ys h = go (or_one (is_same t x) (is_listed t xs) h) (listed_front t xs ys)
+listed_front t (x ∷ xs) ys h = go (or_cases (is_same t x) (is_listed t xs) h) (listed_front t xs ys)
   where
     go : (is_same t x ≡ true) ⊎ (is_listed t xs ≡ true) → (is_listed t xs ≡ true → is_listed t (xs ++ ys) ≡ true) → is_listed t (x ∷ xs ++ ys) ≡ true
     go (inl e) r = or_left (is_same t x) (is_listed t (xs ++ ys)) e
@@ -40,14 +40,14 @@ listed_back : (t : JavaType) (xs ys : List JavaType) → is_listed t ys ≡ true
 listed_back t [] ys h = h
 listed_back t (x ∷ xs) ys h = or_right (is_same t x) (is_listed t (xs ++ ys)) (listed_back t xs ys h)
 
--- what stands among some stands once, or stood before
+-- a type among some occurs once, or was there before
 listed_once : (t : JavaType) (seen xs : List JavaType) → is_listed t xs ≡ true → (is_listed t (once seen xs) ≡ true) ⊎ (is_listed t seen ≡ true)
 listed_once t seen [] h = absurd (cc (h))
-listed_once t seen (x ∷ xs) h = go (is_listed x seen) refl (or_one (is_same t x) (is_listed t xs) h) (listed_once t seen xs) (listed_once t (x ∷ seen) xs)
+listed_once t seen (x ∷ xs) h = go (is_listed x seen) refl (or_cases (is_same t x) (is_listed t xs) h) (listed_once t seen xs) (listed_once t (x ∷ seen) xs)
   where
     later : (is_listed t (once (x ∷ seen) xs) ≡ true) ⊎ (is_listed t (x ∷ seen) ≡ true) → (is_listed t (x ∷ once (x ∷ seen) xs) ≡ true) ⊎ (is_listed t seen ≡ true)
     later (inl e) = inl (or_right (is_same t x) (is_listed t (once (x ∷ seen) xs)) e)
-    later (inr e) = split (or_one (is_same t x) (is_listed t seen) e)
+    later (inr e) = split (or_cases (is_same t x) (is_listed t seen) e)
       where
         split : (is_same t x ≡ true) ⊎ (is_listed t seen ≡ true) → (is_listed t (x ∷ once (x ∷ seen) xs) ≡ true) ⊎ (is_listed t seen ≡ true)
         split (inl e) = inl (or_left (is_same t x) (is_listed t (once (x ∷ seen) xs)) e)
@@ -60,7 +60,7 @@ listed_once t seen (x ∷ xs) h = go (is_listed x seen) refl (or_one (is_same t 
     go false q (inl e) r s = inl (or_left (is_same t x) (is_listed t (once (x ∷ seen) xs)) e)
     go false q (inr e) r s = later (s e)
 
--- what is listed has a number
+-- a listed type has a number
 listed_number : (k : ℕ) (t : JavaType) (xs : List JavaType) → is_listed t xs ≡ true → (n : ℕ) × (array_number_from k xs t ≡ Some n)
 listed_number k t [] h = absurd (cc (h))
 listed_number k t (x ∷ xs) h = go (is_same t x) refl h (listed_number (k + 1) t xs)
@@ -79,7 +79,7 @@ all_numbered arrays hs (n ∷ ns) h = (here n h, all_numbered arrays hs ns (λ t
         h (ArrayType u) (listed_front (ArrayType u) (arrays_in u ++ ArrayType u ∷ []) (flat_map (arrays_named hs) ns) (listed_back (ArrayType u) (arrays_in u) (ArrayType u ∷ []) (or_left (is_same u u) false (type_same u))))
     here _ h = tt
 
--- the array types that the files name have numbers, and those of a finitization behind them
+-- the array types that the files name have numbers, followed by those of a finitization
 pub files_numbered : (files : List Tree) (more : List JavaType) → AllOf (IsNumbered (array_types_of files ++ more) (headings_of files)) (flat_map nodes files)
 files_numbered files more = all_numbered (array_types_of files ++ more) (headings_of files) (flat_map nodes files) (λ t h. listed_number 0 t (array_types_of files ++ more) (listed_front t (array_types_of files) more (once_only t (listed_once t [] (flat_map (arrays_named (headings_of files)) (flat_map nodes files)) h))))
   where

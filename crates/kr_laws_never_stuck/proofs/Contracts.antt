@@ -10,7 +10,7 @@ use Rattle.kr_classes_table.specs.Types.{JavaType, BooleanType}
 use Rattle.kr_classes_table.specs.Table.{Heading, Table, Class, Method, items, headings_of, table_of, class_at, own_methods, line_of, method_named, methods_in, parameters_in, type_named}
 use Rattle.kr_classes_table.specs.Arrays.{array_types_of}
 use Rattle.kr_classes_table.specs.Rules.{class_fault}
-use Rattle.kr_types_meaning.specs.Scopes.{Scope, Part, Requiring, Ensuring, AsValue, written, after, static_if, in_contract, in_old}
+use Rattle.kr_types_meaning.specs.Scopes.{Scope, Requiring, Ensuring, AsValue, written, after, static_if, in_contract, in_old}
 use Rattle.kr_types_meaning.specs.Rules.{Typed, Fits, ask, fine, contract_rule, is_boolean}
 use Rattle.kr_types_meaning.specs.Typing.{judge, on_one, judged, type_in, IsWellTyped}
 use Rattle.kr_laws_shapes.specs.Shapes.{IsContractLine, AreContractLines, IsMember}
@@ -29,10 +29,9 @@ use Rattle.kr_laws_safety.proofs.Heaps.{same_type}
 use Rattle.kr_laws_safety.specs.Typed.{Olds, IsTypedProgram}
 use Rattle.kr_laws_safety.specs.Tested.{IsCondition, AreConditions, type_or_none, old_types, IsOld, AreOldNodes}
 use Rattle.kr_laws_safety.proofs.Calls.{parameter_variables}
-use Rattle.kr_laws_safety.proofs.Glue.{below_none, kept, on_type}
+use Rattle.kr_laws_safety.proofs.Glue.{kept, on_type}
 use Rattle.kr_laws_never_stuck.specs.Apart.{nodes_at}
-use Rattle.kr_laws_never_stuck.proofs.Unbroken.{both_empty}
-use Rattle.kr_laws_never_stuck.proofs.Declared.{one_front, one_back, one_part, found_one, no_more}
+use Rattle.kr_laws_never_stuck.proofs.Declared.{one_part, found_one, no_more}
 use Rattle.kr_laws_never_stuck.specs.WellTyped.{AreFiles}
 use Rattle.kr_laws_never_stuck.proofs.Codes.{IsNumbered, files_numbered, expression_code}
 use Rattle.kr_laws_never_stuck.proofs.Files.{class_good_at}
@@ -42,6 +41,9 @@ use Rattle.kr_laws_never_stuck.proofs.Closed.{IsNamed}
 use Rattle.kr_laws_never_stuck.proofs.Walks.{OldGood, GoodOld, GoodNode, KnownOld, KnownNode, Numbered, ensuring_code, old_nodes}
 use Rattle.kr_laws_never_stuck.proofs.Parts.{IsPart, IsIn, part_all, part_less, nodes_append, members_in}
 use Rattle.kr_laws_never_stuck.proofs.Found.{olds_at, olds_append, type_found, olds_in, count_is, fewer}
+use Rattle.kr_laws_runs.proofs.Overriders.{one_front, one_back}
+use Rattle.kr_laws_types.proofs.Typed.{below_none}
+use Rattle.kr_base.proofs.ListLemmas.{append_is_nil}
 
 -- ---- lines
 
@@ -60,13 +62,13 @@ lines_good : (arrays : List JavaType) (hs : List Heading) (s : Scope) (cs : Tree
 unfolding judged
 lines_good arrays hs s trees.Nil h f a = tt
 lines_good arrays hs s (trees.Cons x y) h f a =
-    let parts = both_empty (judged s x).faults (judged (after s x) y).faults f in (
+    let parts = append_is_nil (judged s x).faults (judged (after s x) y).faults f in (
       record { unbroken = parts.0; shape = h.0; numbered = all_front (IsNumbered arrays hs) (nodes x) (nodes y) a },
       lines_good arrays hs s y h.1 (subst (λ (z : Scope). (judged z y).faults ≡ []) (line_after s x h.0) parts.1) (all_back (IsNumbered arrays hs) (nodes x) (nodes y) a),
     )
 lines_good arrays hs s _ h f a = absurd h
 
--- how many of the marked nodes stand at a place in lines
+-- how many of the marked nodes in lines are at a place
 L : Place → List Tree → ℕ
 L p [] = 0
 L p (line ∷ lines) = nodes_at p (nodes line) + L p lines
@@ -119,7 +121,7 @@ module _ (program : Program) (hs : List Heading) (m : Method) (table : program.t
   required olds (trees.Ensures p e ∷ lines) h = required olds lines h.1
   required olds (_ ∷ lines) h = absurd h.0.shape
 
-  -- ---- what `\old`s hold
+  -- ---- operands of `\old`s
 
   abbrev Good : Node → Type 0
   Good n = GoodNode program.arrays n
@@ -203,7 +205,7 @@ module _ (program : Program) (hs : List Heading) (m : Method) (table : program.t
         )
     ensured (_ ∷ lines) h i = absurd h.0.shape
 
-  -- how many `\old`s of the postconditions stand at a place
+  -- how many `\old`s of the postconditions are at a place
   counted : (p : Place) (lines : List Tree) → AllOf Line lines → olds_at p (olds_of_all (all lines)) ≤ L p lines
   unfolding L
   counted p [] h = omega arith
@@ -257,8 +259,8 @@ module _ (table : Table) (arrays : List JavaType) (whole : List Tree) (c : ℕ) 
 
       made : HasLines arrays hs whole P x
       made =
-          let parts = both_empty (judged S sig).faults (judged (after S sig) b).faults f in
-          let signed = both_empty ((judged S r).faults ++ (judged S ps).faults) (judged (after S sig) cs).faults parts.0 in
+          let parts = append_is_nil (judged S sig).faults (judged (after S sig) b).faults f in
+          let signed = append_is_nil ((judged S r).faults ++ (judged S ps).faults) (judged (after S sig) cs).faults parts.0 in
           let numbered = all_back (IsNumbered arrays hs) (nodes r ++ nodes ps) (nodes cs) (all_front (IsNumbered arrays hs) (nodes sig) (nodes b) a.1).1 in
           record {
             lines = lines_good arrays hs (method_scope P x) cs h.0.2 (subst (λ (z : Scope). (judged z cs).faults ≡ []) inside signed.1) numbered;

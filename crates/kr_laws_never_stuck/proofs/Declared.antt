@@ -1,7 +1,7 @@
--- Fields and methods of classes: who declares them, and where a field stands.
+-- Fields and methods of classes: the class that declares them, and the position of a field.
 use Rattle.std.proofs.Common.{◌≡◌, refl, sym, ap, ◌∙◌, subst, inl, inr, ◌⊎◌, ℕ, zero, suc, ◌+◌, ◌<◌, Bool, true, false, ◌||◌, List, [], ◌∷◌, ◌++◌, length, get_or, arith}
 use Rattle.std.specs.Prelude.{Option, Some, None, map, flat_map, reverse, find, nat_eq, bytes_eq, option_to_list, if◌then◌else◌}
-use Rattle.std.proofs.lemmas.Bool.{eq-eqb, eqb-true}
+use Rattle.std.proofs.lemmas.Bool.{eq-eqb, eqb-true, or_cases, or_right, or_left}
 use Rattle.std.proofs.lemmas.List.{reverse-append}
 use Rattle.std.proofs.lemmas.Slice.Eq.{bytes_eq-Decides}
 use Rattle.kr_base.specs.declared.place.Place.{Place}
@@ -11,23 +11,16 @@ use Rattle.kr_classes_table.specs.Types.{JavaType, VoidType}
 use Rattle.kr_classes_table.specs.Table.{Table, Class, Field, Method, Heading, items, table_of, headings_of, classes_from, class_of, class_at, declared_in, fields_in, method_with, methods_in, own_fields, own_methods, is_instance, fields_of, field_named, ancestors, line_of, is_among, is_below}
 use Rattle.kr_classes_table.specs.Rules.{break_if, is_name_among, repeated}
 use Rattle.kr_mean.specs.Purity.{IsOneOf}
-use Rattle.kr_laws_never_stuck.proofs.Unbroken.{both_empty, not_broken, Unbroken}
+use Rattle.kr_laws_never_stuck.proofs.Unbroken.{not_broken, Unbroken}
 use Rattle.kr_classes_table.specs.Ancestors.{IsWhole}
 use Rattle.kr_mean.specs.Program.{Program, position_from}
 use Rattle.kr_laws_safety.specs.Steps.{IsFieldAt, HasField}
 use Rattle.kr_laws_never_stuck.specs.ClassRules.{IsDeclared}
-use Rattle.kr_laws_never_stuck.proofs.Chains.{or_one, or_left, or_right, Chain, chain, onward}
+use Rattle.kr_laws_never_stuck.proofs.Chains.{Chain, chain, onward}
+use Rattle.kr_laws_runs.proofs.Overriders.{one_front, one_back}
+use Rattle.kr_base.proofs.ListLemmas.{append_is_nil}
 
 -- ---- membership
-
-pub one_front : {A : Type 0} (x : A) (xs ys : List A) → IsOneOf x xs → IsOneOf x (xs ++ ys)
-one_front x [] ys h = absurd h
-one_front x (z ∷ xs) ys (inl e) = inl e
-one_front x (z ∷ xs) ys (inr h) = inr (one_front x xs ys h)
-
-pub one_back : {A : Type 0} (x : A) (xs ys : List A) → IsOneOf x ys → IsOneOf x (xs ++ ys)
-one_back x [] ys h = h
-one_back x (z ∷ xs) ys h = inr (one_back x xs ys h)
 
 pub one_split : {A : Type 0} (x : A) (xs ys : List A) → IsOneOf x (xs ++ ys) → IsOneOf x xs ⊎ IsOneOf x ys
 one_split x [] ys h = inr h
@@ -49,7 +42,7 @@ one_part x f (c ∷ cs) h = go (one_split x (f c) (flat_map f cs) h) (one_part x
 
 pub one_whole : {A : Type 0} (x : A) (f : ℕ → List A) (cs : List ℕ) (c : ℕ) → is_among c cs ≡ true → IsOneOf x (f c) → IsOneOf x (flat_map f cs)
 one_whole x f [] c h i = absurd (cc (h))
-one_whole x f (d ∷ cs) c h i = go (or_one (nat_eq c d) (is_among c cs) h) (λ k. one_whole x f cs c k i)
+one_whole x f (d ∷ cs) c h i = go (or_cases (nat_eq c d) (is_among c cs) h) (λ k. one_whole x f cs c k i)
   where
     go : (nat_eq c d ≡ true) ⊎ (is_among c cs ≡ true) → (is_among c cs ≡ true → IsOneOf x (flat_map f cs)) → IsOneOf x (f d ++ flat_map f cs)
     go (inl e) r = one_front x (f d) (flat_map f cs) (subst (λ (k : ℕ). IsOneOf x (f k)) (eqb-true c d e) i)
@@ -57,7 +50,7 @@ one_whole x f (d ∷ cs) c h i = go (or_one (nat_eq c d) (is_among c cs) h) (λ 
 
 among_back : (c : ℕ) (xs : List ℕ) (y : ℕ) → is_among c xs ≡ true → is_among c (xs ++ y ∷ []) ≡ true
 among_back c [] y h = absurd (cc (h))
-among_back c (x ∷ xs) y h = go (or_one (nat_eq c x) (is_among c xs) h) (among_back c xs y)
+among_back c (x ∷ xs) y h = go (or_cases (nat_eq c x) (is_among c xs) h) (among_back c xs y)
   where
     go : (nat_eq c x ≡ true) ⊎ (is_among c xs ≡ true) → (is_among c xs ≡ true → is_among c (xs ++ y ∷ []) ≡ true) → is_among c (x ∷ xs ++ y ∷ []) ≡ true
     go (inl e) r = or_left (nat_eq c x) (is_among c (xs ++ y ∷ [])) e
@@ -69,7 +62,7 @@ among_last c (x ∷ xs) y h = or_right (nat_eq c x) (is_among c (xs ++ y ∷ [])
 
 among_split : (c : ℕ) (xs : List ℕ) (y : ℕ) → is_among c (xs ++ y ∷ []) ≡ true → is_among c (y ∷ xs) ≡ true
 among_split c [] y h = h
-among_split c (x ∷ xs) y h = go (or_one (nat_eq c x) (is_among c (xs ++ y ∷ [])) h) (among_split c xs y)
+among_split c (x ∷ xs) y h = go (or_cases (nat_eq c x) (is_among c (xs ++ y ∷ [])) h) (among_split c xs y)
   where
     later : (nat_eq c y ≡ true) ⊎ (is_among c xs ≡ true) → is_among c (y ∷ x ∷ xs) ≡ true
     later (inl e) = or_left (nat_eq c y) (is_among c (x ∷ xs)) e
@@ -77,14 +70,14 @@ among_split c (x ∷ xs) y h = go (or_one (nat_eq c x) (is_among c (xs ++ y ∷ 
 
     go : (nat_eq c x ≡ true) ⊎ (is_among c (xs ++ y ∷ []) ≡ true) → (is_among c (xs ++ y ∷ []) ≡ true → is_among c (y ∷ xs) ≡ true) → is_among c (y ∷ x ∷ xs) ≡ true
     go (inl e) r = or_right (nat_eq c y) (is_among c (x ∷ xs)) (or_left (nat_eq c x) (is_among c xs) e)
-    go (inr e) r = later (or_one (nat_eq c y) (is_among c xs) (r e))
+    go (inr e) r = later (or_cases (nat_eq c y) (is_among c xs) (r e))
 
 turned : (y : ℕ) (xs : List ℕ) → reverse (y ∷ xs) ≡ reverse xs ++ y ∷ []
 turned y xs = reverse-append (y ∷ []) xs
 
 pub among_reverse : (c : ℕ) (xs : List ℕ) → is_among c xs ≡ true → is_among c (reverse xs) ≡ true
 among_reverse c [] h = absurd (cc (h))
-among_reverse c (x ∷ xs) h = ap (is_among c) (turned x xs) ∙ go (or_one (nat_eq c x) (is_among c xs) h) (among_reverse c xs)
+among_reverse c (x ∷ xs) h = ap (is_among c) (turned x xs) ∙ go (or_cases (nat_eq c x) (is_among c xs) h) (among_reverse c xs)
   where
     go : (nat_eq c x ≡ true) ⊎ (is_among c xs ≡ true) → (is_among c xs ≡ true → is_among c (reverse xs) ≡ true) → is_among c (reverse xs ++ x ∷ []) ≡ true
     go (inl e) r = among_last c (reverse xs) x e
@@ -92,13 +85,13 @@ among_reverse c (x ∷ xs) h = ap (is_among c) (turned x xs) ∙ go (or_one (nat
 
 pub among_turned : (c : ℕ) (xs : List ℕ) → is_among c (reverse xs) ≡ true → is_among c xs ≡ true
 among_turned c [] h = h
-among_turned c (x ∷ xs) h = go (or_one (nat_eq c x) (is_among c (reverse xs)) (among_split c (reverse xs) x (ap (is_among c) (sym (turned x xs)) ∙ h))) (among_turned c xs)
+among_turned c (x ∷ xs) h = go (or_cases (nat_eq c x) (is_among c (reverse xs)) (among_split c (reverse xs) x (ap (is_among c) (sym (turned x xs)) ∙ h))) (among_turned c xs)
   where
     go : (nat_eq c x ≡ true) ⊎ (is_among c (reverse xs) ≡ true) → (is_among c (reverse xs) ≡ true → is_among c xs ≡ true) → is_among c (x ∷ xs) ≡ true
     go (inl e) r = or_left (nat_eq c x) (is_among c xs) e
     go (inr e) r = or_right (nat_eq c x) (is_among c xs) (r e)
 
--- what is found is one of those, and passes the test
+-- an element that is found is one of those, and passes the test
 pub found_one : {A : Type 0} (test : A → Bool) (x : A) (xs : List A) → find test xs ≡ Some x → IsOneOf x xs × (test x ≡ true)
 found_one test x [] e = absurd (cc (e))
 found_one {A} test x (y ∷ xs) e = go (test y) refl e (found_one test x xs)
@@ -164,7 +157,7 @@ method_at all k [] c f h = absurd h
 method_at all k (x ∷ hs) zero f h = let e : k ≡ k + 0 = omega arith in method_by all k f x.members (no_more f (class_of all k x).methods h) ∙ e
 method_at all k (x ∷ hs) (suc c) f h = let e : k + 1 + c ≡ k + suc c = omega arith in method_at all (k + 1) hs c f h ∙ e
 
--- what a class declares has its number
+-- a member that a class declares has its number
 pub own_field : (files : List Tree) (c : ℕ) (f : Field) → IsOneOf f (own_fields (table_of files) c) → f.class ≡ c
 unfolding table_of
 own_field files c f h = let hs = headings_of files in let e : 0 + c ≡ c = omega arith in field_at hs 0 hs c f h ∙ e
@@ -192,8 +185,8 @@ name_among n g (x ∷ gs) (inr i) e = or_right (bytes_eq n x.name) _ (name_among
 -- a name that isn't repeated isn't one of those before it
 unseen : (r : ℕ) (seen : List (List ℕ)) (fs : List Field) (f : Field) → repeated r seen (map named_at fs) ≡ [] → IsOneOf f fs → is_name_among f.name seen ≡ false
 unseen r seen [] f e h = absurd h
-unseen r seen (x ∷ fs) f e (inl i) = ap (λ (g : Field). is_name_among g.name seen) (sym i) ∙ not_broken (is_name_among x.name seen) r x.place (both_empty (break_if (is_name_among x.name seen) r x.place) (repeated r (x.name ∷ seen) (map named_at fs)) e).0
-unseen r seen (x ∷ fs) f e (inr i) = later (bytes_eq f.name x.name) (is_name_among f.name seen) (unseen r (x.name ∷ seen) fs f (both_empty (break_if (is_name_among x.name seen) r x.place) (repeated r (x.name ∷ seen) (map named_at fs)) e).1 i)
+unseen r seen (x ∷ fs) f e (inl i) = ap (λ (g : Field). is_name_among g.name seen) (sym i) ∙ not_broken (is_name_among x.name seen) r x.place (append_is_nil (break_if (is_name_among x.name seen) r x.place) (repeated r (x.name ∷ seen) (map named_at fs)) e).0
+unseen r seen (x ∷ fs) f e (inr i) = later (bytes_eq f.name x.name) (is_name_among f.name seen) (unseen r (x.name ∷ seen) fs f (append_is_nil (break_if (is_name_among x.name seen) r x.place) (repeated r (x.name ∷ seen) (map named_at fs)) e).1 i)
   where
     later : (a b : Bool) → (a || b) ≡ false → b ≡ false
     later true b e = absurd (cc (e))
@@ -202,11 +195,11 @@ unseen r seen (x ∷ fs) f e (inr i) = later (bytes_eq f.name x.name) (is_name_a
 same_own : (r : ℕ) (seen : List (List ℕ)) (fs : List Field) (f g : Field) → repeated r seen (map named_at fs) ≡ [] → IsOneOf f fs → IsOneOf g fs → g.name ≡ f.name → g ≡ f
 same_own r seen [] f g e h i q = absurd h
 same_own r seen (x ∷ fs) f g e (inl h) (inl i) q = sym i ∙ h
-same_own r seen (x ∷ fs) f g e (inr h) (inr i) q = same_own r (x.name ∷ seen) fs f g (both_empty (break_if (is_name_among x.name seen) r x.place) (repeated r (x.name ∷ seen) (map named_at fs)) e).1 h i q
+same_own r seen (x ∷ fs) f g e (inr h) (inr i) q = same_own r (x.name ∷ seen) fs f g (append_is_nil (break_if (is_name_among x.name seen) r x.place) (repeated r (x.name ∷ seen) (map named_at fs)) e).1 h i q
 same_own r seen (x ∷ fs) f g e (inl h) (inr i) q =
-    absurd (cc (unseen r (x.name ∷ seen) fs g (both_empty (break_if (is_name_among x.name seen) r x.place) (repeated r (x.name ∷ seen) (map named_at fs)) e).1 i, or_left (bytes_eq g.name x.name) (is_name_among g.name seen) (equal_names g.name x.name (q ∙ ap (λ (z : Field). z.name) (sym h)))))
+    absurd (cc (unseen r (x.name ∷ seen) fs g (append_is_nil (break_if (is_name_among x.name seen) r x.place) (repeated r (x.name ∷ seen) (map named_at fs)) e).1 i, or_left (bytes_eq g.name x.name) (is_name_among g.name seen) (equal_names g.name x.name (q ∙ ap (λ (z : Field). z.name) (sym h)))))
 same_own r seen (x ∷ fs) f g e (inr h) (inl i) q =
-    absurd (cc (unseen r (x.name ∷ seen) fs f (both_empty (break_if (is_name_among x.name seen) r x.place) (repeated r (x.name ∷ seen) (map named_at fs)) e).1 h, or_left (bytes_eq f.name x.name) (is_name_among f.name seen) (equal_names f.name x.name (sym q ∙ ap (λ (z : Field). z.name) (sym i)))))
+    absurd (cc (unseen r (x.name ∷ seen) fs f (append_is_nil (break_if (is_name_among x.name seen) r x.place) (repeated r (x.name ∷ seen) (map named_at fs)) e).1 h, or_left (bytes_eq f.name x.name) (is_name_among f.name seen) (equal_names f.name x.name (sym q ∙ ap (λ (z : Field). z.name) (sym i)))))
 
 module _ (t : Table) (rules : Unbroken t) where
   -- a class that declares a field is one of the table
@@ -217,19 +210,19 @@ module _ (t : Table) (rules : Unbroken t) where
       go None e h = absurd h
       go (Some d) e h = (d, e, no_more f d.fields h, ap (λ (x : Option Class). flat_map (λ d. d.fields) (option_to_list x)) e)
 
-  -- what a class declares has no name of an inherited field
+  -- no member that a class declares has the name of an inherited field
   apart : (c : ℕ) (f g : Field) → IsOneOf f (own_fields t c) → IsOneOf g (flat_map (own_fields t) (ancestors t c)) → g.name ≡ f.name → ⊥
   apart c f g h i q =
       let d = declares_some c f h in
       let names = map (λ (x : Field). x.name) (flat_map (own_fields t) (ancestors t c)) in
-      let free = (both_empty (repeated 4 names (map named_at d.0.fields)) (flat_map (λ k. break_if true 4 k.place) (Rattle.std.specs.Prelude.drop 1 d.0.constructors)) (rules.C4 c d.0 d.1)).0 in
+      let free = (append_is_nil (repeated 4 names (map named_at d.0.fields)) (flat_map (λ k. break_if true 4 k.place) (Rattle.std.specs.Prelude.drop 1 d.0.constructors)) (rules.C4 c d.0 d.1)).0 in
       cc (unseen 4 names d.0.fields f free d.2, name_among f.name g (flat_map (own_fields t) (ancestors t c)) i q)
 
   both_own : (c : ℕ) (f g : Field) → IsOneOf f (own_fields t c) → IsOneOf g (own_fields t c) → g.name ≡ f.name → g ≡ f
   both_own c f g h i q =
       let d = declares_some c f h in
       let names = map (λ (x : Field). x.name) (flat_map (own_fields t) (ancestors t c)) in
-      let free = (both_empty (repeated 4 names (map named_at d.0.fields)) (flat_map (λ k. break_if true 4 k.place) (Rattle.std.specs.Prelude.drop 1 d.0.constructors)) (rules.C4 c d.0 d.1)).0 in
+      let free = (append_is_nil (repeated 4 names (map named_at d.0.fields)) (flat_map (λ k. break_if true 4 k.place) (Rattle.std.specs.Prelude.drop 1 d.0.constructors)) (rules.C4 c d.0 d.1)).0 in
       same_own 4 names d.0.fields f g free d.2 (no_more g d.0.fields (subst (λ (xs : List Field). IsOneOf g xs) d.3 i)) q
 
   module _ (whole : IsWhole t) where
@@ -247,7 +240,7 @@ module _ (t : Table) (rules : Unbroken t) where
         go (inl j) (inr k) r = absurd (apart c f g j (up g k) q)
         go (inr j) (inl k) r = absurd (apart c g f k (up f j) (sym q))
 
-    -- ---- where a field stands
+    -- ---- the position of a field
 
     instance_in : (f : Field) (fs : List Field) → IsOneOf f fs → f.is_static ≡ false → IsOneOf f (flat_map is_instance fs)
     instance_in f [] h e = absurd h

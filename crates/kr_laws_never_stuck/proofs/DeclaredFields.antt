@@ -16,7 +16,7 @@ module _ (declared : Place → List ℕ → ℕ) (held : Place → ℕ) where
   two : (a b : Tree) → weights.weight declared held (nodes a ++ nodes b) ≡ W a + W b
   two a b = weights.append declared held (nodes a) (nodes b)
 
-  -- what fields weigh
+  -- the weight of fields
   abbrev pub F : List Field → ℕ
   F [] = 0
   F (f ∷ fs) = declared f.place f.name + F fs
@@ -32,7 +32,7 @@ module _ (declared : Place → List ℕ → ℕ) (held : Place → ℕ) where
   declarators hs c st fi type (trees.Cons a b) = omega (arith, declarators hs c st fi type b, two a b)
   declarators hs c st fi type _ = omega arith
 
-  -- what the declarators of a member that is a field weigh
+  -- the weight of the declarators of a member that is a field
   abbrev own : Tree → ℕ
   own (trees.Field p st fi type ds) = W ds
   own m = 0

@@ -1,29 +1,27 @@
 -- The keys of a document that was read are pairs.
-use Rattle.std.proofs.Common.{◌≡◌, ℕ, Bool, true, false, cond, List, [], ◌∷◌, ◌++◌, codes, Option, Some, None, Ok, Err, refl, subst}
-use Rattle.std.specs.Prelude.{MatchOption}
+use Rattle.std.proofs.Common.{◌≡◌, ℕ, Bool, true, false, cond, List, [], ◌++◌, codes, Option, Some, None, Ok, Err, refl, subst}
 use Rattle.std.specs.List.{AllByRecursion}
-use Rattle.toml.specs.Data.{Data, string, integer, float, boolean, datetime, array, table, Members, no_members, member, get_member, as_table}
+use Rattle.toml.specs.Data.{Data, Members, no_members, member, get_member}
 use Rattle.kr_fin.specs.declared.refusal.FinRule.TheVariants.{WrongKind, TooLong}
 use Rattle.kr_fin.specs.declared.document.FinDoc.{FinDoc}
 use Rattle.kr_fin.specs.declared.shapes.Purpose.TheVariants.{Slot}
 use Rattle.kr_fin.specs.declared.shapes.Section.{Section}
-use Rattle.kr_fin.specs.declared.shapes.Section.TheVariants.{Objects, Arrays, Fields, Params}
+use Rattle.kr_fin.specs.declared.shapes.Section.TheVariants.{Arrays, Fields, Params}
 use Rattle.kr_fin.specs.declared.shapes.Shape.TheVariants.{Document}
 use Rattle.kr_fin.specs.Document.{document_of, domains_of, members_of, table_of}
-use Rattle.kr_fin.specs.Faults.{domain, entries, faults_in, fuel, keyed, of_kind, optional, root, section, unknown_keys}
+use Rattle.kr_fin.specs.Faults.{domain, entries, faults_in, fuel, keyed, of_kind, optional, root, section, unknown_keys, version}
 use Rattle.kr_fin.specs.Meaning.{is_short, document_in, meaning, of_table, table_in, unless}
-use Rattle.kr_fin.specs.Order.{Fault, broken, least, rank_of}
+use Rattle.kr_fin.specs.Order.{Fault, broken, least}
 use Rattle.kr_fin.specs.Shapes.{is_pair, item_of, name_of}
+use Rattle.kr_fin.specs.Version.{objects_section}
 use Rattle.kr_fin.specs.Least.{IsLeast}
 use Rattle.kr_fin.proofs.Leasts.{least_of_all}
 use Rattle.kr_laws_never_stuck.specs.Keys.{HasPairs}
-
-both_empty : (xs ys : List Fault) → xs ++ ys ≡ [] → (xs ≡ []) × (ys ≡ [])
-both_empty [] ys e = (refl, e)
-both_empty (x ∷ xs) ys e = absurd (cc (e))
+use Rattle.kr_space.proofs.ReadLimits.{table_entries, unbroken}
+use Rattle.kr_base.proofs.ListLemmas.{append_is_nil}
 
 pair : (key at : List ℕ) (d : Data) → keyed key at d ≡ [] → is_pair key ≡ true
-pair key at d e = go (is_pair key) (both_empty (cond (is_pair key) [] (broken WrongKind at)) (domain Slot at d) e).0
+pair key at d e = go (is_pair key) (append_is_nil (cond (is_pair key) [] (broken WrongKind at)) (domain Slot at d) e).0
   where
     go : (b : Bool) → cond b [] (broken WrongKind at) ≡ [] → b ≡ true
     go true e = refl
@@ -31,39 +29,26 @@ pair key at d e = go (is_pair key) (both_empty (cond (is_pair key) [] (broken Wr
 
 fields_pairs : (ms : Members) → entries Fields ms ≡ [] → AllByRecursion (λ d. is_pair d.key ≡ true) (domains_of ms)
 fields_pairs no_members e = tt
-fields_pairs (member key d rest) e = let parts = both_empty (keyed key (item_of Fields key) d) (entries Fields rest) e in (pair key (item_of Fields key) d parts.0, fields_pairs rest parts.1)
+fields_pairs (member key d rest) e = let parts = append_is_nil (keyed key (item_of Fields key) d) (entries Fields rest) e in (pair key (item_of Fields key) d parts.0, fields_pairs rest parts.1)
 
 params_pairs : (ms : Members) → entries Params ms ≡ [] → AllByRecursion (λ d. is_pair d.key ≡ true) (domains_of ms)
 params_pairs no_members e = tt
-params_pairs (member key d rest) e = let parts = both_empty (keyed key (item_of Params key) d) (entries Params rest) e in (pair key (item_of Params key) d parts.0, params_pairs rest parts.1)
-
--- a table that is absent, or one whose entries break no rule
-table_entries : (s : Section) (o : Option Data) → optional (λ d. of_kind (entries s) (name_of s) (as_table d)) o ≡ [] → entries s (members_of o) ≡ []
-table_entries s None e = refl
-table_entries s (Some (table ms)) e = e
-table_entries s (Some (integer z)) e = absurd (cc (e))
-table_entries s (Some (string t)) e = absurd (cc (e))
-table_entries s (Some (float x)) e = absurd (cc (e))
-table_entries s (Some (boolean b)) e = absurd (cc (e))
-table_entries s (Some (datetime dt)) e = absurd (cc (e))
-table_entries s (Some (array ds)) e = absurd (cc (e))
+params_pairs (member key d rest) e = let parts = append_is_nil (keyed key (item_of Params key) d) (entries Params rest) e in (pair key (item_of Params key) d parts.0, params_pairs rest parts.1)
 
 of_members : (ms : Members) → faults_in ms ≡ [] → HasPairs (document_of ms)
 unfolding faults_in document_of
 of_members ms e =
-    let e1 = (both_empty (unknown_keys Document (λ key. key) ms) _ e).1 in
-    let e2 = (both_empty (root ms) _ e1).1 in
-    let e3 = (both_empty (fuel ms) _ e2).1 in
-    let e4 = (both_empty (section Objects ms) _ e3).1 in
-    let e5 = (both_empty (section Arrays ms) (section Fields ms ++ section Params ms) e4).1 in
-    let rest = both_empty (section Fields ms) (section Params ms) e5 in
+    let e1 = (append_is_nil (unknown_keys Document (λ key. key) ms) _ e).1 in
+    let ev = (append_is_nil (version ms) _ e1).1 in
+    let e2 = (append_is_nil (root ms) _ ev).1 in
+    let e3 = (append_is_nil (fuel ms) _ e2).1 in
+    let e4 = (append_is_nil (section (objects_section ms) ms) _ e3).1 in
+    let e5 = (append_is_nil (section Arrays ms) (section Fields ms ++ section Params ms) e4).1 in
+    let rest = append_is_nil (section Fields ms) (section Params ms) e5 in
     record {
       fields = fields_pairs (table_of Fields ms) (table_entries Fields (get_member (name_of Fields) ms) rest.0);
       params = params_pairs (table_of Params ms) (table_entries Params (get_member (name_of Params) ms) rest.1);
     }
-
-unbroken : (fs : List Fault) → least fs ≡ None → fs ≡ []
-unbroken fs e = subst (λ (o : Option Fault). MatchOption o (fs ≡ []) (IsLeast rank_of fs)) e (least_of_all rank_of fs)
 
 judged_pairs : (ms : Members) (document : FinDoc) → document_in ms ≡ Ok document → HasPairs document
 unfolding document_in

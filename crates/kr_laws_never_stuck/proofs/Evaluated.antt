@@ -1,6 +1,7 @@
 -- Each constant has a value of its type.
 use Rattle.std.proofs.Common.{◌≡◌, refl, sym, ap, ◌∙◌, subst, inl, inr, ◌⊎◌, ℕ, ◌<◌, arith, Bool, true, false, ◌||◌, List, [], ◌∷◌, ◌++◌, Option, Some, None}
 use Rattle.std.specs.Prelude.{◌&&◌, not, fold, is_none, option_and_then, if◌then◌else◌, Ok, Err}
+use Rattle.std.proofs.lemmas.Bool.{and_parts, or_cases}
 use Rattle.kr_base.specs.declared.place.Place.{Place}
 use Rattle.kr_ast.specs.declared.node.UnaryOperator.{UnaryOperator}
 use Rattle.kr_ast.specs.declared.node.UnaryOperator.TheVariants as unaries
@@ -17,7 +18,7 @@ use Rattle.kr_classes_table.specs.Constants.{Known, constant_in, value_in, unary
 use Rattle.kr_classes_table.specs.Numbers.{Bits32}
 use Rattle.kr_types_meaning.specs.declared.operators.OperatorKind.{OperatorKind}
 use Rattle.kr_types_meaning.specs.declared.operators.OperatorKind.TheVariants.{Arithmetic, Shift, Comparison, Equality, Bitwise, Logical}
-use Rattle.kr_types_meaning.specs.Scopes.{Scope, Meant, FieldName, NoName, value, under_minus, meant, meant_by, field_or_none, class_before}
+use Rattle.kr_types_meaning.specs.Scopes.{Scope, Meant, FieldName, value, meant, meant_by, field_or_none, class_before}
 use Rattle.kr_types_meaning.specs.Rules as rules
 use Rattle.kr_types_meaning.specs.Promotion.{promoted, promoted_alone, is_number, are_numbers}
 use Rattle.kr_types_meaning.specs.Rules.{Typed, Judgement, Fits, Breaks, ask, gives, both_boolean, related_references, name_rule, unary_rule, operator_rule, choice_rule, cast_rule, constant_rule, of_promoted, shift_rule, bit_rule, kind_of, kind_rule}
@@ -26,9 +27,9 @@ use Rattle.kr_mean.specs.Operators.{said, operated}
 use Rattle.kr_laws_safety.specs.Fits.{IsOf}
 use Rattle.kr_laws_safety.specs.Steps.{is_junction}
 use Rattle.kr_laws_safety.proofs.Operators.{whole_within, Use, ints, booleans, references, used as used_by, Good, OnInts, OnBooleans, on_ints, on_booleans, ints_good, booleans_good}
-use Rattle.kr_laws_safety.proofs.Targets.{IsOnward, and_true, or_true, not_true, widened}
+use Rattle.kr_laws_safety.proofs.Targets.{IsOnward, not_true, widened}
 use Rattle.kr_laws_safety.proofs.Promoted.{numbers_are}
-use Rattle.kr_laws_safety.proofs.Glue.{Ruled, ruled_alone, ruled, ruled_as, ruled_ask, ruled_value, ruled_gives, ruled_plainly, boolean_is}
+use Rattle.kr_laws_safety.proofs.Glue.{Ruled, ruled_alone, ruled_as, ruled_ask, ruled_value, ruled_gives, boolean_is}
 use Rattle.kr_laws_safety.proofs.Values.{ruled_part}
 use Rattle.kr_laws_runs.proofs.Respects.{AllOf}
 
@@ -112,7 +113,7 @@ module _ (table : Table) (onward : IsOnward table) where
       let w = some_is _ v (sym (ap (unary_value unaries.Complement) z.1) ∙ e) in
       subst (λ (u : JavaType). Of u v) h.1 (subst (λ (c : Value). Of IntType c) w (refl, whole_within Bits32 _))
 
-  -- what the operators give on runs' values they give on constants
+  -- the operators have the same results on runs' values and on constants
   ints_kept : (o : BinaryOperator) (x y : _) (t : JavaType) (v : Value) → on_ints o ≡ Some t → value_in (of_wholes Bits32 o x y) ≡ Some v → Of t v
   ints_kept o x y t v k e = go (of_wholes Bits32 o x y) e (subst (λ (u : Option JavaType). OnInts u (operated o (Int x) (Int y))) k (ints_good o x y))
     where
@@ -219,11 +220,11 @@ module _ (table : Table) (onward : IsOnward table) where
   junction_kept : (s : Scope) (o : BinaryOperator) (a b t : JavaType) (x y : Option Value) (v : Value) → is_junction o ≡ true → Ruled (operator_rule s o a b) t → OfOption a x → OfOption b y → binary_value o x y ≡ Some v → Of t v
   junction_kept s operators.And a b t x y v j r i k e =
       let h = ruled_ask (both_boolean a b) 12 (Fits (rules.Value BooleanType)) t r in
-      let z = and_true (rules.is_boolean a) (rules.is_boolean b) h.0 in
+      let z = and_parts (rules.is_boolean a) (rules.is_boolean b) h.0 in
       subst (λ (u : JavaType). Of u v) (ruled_value BooleanType t h.1) (and_kept x y v (subst (λ (u : JavaType). OfOption u x) (boolean_is a z.0) i) (subst (λ (u : JavaType). OfOption u y) (boolean_is b z.1) k) e)
   junction_kept s operators.Or a b t x y v j r i k e =
       let h = ruled_ask (both_boolean a b) 12 (Fits (rules.Value BooleanType)) t r in
-      let z = and_true (rules.is_boolean a) (rules.is_boolean b) h.0 in
+      let z = and_parts (rules.is_boolean a) (rules.is_boolean b) h.0 in
       subst (λ (u : JavaType). Of u v) (ruled_value BooleanType t h.1) (or_kept x y v (subst (λ (u : JavaType). OfOption u x) (boolean_is a z.0) i) (subst (λ (u : JavaType). OfOption u y) (boolean_is b z.1) k) e)
   junction_kept s _ a b t x y v j r i k e = absurd (cc (j))
 
@@ -243,7 +244,7 @@ module _ (table : Table) (onward : IsOnward table) where
   choice_kept : (s : Scope) (c a b t : JavaType) (x y z : Option Value) (v : Value) → s.table ≡ table → Ruled (choice_rule s c a b) t → OfOption a y → OfOption b z → chosen x y z ≡ Some v → Of t v
   choice_kept s c a b t x y z v ts r i k e =
       let h = ruled_ask (rules.is_boolean c && are_related s.table a b) 15 (Fits (rules.Value (if is_subtype s.table a b then b else a))) t r in
-      let related = ap (λ (n : Table). are_related n a b) (sym ts) ∙ (and_true (rules.is_boolean c) (are_related s.table a b) h.0).1 in
+      let related = ap (λ (n : Table). are_related n a b) (sym ts) ∙ (and_parts (rules.is_boolean c) (are_related s.table a b) h.0).1 in
       let is = ap (λ (n : Table). if is_subtype n a b then b else a) (sym ts) ∙ ruled_value (if is_subtype s.table a b then b else a) t h.1 in
       go x e (is_subtype table a b) refl is related
     where
@@ -262,19 +263,19 @@ module _ (table : Table) (onward : IsOnward table) where
   cast_kept : (s : Scope) (to from t : JavaType) (v : Value) → Ruled (cast_rule s to from) t → Of from v → Of t v
   cast_kept s to from t v r i =
       let h = ruled_ask ((are_numbers to from || both_boolean to from) || (related_references s from to && not (is_collection to) && not (is_collection from))) 20 (Fits (rules.Value to)) t r in
-      subst (λ (u : JavaType). Of u v) (ruled_value to t h.1) (go (or_true (are_numbers to from || both_boolean to from) _ h.0))
+      subst (λ (u : JavaType). Of u v) (ruled_value to t h.1) (go (or_cases (are_numbers to from || both_boolean to from) _ h.0))
     where
       plain : (are_numbers to from ≡ true) ⊎ (both_boolean to from ≡ true) → Of to v
       plain (inl q) = let z = numbers_are to from q in subst (λ (u : JavaType). Of u v) (z.1 ∙ sym z.0) i
-      plain (inr q) = let z = and_true (rules.is_boolean to) (rules.is_boolean from) q in subst (λ (u : JavaType). Of u v) (boolean_is from z.1 ∙ sym (boolean_is to z.0)) i
+      plain (inr q) = let z = and_parts (rules.is_boolean to) (rules.is_boolean from) q in subst (λ (u : JavaType). Of u v) (boolean_is from z.1 ∙ sym (boolean_is to z.0)) i
 
       go : ((are_numbers to from || both_boolean to from) ≡ true) ⊎ ((related_references s from to && not (is_collection to) && not (is_collection from)) ≡ true) → Of to v
-      go (inl q) = plain (or_true (are_numbers to from) (both_boolean to from) q)
+      go (inl q) = plain (or_cases (are_numbers to from) (both_boolean to from) q)
       go (inr q) =
-          let a = and_true (related_references s from to && not (is_collection to)) (not (is_collection from)) q in
-          let b = and_true (related_references s from to) (not (is_collection to)) a.0 in
-          let c = and_true (is_reference from && is_reference to) (are_related s.table from to) b.0 in
-          let d = and_true (is_reference from) (is_reference to) c.0 in
+          let a = and_parts (related_references s from to && not (is_collection to)) (not (is_collection from)) q in
+          let b = and_parts (related_references s from to) (not (is_collection to)) a.0 in
+          let c = and_parts (is_reference from && is_reference to) (are_related s.table from to) b.0 in
+          let d = and_parts (is_reference from) (is_reference to) c.0 in
           subst (λ (c : Value). Of to c) (sym (reference_known from v d.0 i)) d.1
 
   -- ---- evaluation
@@ -384,11 +385,11 @@ module _ (table : Table) (onward : IsOnward table) where
           here (Some v) q = q
           here None q = absurd (cc (q))
 
-  -- what is written of a constant gives values of its type
+  -- the expression of a constant gives values of its type
   abbrev pub Gives : Field → Type 0
   Gives g = (known : List Known) (v : Value) → AreKnown known → evaluated table known g.class g.initial ≡ Some v → Of g.type v
 
-  -- a constant that stands where another does is of its type
+  -- a constant that replaces another is of its type
   abbrev pub IsAlone : Field → Type 0
   IsAlone g = (h : Field) → IsConstant h → is_at_place g.place h.place ≡ true → g.type ≡ h.type
 

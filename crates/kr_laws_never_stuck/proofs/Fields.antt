@@ -1,4 +1,4 @@
--- Fields of accepted files: no two stand at one place, and each is the one that its key means.
+-- Fields of accepted files: no two are at one place, and each is the one that its key means.
 use Rattle.std.proofs.Common.{◌≡◌, ℕ, zero, suc, ◌≤◌, ◌⊎◌, inl, inr, Bool, true, false, ◌||◌, List, [], ◌∷◌, Option, Some, None, refl, sym, ap, ◌∙◌, subst, arith}
 use Rattle.std.specs.Prelude.{map, flat_map, find, reverse, bytes_eq, codes, nat_eq, option_to_list, option_map, unwrap_or, slice_get, drop, if◌then◌else◌}
 use Rattle.std.specs.List.{AllByRecursion}
@@ -14,11 +14,13 @@ use Rattle.kr_mean.specs.Purity.{IsOneOf}
 use Rattle.kr_space_meaning.specs.Bounds.{class_name}
 use Rattle.kr_laws_never_stuck.specs.Apart as apart
 use Rattle.kr_laws_never_stuck.specs.Apart.{one_if, one_at, all_fields, fields_at}
-use Rattle.kr_laws_never_stuck.proofs.Unbroken.{both_empty, not_broken, unbroken}
-use Rattle.kr_laws_never_stuck.proofs.Declared.{one_split, one_front, one_back, one_part, no_more, own_field, names_equal, equal_names}
+use Rattle.kr_laws_never_stuck.proofs.Unbroken.{not_broken, unbroken}
+use Rattle.kr_laws_never_stuck.proofs.Declared.{one_split, one_part, no_more, own_field, names_equal, equal_names}
 use Rattle.kr_laws_never_stuck.specs.WellTyped.{AreApart, AreFiles}
 use Rattle.kr_laws_never_stuck.proofs.Files.{heading_at, class_good_at}
 use Rattle.kr_laws_never_stuck.specs.Keys.{IsKeyed}
+use Rattle.kr_laws_runs.proofs.Overriders.{one_front, one_back}
+use Rattle.kr_base.proofs.ListLemmas.{append_is_nil}
 
 -- ---- places
 
@@ -74,8 +76,8 @@ named_at f = (f.name, f.place)
 -- a name that isn't repeated isn't one of those before it
 unseen : (seen : List (List ℕ)) (fs : List Field) (f : Field) → repeated 4 seen (map named_at fs) ≡ [] → IsOneOf f fs → is_name_among f.name seen ≡ false
 unseen seen [] f e h = absurd h
-unseen seen (x ∷ fs) f e (inl i) = ap (λ (g : Field). is_name_among g.name seen) (sym i) ∙ not_broken (is_name_among x.name seen) 4 x.place (both_empty (break_if (is_name_among x.name seen) 4 x.place) (repeated 4 (x.name ∷ seen) (map named_at fs)) e).0
-unseen seen (x ∷ fs) f e (inr i) = later (bytes_eq f.name x.name) (is_name_among f.name seen) (unseen (x.name ∷ seen) fs f (both_empty (break_if (is_name_among x.name seen) 4 x.place) (repeated 4 (x.name ∷ seen) (map named_at fs)) e).1 i)
+unseen seen (x ∷ fs) f e (inl i) = ap (λ (g : Field). is_name_among g.name seen) (sym i) ∙ not_broken (is_name_among x.name seen) 4 x.place (append_is_nil (break_if (is_name_among x.name seen) 4 x.place) (repeated 4 (x.name ∷ seen) (map named_at fs)) e).0
+unseen seen (x ∷ fs) f e (inr i) = later (bytes_eq f.name x.name) (is_name_among f.name seen) (unseen (x.name ∷ seen) fs f (append_is_nil (break_if (is_name_among x.name seen) 4 x.place) (repeated 4 (x.name ∷ seen) (map named_at fs)) e).1 i)
   where
     later : (a b : Bool) → (a || b) ≡ false → b ≡ false
     later true b e = absurd (cc (e))
@@ -86,7 +88,7 @@ own_found : (seen : List (List ℕ)) (fs : List Field) (f : Field) → repeated 
 own_found seen [] f e h = absurd h
 own_found seen (x ∷ fs) f e (inl i) = ap (λ (b : Bool). if b then Some x else find (λ g. bytes_eq g.name f.name) fs) (equal_names x.name f.name (ap (λ (g : Field). g.name) i)) ∙ ap (λ (g : Field). Some g) i
 own_found seen (x ∷ fs) f e (inr i) =
-    let rest = (both_empty (break_if (is_name_among x.name seen) 4 x.place) (repeated 4 (x.name ∷ seen) (map named_at fs)) e).1 in
+    let rest = (append_is_nil (break_if (is_name_among x.name seen) 4 x.place) (repeated 4 (x.name ∷ seen) (map named_at fs)) e).1 in
     go (bytes_eq x.name f.name) refl (unseen (x.name ∷ seen) fs f rest i) (own_found (x.name ∷ seen) fs f rest i)
   where
     go : (b : Bool) → bytes_eq x.name f.name ≡ b → (bytes_eq f.name x.name || is_name_among f.name seen) ≡ false → find (λ g. bytes_eq g.name f.name) fs ≡ Some f → (if b then Some x else find (λ g. bytes_eq g.name f.name) fs) ≡ Some f
@@ -117,7 +119,7 @@ module _ (files : List Tree) (shapes : AreFiles files) (faults : class_fault (ta
       found : (d : Class) → class_at t.classes c ≡ Some d → IsOneOf f d.fields → find (λ g. bytes_eq g.name f.name) (own_fields t c) ≡ Some f
       found d q j =
           let above = map (λ (g : Field). g.name) (flat_map (own_fields t) (ancestors t c)) in
-          let four = (both_empty (repeated 4 above (map named_at d.fields)) (flat_map (λ k. break_if true 4 k.place) (drop 1 d.constructors)) ((unbroken t faults).C4 c d q)).0 in
+          let four = (append_is_nil (repeated 4 above (map named_at d.fields)) (flat_map (λ k. break_if true 4 k.place) (drop 1 d.constructors)) ((unbroken t faults).C4 c d q)).0 in
           ap (λ (o : Option Class). find (λ g. bytes_eq g.name f.name) (flat_map (λ d. d.fields) (option_to_list o))) q
           ∙ (ap (find (λ g. bytes_eq g.name f.name)) (append-nil d.fields) ∙ own_found above d.fields f four j)
 

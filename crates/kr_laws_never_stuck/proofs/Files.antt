@@ -1,6 +1,7 @@
 -- Each class of well typed files, with its members, none of which is broken.
 use Rattle.std.proofs.Common.{◌≡◌, refl, sym, ap, ◌∙◌, subst, ℕ, zero, suc, ◌+◌, Bool, true, false, ◌||◌, List, [], ◌∷◌, length, Option, Some, None, arith}
 use Rattle.std.specs.Prelude.{map, flat_map, bytes_eq, unwrap_or, if◌then◌else◌}
+use Rattle.std.proofs.lemmas.Bool.{or_left}
 use Rattle.kr_base.specs.declared.place.Place.{Place}
 use Rattle.kr_ast.specs.Tree as trees
 use Rattle.kr_ast.specs.Tree.{Tree}
@@ -12,10 +13,10 @@ use Rattle.kr_types_meaning.specs.Scopes.{Scope, scope_of, in_class, after}
 use Rattle.kr_types_meaning.specs.Typing.{judged, judge, class_rule, has_constructor, outside, IsWellTyped}
 use Rattle.kr_laws_shapes.specs.Shapes.{IsMember, IsClass, AreClasses}
 use Rattle.kr_laws_runs.proofs.Respects.{AllOf, all_both}
-use Rattle.kr_laws_never_stuck.proofs.Unbroken.{both_empty, not_broken}
-use Rattle.kr_laws_never_stuck.proofs.Chains.{or_left}
+use Rattle.kr_laws_never_stuck.proofs.Unbroken.{not_broken}
 use Rattle.kr_laws_never_stuck.proofs.Declared.{equal_names}
 use Rattle.kr_laws_never_stuck.specs.WellTyped.{AreFiles}
+use Rattle.kr_base.proofs.ListLemmas.{append_is_nil}
 
 -- ---- members
 
@@ -35,7 +36,7 @@ pub members_good : (s : Scope) (ms : Tree) → IsMember true ms → (judged s ms
 unfolding judged
 members_good s trees.Nil h f = tt
 members_good s (trees.Cons a b) h f =
-    let parts = both_empty (judged s a).faults (judged (after s a) b).faults f in
+    let parts = append_is_nil (judged s a).faults (judged (after s a) b).faults f in
     ((parts.0, h.0), members_good s b h.1 (subst (λ (z : Scope). (judged z b).faults ≡ []) (member_scope s a h.0) parts.1))
 members_good s _ h f = absurd h
 
@@ -53,7 +54,7 @@ module _ (t : Table) where
     pub unbroken : (judge h.place (class_rule (has_constructor (in_class h.name around)) (in_class h.name around)) (judged (in_class h.name around) tree).faults).faults ≡ []
 
   below_good : (p : Place) (v : Rattle.kr_types_meaning.specs.Rules.Judgement) (below : List Fault) → (judge p v below).faults ≡ [] → below ≡ []
-  below_good p v below e = Rattle.kr_laws_safety.proofs.Glue.below_none p v below e
+  below_good p v below e = Rattle.kr_laws_types.proofs.Typed.below_none p v below e
 
   class_good : (outer : Option ℕ) (m : Tree) (n : List ℕ) → IsGoodMember (in_class n around) m → AllOf IsGood (heading_of outer m)
   unfolding judged
@@ -83,13 +84,13 @@ module _ (t : Table) where
   file_good : (file : Tree) → AreClasses file → (judged around file).faults ≡ [] → AllOf IsGoodClass (items file)
   unfolding judged
   file_good trees.Nil h f = tt
-  file_good (trees.Cons (trees.Class p n e ms) b) h f = let parts = both_empty (judged around (trees.Class p n e ms)).faults (judged around b).faults f in ((parts.0, h.0), file_good b h.1 parts.1)
+  file_good (trees.Cons (trees.Class p n e ms) b) h f = let parts = append_is_nil (judged around (trees.Class p n e ms)).faults (judged around b).faults f in ((parts.0, h.0), file_good b h.1 parts.1)
   file_good (trees.Cons _ b) h f = absurd h.0
   file_good _ h f = absurd h
 
   files_good : (files : List Tree) → AreFiles files → flat_map (λ file. (judged around file).faults) files ≡ [] → AllOf IsGoodClass (flat_map items files)
   files_good [] h f = tt
-  files_good (file ∷ files) h f = let parts = both_empty (judged around file).faults (flat_map (λ file. (judged around file).faults) files) f in all_both IsGoodClass (items file) (flat_map items files) (file_good file h.0 parts.0) (files_good files h.1 parts.1)
+  files_good (file ∷ files) h f = let parts = append_is_nil (judged around file).faults (flat_map (λ file. (judged around file).faults) files) f in all_both IsGoodClass (items file) (flat_map items files) (file_good file h.0 parts.0) (files_good files h.1 parts.1)
 
 -- ---- names of classes
 
@@ -110,8 +111,8 @@ unseen : (all : List Heading) (k : ℕ) (seen : List (List ℕ)) (hs : List Head
 unseen all k seen [] c h e q = absurd (cc (q))
 unseen all k seen (x ∷ hs) zero h e q =
     let i : x ≡ h = ap (λ (o : Option Heading). elim o as (λ y. Heading) [ Some y ↦ y | None ↦ x ]) q in
-    ap (λ (z : Heading). is_name_among z.name seen) (sym i) ∙ not_broken (is_name_among x.name seen) 1 x.place (both_empty (break_if (is_name_among x.name seen) 1 x.place) (repeated 1 (x.name ∷ seen) (map class_name (classes_from all (k + 1) hs))) e).0
-unseen all k seen (x ∷ hs) (suc c) h e q = later (bytes_eq h.name x.name) (is_name_among h.name seen) (unseen all (k + 1) (x.name ∷ seen) hs c h (both_empty (break_if (is_name_among x.name seen) 1 x.place) (repeated 1 (x.name ∷ seen) (map class_name (classes_from all (k + 1) hs))) e).1 q)
+    ap (λ (z : Heading). is_name_among z.name seen) (sym i) ∙ not_broken (is_name_among x.name seen) 1 x.place (append_is_nil (break_if (is_name_among x.name seen) 1 x.place) (repeated 1 (x.name ∷ seen) (map class_name (classes_from all (k + 1) hs))) e).0
+unseen all k seen (x ∷ hs) (suc c) h e q = later (bytes_eq h.name x.name) (is_name_among h.name seen) (unseen all (k + 1) (x.name ∷ seen) hs c h (append_is_nil (break_if (is_name_among x.name seen) 1 x.place) (repeated 1 (x.name ∷ seen) (map class_name (classes_from all (k + 1) hs))) e).1 q)
   where
     later : (a b : Bool) → (a || b) ≡ false → b ≡ false
     later true b e = absurd (cc (e))
@@ -125,7 +126,7 @@ number_is all j k seen (x ∷ hs) zero h e q =
     let z : k ≡ k + 0 = omega arith in
     ap (λ (b : Bool). if b then Some k else number_from (k + 1) hs h.name) (equal_names x.name h.name (ap (λ (y : Heading). y.name) i)) ∙ ap (λ (n : ℕ). Some n) z
 number_is all j k seen (x ∷ hs) (suc c) h e q =
-    let rest = (both_empty (break_if (is_name_among x.name seen) 1 x.place) (repeated 1 (x.name ∷ seen) (map class_name (classes_from all (j + 1) hs))) e).1 in
+    let rest = (append_is_nil (break_if (is_name_among x.name seen) 1 x.place) (repeated 1 (x.name ∷ seen) (map class_name (classes_from all (j + 1) hs))) e).1 in
     go (bytes_eq x.name h.name) refl (unseen all (j + 1) (x.name ∷ seen) hs c h rest q) (number_is all (j + 1) (k + 1) (x.name ∷ seen) hs c h rest q)
   where
     go : (b : Bool) → bytes_eq x.name h.name ≡ b → (bytes_eq h.name x.name || is_name_among h.name seen) ≡ false → number_from (k + 1) hs h.name ≡ Some (k + 1 + c) → (if b then Some k else number_from (k + 1) hs h.name) ≡ Some (k + suc c)
@@ -180,6 +181,6 @@ class_good_at files shapes faults typed c d q =
       is = r.2 ∙ ap (λ (n : ℕ). class_of hs n r.0) zero_c;
       tree = good.tree;
       members = good.members;
-      all = members_good (scope_of t (values_of t) c) good.tree good.shape (Rattle.kr_laws_safety.proofs.Glue.below_none r.0.place (class_rule (has_constructor (scope_of t (values_of t) c)) (scope_of t (values_of t) c)) (judged (scope_of t (values_of t) c) good.tree).faults rule);
+      all = members_good (scope_of t (values_of t) c) good.tree good.shape (Rattle.kr_laws_types.proofs.Typed.below_none r.0.place (class_rule (has_constructor (scope_of t (values_of t) c)) (scope_of t (values_of t) c)) (judged (scope_of t (values_of t) c) good.tree).faults rule);
       rule = rule;
     }

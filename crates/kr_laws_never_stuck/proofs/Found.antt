@@ -1,4 +1,4 @@
--- The type of each `\old` is found by its place, where no two stand at one.
+-- The type of each `\old` is found by its place, where no two are at one.
 use Rattle.std.proofs.Common.{◌≡◌, ℕ, ◌+◌, ◌≤◌, Bool, true, false, ◌&&◌, List, [], ◌∷◌, ◌++◌, Some, inl, inr, refl, ap, ◌∙◌, arith}
 use Rattle.std.specs.Prelude.{flat_map, nat_eq, if◌then◌else◌}
 use Rattle.std.proofs.lemmas.Bool.{eq-eqb}
@@ -48,7 +48,7 @@ type_found (x ∷ os) o few (inr i) = go (is_at_place x.place o.place) refl (typ
 
 -- ---- those of an expression
 
--- what the nodes of code have of them
+-- the `\old`s of the nodes of code
 abbrev pub olds_in : List Node → List OldNode
 olds_in ns = flat_map (λ (n : Node). old_in n.scope n.tree) ns
 

@@ -1,4 +1,4 @@
--- Fields with their initial values, which stand in a scope that says what is declared.
+-- Fields with their initial values, in a scope that has the declaration.
 use Rattle.std.proofs.Common.{◌≡◌, refl, sym, ap, ◌∙◌, subst, inl, inr, ℕ, Bool, true, false, ◌||◌, List, [], ◌∷◌, Option, Some, None}
 use Rattle.std.specs.Prelude.{is_some, ◌&&◌, flat_map, not, if◌then◌else◌}
 use Rattle.kr_classes_table.specs.Constants.{value_at}
@@ -7,10 +7,10 @@ use Rattle.kr_ast.specs.declared.node.UnaryOperator.TheVariants as unaries
 use Rattle.kr_ast.specs.Tree as trees
 use Rattle.kr_ast.specs.Tree.{Tree}
 use Rattle.kr_classes_table.specs.Types.{JavaType, is_known}
-use Rattle.kr_classes_table.specs.Table.{Heading, Field, items, type_named, declared_in, fields_in, is_subtype}
-use Rattle.kr_types_meaning.specs.Scopes.{Scope, Declaring, Fields, Constants, written, value, in_old, under_minus, after, static_if, declaring, class_before}
+use Rattle.kr_classes_table.specs.Table.{Field, items, declared_in, fields_in, is_subtype}
+use Rattle.kr_types_meaning.specs.Scopes.{Scope, Fields, Constants, written, value, in_old, under_minus, static_if, declaring, class_before}
 use Rattle.kr_types_meaning.specs.Rules as rules
-use Rattle.kr_types_meaning.specs.Rules.{Typed, Judgement, Fits, ask, fine, takes, initial_fits, declaration_rule, unary_rule, operator_rule, choice_rule, cast_rule, instance_rule, assignment_rule, compound_rule, step_rule, element_rule, call_rule, super_rule, creation_rule, array_creation_rule, old_rule}
+use Rattle.kr_types_meaning.specs.Rules.{Typed, Judgement, Fits, ask, fine, initial_fits, declaration_rule, unary_rule, operator_rule, choice_rule, cast_rule, instance_rule, assignment_rule, compound_rule, step_rule, element_rule, call_rule, super_rule, creation_rule, array_creation_rule, old_rule}
 use Rattle.kr_types_meaning.specs.Typing.{Judged, judge, on_maybe, one, two, three, list, one_and_list, both, field_of, method_of, judged, type_in}
 use Rattle.kr_types_meaning.specs.Running.{elsewhere}
 use Rattle.kr_laws_shapes.specs.Shapes.{AreDeclarators, IsMember}
@@ -20,11 +20,12 @@ use Rattle.kr_laws_shapes.specs.Expressions.{IsCreated, IsWritten}
 use Rattle.kr_laws_types.proofs.Given.{variable_known}
 use Rattle.kr_laws_types.proofs.Expressions.{after_expression}
 use Rattle.kr_mean.specs.Purity.{IsOneOf}
-use Rattle.kr_laws_safety.proofs.Glue.{below_none, kept}
-use Rattle.kr_laws_never_stuck.proofs.Unbroken.{both_empty}
+use Rattle.kr_laws_safety.proofs.Glue.{kept}
 use Rattle.kr_laws_never_stuck.proofs.Members.{type_variable}
+use Rattle.kr_laws_types.proofs.Typed.{below_none}
+use Rattle.kr_base.proofs.ListLemmas.{append_is_nil}
 
--- ---- what is declared is nothing to an expression
+-- ---- expressions don't depend on the declaration
 
 -- nor to a type
 written_same : (s : Scope) (t : Tree) → IsWritten t → judged (elsewhere false s) t ≡ judged s t
@@ -101,11 +102,11 @@ expression_same arrays olds _ s u e h i = absurd (cc (i))
 
 -- ---- fields
 
--- where an initial value stands
+-- the scope of an initial value
 abbrev declaring_field : JavaType → Scope → Scope
 declaring_field w s = record s { is_static = false; declaring = Fields; declared = w }
 
--- what an instance field's member gives: its type, and its initial value as it is judged there
+-- from an instance field's member: its type, and its initial value as it is judged there
 pub record IsGoodField (s : Scope) (c : ℕ) (f : Field) : Type 0 where
   pub class : f.class ≡ c
   pub type : is_variable_type f.type ≡ true
@@ -140,7 +141,7 @@ declarators_good s c fi type f trees.Nil v h e i = absurd i
 declarators_good s c fi type f (trees.Cons (trees.Declarator p n x) b) v h e (inl i) =
     let D = declaring_field (written s type) s in
     let head = judge p (on_maybe (declaration_rule D Fields p n) (judged D x).typed) (judged D x).faults in
-    let parts = both_empty head.faults (judged D b).faults e in
+    let parts = append_is_nil head.faults (judged D b).faults e in
     subst (IsGoodField s c) i (record {
       class = refl;
       type = v;
@@ -150,15 +151,15 @@ declarators_good s c fi type f (trees.Cons (trees.Declarator p n x) b) v h e (in
 declarators_good s c fi type f (trees.Cons (trees.Declarator p n x) b) v h e (inr i) =
     let D = declaring_field (written s type) s in
     let head = judge p (on_maybe (declaration_rule D Fields p n) (judged D x).typed) (judged D x).faults in
-    declarators_good s c fi type f b v h.1 (both_empty head.faults (judged D b).faults e).1 i
+    declarators_good s c fi type f b v h.1 (append_is_nil head.faults (judged D b).faults e).1 i
 declarators_good s c fi type f (trees.Cons _ b) v h e i = absurd h.0
 declarators_good s c fi type f _ v h e i = absurd h
 
--- where a constant's value stands
+-- the scope of a constant's value
 abbrev pub declaring_constant : Bool → JavaType → Scope → Scope
 declaring_constant fi w s = record s { is_static = true; declaring = Constants fi; declared = w }
 
--- what a constant's member gives: it has a value, its type is a primitive one, and what is written has a type that fits
+-- from a constant's member: it has a value, its type is a primitive one, and its expression has a type that fits
 pub record IsGoodConstant (s : Scope) (c : ℕ) (f : Field) : Type 0 where
   pub class : f.class ≡ c
   pub type : is_variable_type f.type ≡ true
@@ -200,7 +201,7 @@ constants_good s c fi type f trees.Nil v h e i = absurd i
 constants_good s c fi type f (trees.Cons (trees.Declarator p n x) b) v h e (inl i) =
     let D = declaring_constant fi (written s type) s in
     let head = judge p (on_maybe (declaration_rule D (Constants fi) p n) (judged D x).typed) (judged D x).faults in
-    let parts = both_empty head.faults (judged D b).faults e in
+    let parts = append_is_nil head.faults (judged D b).faults e in
     subst (IsGoodConstant s c) i (record {
       class = refl;
       type = v;
@@ -213,7 +214,7 @@ constants_good s c fi type f (trees.Cons (trees.Declarator p n x) b) v h e (inl 
 constants_good s c fi type f (trees.Cons (trees.Declarator p n x) b) v h e (inr i) =
     let D = declaring_constant fi (written s type) s in
     let head = judge p (on_maybe (declaration_rule D (Constants fi) p n) (judged D x).typed) (judged D x).faults in
-    constants_good s c fi type f b v h.1 (both_empty head.faults (judged D b).faults e).1 i
+    constants_good s c fi type f b v h.1 (append_is_nil head.faults (judged D b).faults e).1 i
 constants_good s c fi type f (trees.Cons _ b) v h e i = absurd h.0
 constants_good s c fi type f _ v h e i = absurd h
 
@@ -225,7 +226,7 @@ constant_field s c f g = record { class = g.class; type = g.type; unbroken = λ 
 pub constant_good : (s : Scope) (c : ℕ) (f : Field) (t : Tree) → f.is_static ≡ true → (judged s t).faults ≡ [] → IsMember false t → IsOneOf f (fields_in s.table.headings c t) → IsGoodConstant s c f
 unfolding judged
 constant_good s c f (trees.Field p true fi type ds) static e h i =
-    let parts = both_empty (judged s type).faults (judged (static_if true (declaring (Constants fi) type s)) ds).faults e in
+    let parts = append_is_nil (judged s type).faults (judged (static_if true (declaring (Constants fi) type s)) ds).faults e in
     constants_good s c fi type f ds (type_variable s type h.0 parts.0) h.1 parts.1 i
 constant_good s c f (trees.Field p false fi type ds) static e h i = absurd (cc (static, not_static (items ds) i))
   where
@@ -239,9 +240,9 @@ constant_good s c f _ static e h i = absurd i
 pub field_good : (s : Scope) (c : ℕ) (f : Field) (t : Tree) → s.is_static ≡ false → (judged s t).faults ≡ [] → IsMember false t → IsOneOf f (fields_in s.table.headings c t) → IsGoodField s c f
 unfolding judged
 field_good s c f (trees.Field p true fi type ds) static e h i =
-    let parts = both_empty (judged s type).faults (judged (static_if true (declaring (Constants fi) type s)) ds).faults e in
+    let parts = append_is_nil (judged s type).faults (judged (static_if true (declaring (Constants fi) type s)) ds).faults e in
     constant_field s c f (constants_good s c fi type f ds (type_variable s type h.0 parts.0) h.1 parts.1 i)
 field_good s c f (trees.Field p false fi type ds) static e h i =
-    let parts = both_empty (judged s type).faults (judged (static_if false (declaring Fields type s)) ds).faults e in
+    let parts = append_is_nil (judged s type).faults (judged (static_if false (declaring Fields type s)) ds).faults e in
     declarators_good s c fi type f ds (type_variable s type h.0 parts.0) h.1 parts.1 i
 field_good s c f _ static e h i = absurd i

@@ -6,7 +6,8 @@ use Rattle.std.specs.List.{AllByRecursion}
 use Rattle.std.proofs.lemmas.Int.{ints}
 use Rattle.std.proofs.lemmas.Bool.{leb-true, and_parts}
 use Rattle.std.proofs.lemmas.Bool.Decides.{nat_tests}
-use Rattle.kr_space_layout.specs.Items.{integers_from, magnitude, width_between, integers}
+use Rattle.kr_space_layout.specs.Items.{integers_from, width_between, integers}
+use Rattle.kr_fin.specs.Document.{magnitude}
 use Rattle.kr_fin.specs.Shapes.{have, counts, ints as int_limits}
 use Rattle.kr_classes_table.specs.Numbers.{Bits32}
 use Rattle.kr_laws_safety.specs.Fits.{IsWithin}

@@ -11,7 +11,7 @@ use Rattle.kr_classes_table.specs.Table.{Heading, Parameter, Method, Constructor
 use Rattle.kr_classes_table.specs.Rules.{Fault}
 use Rattle.kr_types_meaning.specs.Scopes.{Scope, Local, written, after, bind_local, static_if, super_parameters}
 use Rattle.kr_types_meaning.specs.Rules as rules
-use Rattle.kr_types_meaning.specs.Rules.{Typed, Values, Judgement, Fits, ask, fine, takes, initial_fits, declaration_rule, implied_rule, is_none_of}
+use Rattle.kr_types_meaning.specs.Rules.{Typed, Judgement, Fits, ask, fine, implied_rule, is_none_of}
 use Rattle.kr_types_meaning.specs.Typing.{judge, on_maybe, judged}
 use Rattle.kr_laws_shapes.specs.Shapes.{IsVariableType, IsResultType, AreParameters, MayCallSuper, IsMember}
 use Rattle.kr_laws_types.specs.Types.{is_variable_type, is_result_type}
@@ -20,11 +20,12 @@ use Rattle.kr_mean.specs.Program.{parameter_local}
 use Rattle.kr_mean.specs.Purity.{IsOneOf}
 use Rattle.kr_laws_runs.proofs.Respects.{AllOf}
 use Rattle.kr_laws_safety.specs.Typed.{Olds, AreAllVariables, types_in, AreUnbroken}
-use Rattle.kr_laws_safety.proofs.Glue.{below_none, kept}
+use Rattle.kr_laws_safety.proofs.Glue.{kept}
 use Rattle.kr_laws_safety.proofs.Operands.{written_is}
-use Rattle.kr_laws_never_stuck.proofs.Unbroken.{both_empty}
 use Rattle.kr_laws_never_stuck.proofs.Declared.{one_split}
 use Rattle.kr_laws_never_stuck.proofs.Shaped.{AreStatements}
+use Rattle.kr_laws_types.proofs.Typed.{below_none}
+use Rattle.kr_base.proofs.ListLemmas.{append_is_nil}
 
 -- one of what is made of the members of a list
 pub member_of : {A : Type 0} (P : Tree → Type 0) (f : Tree → List A) (x : A) (ms : List Tree) → AllOf P ms → IsOneOf x (flat_map f ms) → (m : Tree) × P m × IsOneOf x (f m)
@@ -65,7 +66,7 @@ with_locals ls s = record s { locals = ls }
 abbrev locals_of : List Parameter → List Local
 locals_of ps = reverse (map parameter_local ps)
 
--- parameters are the locals behind them
+-- parameters are the locals after them
 pub after_parameters : (s : Scope) (ps : Tree) → AreParameters ps → after s ps ≡ with_locals (locals_of (parameters_in s.table.headings ps) ++ s.locals) s
 after_parameters s trees.Nil h = refl
 after_parameters s (trees.Cons (trees.Parameter p t n) b) h =
@@ -81,7 +82,7 @@ pub parameters_variable : (s : Scope) (ps : Tree) → AreParameters ps → (judg
 unfolding judged
 parameters_variable s trees.Nil h f = tt
 parameters_variable s (trees.Cons (trees.Parameter p t n) b) h f =
-    let parts = both_empty (judged s (trees.Parameter p t n)).faults (judged (bind_local n (written s t) s) b).faults f in
+    let parts = append_is_nil (judged s (trees.Parameter p t n)).faults (judged (bind_local n (written s t) s) b).faults f in
     (type_variable s t h.0 (below_none p (rules.parameter_rule s n) (judged s t).faults parts.0), parameters_variable (bind_local n (written s t) s) b h.1 parts.1)
 parameters_variable s (trees.Cons _ b) h f = absurd h
 parameters_variable s _ h f = absurd h
@@ -90,10 +91,10 @@ parameters_variable s _ h f = absurd h
 
 pub statements_unbroken : (arrays : List JavaType) (olds : Olds) (s : Scope) (b : Tree) → AreStatements arrays olds s (items b) → (judged s b).faults ≡ [] → AreUnbroken arrays olds s (items b)
 unfolding judged
-statements_unbroken arrays olds s (trees.Cons a b) h f = let parts = both_empty (judged s a).faults (judged (after s a) b).faults f in (h.0, parts.0, statements_unbroken arrays olds (after s a) b h.1 parts.1)
+statements_unbroken arrays olds s (trees.Cons a b) h f = let parts = append_is_nil (judged s a).faults (judged (after s a) b).faults f in (h.0, parts.0, statements_unbroken arrays olds (after s a) b h.1 parts.1)
 statements_unbroken arrays olds s _ h f = tt
 
--- what a method's member gives
+-- from a method's member
 pub record IsGoodMethod (s : Scope) (hs : List Heading) (c : ℕ) (m : Method) : Type 0 where
   pub class : m.class ≡ c
   pub parameters : AreAllVariables (types_in m.parameters)
@@ -110,12 +111,12 @@ method_good s c m (trees.Method p st n (trees.Signature q r ps cs) b) none f h (
     S = static_if st s
 
     parts : ((judged S (trees.Signature q r ps cs)).faults ≡ []) × ((judged (after S (trees.Signature q r ps cs)) b).faults ≡ [])
-    parts = both_empty (judged S (trees.Signature q r ps cs)).faults (judged (after S (trees.Signature q r ps cs)) b).faults f
+    parts = append_is_nil (judged S (trees.Signature q r ps cs)).faults (judged (after S (trees.Signature q r ps cs)) b).faults f
 
     made : IsGoodMethod s s.table.headings c (record { class = c; name = n; place = p; is_static = st; parameters = parameters_in s.table.headings ps; result = type_named s.table.headings r; contracts = items cs; body = items b })
     made =
-        let signed = both_empty ((judged S r).faults ++ (judged S ps).faults) (judged (after S (trees.Signature q r ps cs)) cs).faults parts.0 in
-        let both = both_empty (judged S r).faults (judged S ps).faults signed.0 in
+        let signed = append_is_nil ((judged S r).faults ++ (judged S ps).faults) (judged (after S (trees.Signature q r ps cs)) cs).faults parts.0 in
+        let both = append_is_nil (judged S r).faults (judged S ps).faults signed.0 in
         let inside = ap (λ (z : Scope). record z { result = written S r }) (after_parameters S ps h.0.1 ∙ ap (λ (ls : List Local). with_locals ls S) (ap (λ (ls : List Local). locals_of (parameters_in s.table.headings ps) ++ ls) none ∙ append-nil (locals_of (parameters_in s.table.headings ps)))) in
         record {
           class = refl;
@@ -163,8 +164,8 @@ constructor_good s k (trees.Constructor p ps call b) none f h (inl i) = subst (I
 
     made : IsGoodConstructor s (record { place = p; parameters = parameters_in s.table.headings ps; call = call; body = items b })
     made =
-        let all = both_empty ((judged s ps).faults ++ (judged (after s ps) call).faults) (judged (after s ps) b).faults (below_none p v ((judged s ps).faults ++ (judged (after s ps) call).faults ++ (judged (after s ps) b).faults) f) in
-        let front = both_empty (judged s ps).faults (judged (after s ps) call).faults all.0 in
+        let all = append_is_nil ((judged s ps).faults ++ (judged (after s ps) call).faults) (judged (after s ps) b).faults (below_none p v ((judged s ps).faults ++ (judged (after s ps) call).faults ++ (judged (after s ps) b).faults) f) in
+        let front = append_is_nil (judged s ps).faults (judged (after s ps) call).faults all.0 in
         record {
           parameters = parameters_variable s ps h.0 front.0;
           tree = b;

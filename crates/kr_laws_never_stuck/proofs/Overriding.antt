@@ -1,7 +1,7 @@
 -- Methods that override others; and the law.
 use Rattle.std.proofs.Common.{◌≡◌, refl, sym, ap, ◌∙◌, subst, inl, inr, ◌⊎◌, ℕ, Bool, true, false, List, [], ◌∷◌, ◌++◌}
 use Rattle.std.specs.Prelude.{Option, Some, None, map, flat_map, find, nat_eq, bytes_eq, not, ◌&&◌, option_to_list, if◌then◌else◌}
-use Rattle.std.proofs.lemmas.Bool.{eqb-true}
+use Rattle.std.proofs.lemmas.Bool.{eqb-true, and_parts, or_cases}
 use Rattle.kr_classes_table.specs.Types.{JavaType, NullType, ClassType, SetType, ListType, InferredType, is_same, is_reference}
 use Rattle.kr_classes_table.specs.Table.{Table, Class, Parameter, Method, table_of, class_at, own_methods, method_on, method_named, ancestors, line_of, is_among, is_below, is_subtype}
 use Rattle.kr_classes_table.specs.Rules.{break_if, repeated, same_types, overrides, result_fits}
@@ -15,11 +15,12 @@ use Rattle.kr_laws_safety.proofs.Steps.{below_itself}
 use Rattle.kr_laws_safety.specs.Typed.{types_in}
 use Rattle.kr_laws_safety.proofs.Targets.{assignable_through}
 use Rattle.kr_laws_never_stuck.specs.ClassRules.{IsOverrider, ClassRulesLaw}
-use Rattle.kr_laws_never_stuck.proofs.Unbroken.{both_empty, not_broken, Unbroken, unbroken}
-use Rattle.kr_laws_never_stuck.proofs.Chains.{or_one, Chain, chain, onward, line}
+use Rattle.kr_laws_never_stuck.proofs.Unbroken.{not_broken, Unbroken, unbroken}
+use Rattle.kr_laws_never_stuck.proofs.Chains.{Chain, chain, onward, line}
 use Rattle.kr_laws_never_stuck.proofs.Declared.{one_part, no_more, found_one, own_field, own_method, names_equal, declared}
+use Rattle.kr_base.proofs.ListLemmas.{append_is_nil}
 
--- what is found among several is found in the front, or only behind it
+-- an element found among several is found in the front, or only after it
 find_split : {A : Type 0} (test : A → Bool) (xs ys : List A) → ((x : A) × (find test xs ≡ Some x) × (find test (xs ++ ys) ≡ Some x)) ⊎ (find test (xs ++ ys) ≡ find test ys)
 find_split test [] ys = inr refl
 find_split {A} test (x ∷ xs) ys = go (test x) (find_split test xs ys)
@@ -29,7 +30,7 @@ find_split {A} test (x ∷ xs) ys = go (test x) (find_split test xs ys)
     go true r = inl (x, refl, refl)
     go false r = r
 
--- ---- what may stand for another
+-- ---- types that may replace another
 
 record Stands (t : Table) (k m : Method) : Type 0 where
   parameters : types_in k.parameters ≡ types_in m.parameters
@@ -45,13 +46,9 @@ assignable_same t (ListType InferredType) = refl
 assignable_same t (ListType s) = type_same (ListType s)
 assignable_same t s = type_same s
 
-and_both : (a b : Bool) → (a && b) ≡ true → (a ≡ true) × (b ≡ true)
-and_both true b e = (refl, e)
-and_both false b e = absurd (cc (e))
-
 types_same : (ps qs : List Parameter) → same_types ps qs ≡ true → types_in ps ≡ types_in qs
 types_same [] [] e = refl
-types_same (p ∷ ps) (q ∷ qs) e = let h = and_both (is_same p.type q.type) (same_types ps qs) e in ap (λ (t : JavaType). t ∷ types_in ps) (same_type p.type q.type h.0) ∙ ap (λ (ts : List JavaType). q.type ∷ ts) (types_same ps qs h.1)
+types_same (p ∷ ps) (q ∷ qs) e = let h = and_parts (is_same p.type q.type) (same_types ps qs) e in ap (λ (t : JavaType). t ∷ types_in ps) (same_type p.type q.type h.0) ∙ ap (λ (ts : List JavaType). q.type ∷ ts) (types_same ps qs h.1)
 types_same [] (q ∷ qs) e = absurd (cc (e))
 types_same (p ∷ ps) [] e = absurd (cc (e))
 
@@ -61,11 +58,11 @@ static_same false false e = refl
 static_same false true e = absurd (cc (e))
 
 result_same : (t : Table) (s u : JavaType) → result_fits t s u ≡ true → is_subtype t s u ≡ true
-result_same t s u e = go (or_one (is_same s u) (is_reference s && is_reference u && is_subtype t s u) e)
+result_same t s u e = go (or_cases (is_same s u) (is_reference s && is_reference u && is_subtype t s u) e)
   where
     go : (is_same s u ≡ true) ⊎ ((is_reference s && is_reference u && is_subtype t s u) ≡ true) → is_subtype t s u ≡ true
     go (inl h) = ap (is_subtype t s) (sym (same_type s u h)) ∙ assignable_same t s
-    go (inr h) = (and_both (is_reference s && is_reference u) (is_subtype t s u) h).1
+    go (inr h) = (and_parts (is_reference s && is_reference u) (is_subtype t s u) h).1
 
 not_false : (b : Bool) → not b ≡ false → b ≡ true
 not_false true e = refl
@@ -74,8 +71,8 @@ not_false false e = absurd (cc (e))
 -- a rule on what methods override, of one method
 of_one : (t : Table) (c r : ℕ) (fits : Method → Method → Bool) (m : Method) (ms : List Method) → flat_map (overrides t c r fits) ms ≡ [] → IsOneOf m ms → overrides t c r fits m ≡ []
 of_one t c r fits m [] e h = absurd h
-of_one t c r fits m (x ∷ ms) e (inl i) = subst (λ (z : Method). overrides t c r fits z ≡ []) i (both_empty (overrides t c r fits x) (flat_map (overrides t c r fits) ms) e).0
-of_one t c r fits m (x ∷ ms) e (inr i) = of_one t c r fits m ms (both_empty (overrides t c r fits x) (flat_map (overrides t c r fits) ms) e).1 i
+of_one t c r fits m (x ∷ ms) e (inl i) = subst (λ (z : Method). overrides t c r fits z ≡ []) i (append_is_nil (overrides t c r fits x) (flat_map (overrides t c r fits) ms) e).0
+of_one t c r fits m (x ∷ ms) e (inr i) = of_one t c r fits m ms (append_is_nil (overrides t c r fits x) (flat_map (overrides t c r fits) ms) e).1 i
 
 fits_above : (t : Table) (c r : ℕ) (fits : Method → Method → Bool) (m a : Method) → overrides t c r fits m ≡ [] → method_on t (ancestors t c) m.name ≡ Some a → fits m a ≡ true
 fits_above t c r fits m a e q = go (method_on t (ancestors t c) m.name) q e
@@ -84,7 +81,7 @@ fits_above t c r fits m a e q = go (method_on t (ancestors t c) m.name) q e
     go None q e = absurd (cc (q))
     go (Some x) q e =
         let i : x ≡ a = ap (λ (o : Option Method). elim o as (λ y. Method) [ Some z ↦ z | None ↦ x ]) q in
-        subst (λ (z : Method). fits m z ≡ true) i (not_false (fits m x) (not_broken (not (fits m x)) r m.place (both_empty (break_if (not (fits m x)) r m.place) [] e).0))
+        subst (λ (z : Method). fits m z ≡ true) i (not_false (fits m x) (not_broken (not (fits m x)) r m.place (append_is_nil (break_if (not (fits m x)) r m.place) [] e).0))
 
 module _ (t : Table) (rules : Unbroken t) (whole : IsWhole t) where
   declares_method : (c : ℕ) (m : Method) → IsOneOf m (own_methods t c) → (d : Class) × (class_at t.classes c ≡ Some d) × IsOneOf m d.methods
@@ -94,14 +91,14 @@ module _ (t : Table) (rules : Unbroken t) (whole : IsWhole t) where
       go None e h = absurd h
       go (Some d) e h = (d, e, no_more m d.methods h)
 
-  -- a class's own method may stand for the one that it overrides
+  -- a class's own method may replace the one that it overrides
   own_stands : (c : ℕ) (m a : Method) → IsOneOf m (own_methods t c) → method_on t (ancestors t c) m.name ≡ Some a → Stands t m a
   own_stands c m a h q =
       let d = declares_method c m h in
-      let five = (both_empty (repeated 5 [] (map (λ x. (x.name, x.place)) d.0.methods)) (flat_map (overrides t c 5 (λ x above. same_types x.parameters above.parameters)) d.0.methods) (rules.C5 c d.0 d.1)).1 in
+      let five = (append_is_nil (repeated 5 [] (map (λ x. (x.name, x.place)) d.0.methods)) (flat_map (overrides t c 5 (λ x above. same_types x.parameters above.parameters)) d.0.methods) (rules.C5 c d.0 d.1)).1 in
       let seven = rules.C7 c d.0 d.1 in
       let other = fits_above t c 7 (λ x above. (if x.is_static then above.is_static else not above.is_static) && result_fits t x.result above.result) m a (of_one t c 7 (λ x above. (if x.is_static then above.is_static else not above.is_static) && result_fits t x.result above.result) m d.0.methods seven d.2) q in
-      let parts = and_both (if m.is_static then a.is_static else not a.is_static) (result_fits t m.result a.result) other in
+      let parts = and_parts (if m.is_static then a.is_static else not a.is_static) (result_fits t m.result a.result) other in
       record {
         parameters = types_same m.parameters a.parameters (fits_above t c 5 (λ x above. same_types x.parameters above.parameters) m a (of_one t c 5 (λ x above. same_types x.parameters above.parameters) m d.0.methods five d.2) q);
         static = static_same m.is_static a.is_static parts.0;
@@ -111,10 +108,10 @@ module _ (t : Table) (rules : Unbroken t) (whole : IsWhole t) where
   stands_through : (a b c : Method) → Stands t a b → Stands t b c → Stands t a c
   stands_through a b c x y = record { parameters = x.parameters ∙ y.parameters; static = x.static ∙ y.static; result = assignable_through t (onward t rules whole) a.result b.result c.result x.result y.result }
 
-  -- what a class below has in place of a method
+  -- a subclass's method in place of another
   stands_below : (ds : List ℕ) → Chain t rules whole ds → (c : ℕ) (n : List ℕ) (m : Method) → is_among c ds ≡ true → method_named t c n ≡ Some m → (k : Method) × (method_on t ds n ≡ Some k) × Stands t k m
   stands_below [] h c n m i q = absurd (cc (i))
-  stands_below (d ∷ ds) h c n m i q = go (or_one (nat_eq c d) (is_among c ds) i) (λ j. stands_below ds h.1 c n m j q)
+  stands_below (d ∷ ds) h c n m i q = go (or_cases (nat_eq c d) (is_among c ds) i) (λ j. stands_below ds h.1 c n m j q)
     where
       above : (k : Method) → method_on t ds n ≡ Some k → Stands t k m → ((x : Method) × (find (λ (y : Method). bytes_eq y.name n) (own_methods t d) ≡ Some x) × (method_on t (d ∷ ds) n ≡ Some x)) ⊎ (method_on t (d ∷ ds) n ≡ method_on t ds n) → (k : Method) × (method_on t (d ∷ ds) n ≡ Some k) × Stands t k m
       above k e s (inr f) = (k, f ∙ e, s)
@@ -128,7 +125,7 @@ module _ (t : Table) (rules : Unbroken t) (whole : IsWhole t) where
       go (inl j) f = (m, ap (λ (z : List ℕ). method_on t (d ∷ z) n) h.0 ∙ (ap (λ (x : ℕ). method_named t x n) (sym (eqb-true c d j)) ∙ q), record { parameters = refl; static = refl; result = assignable_same t m.result })
       go (inr j) f = let k = f j in above k.0 k.1 k.2 (find_split (λ (y : Method). bytes_eq y.name n) (own_methods t d) (flat_map (own_methods t) ds))
 
-  -- a method stands in a class of the line where it is found
+  -- a method is declared in a class of the line where it is found
   on_line : ((c : ℕ) (m : Method) → IsOneOf m (own_methods t c) → m.class ≡ c) → (c : ℕ) (n : List ℕ) (m : Method) → method_named t c n ≡ Some m → (is_below t c m.class ≡ true) × (m.name ≡ n)
   on_line own c n m q =
       let found = found_one (λ (y : Method). bytes_eq y.name n) m (flat_map (own_methods t) (line_of t c)) q in

@@ -1,5 +1,5 @@
 -- A key of two parts is taken apart at its dot.
-use Rattle.std.proofs.Common.{◌≡◌, ℕ, ◌+◌, Bool, true, false, not, ◌&&◌, ◌==◌, cond, List, [], ◌∷◌, ◌++◌, length, take, drop, refl, sym, ap, ◌∙◌, subst, arith, append_assoc}
+use Rattle.std.proofs.Common.{◌≡◌, ℕ, ◌+◌, Bool, true, false, not, ◌&&◌, ◌==◌, cond, List, [], ◌∷◌, ◌++◌, length, take, drop, refl, sym, ap, ◌∙◌, arith, append_assoc}
 use Rattle.std.specs.Prelude.{codes}
 use Rattle.std.specs.List.{before_first, after_first, position_or_len}
 use Rattle.kr_fin.specs.Shapes.{is_dot, has_no_dot, is_part, is_pair}
@@ -46,6 +46,6 @@ apart owner name e =
     let p = parts owner name (second (is_part (before_first is_dot key)) (not (length (after_first is_dot key) == 0)) (has_no_dot (after_first is_dot key)) e) in
     record { owner_is = p.0; name_is = p.1 }
 
--- the same of a key that is written with its dot
+-- likewise of a key that is written with its dot
 pub dotted : (owner name : List ℕ) → owner ++ codes "." ++ name ≡ owner ++ 46 ∷ name
 dotted owner name = append_assoc owner (46 ∷ []) name

@@ -7,18 +7,18 @@ use Rattle.kr_ast.specs.Tree.{Tree}
 use Rattle.kr_classes_table.specs.Table.{Table, Class, Field, Parameter, Method, items, headings_of, table_of, class_at, own_methods, line_of, method_named, methods_in, parameters_in}
 use Rattle.kr_classes_table.specs.Constants.{field_meant}
 use Rattle.kr_classes_table.specs.Rules.{class_fault}
-use Rattle.kr_types_meaning.specs.Scopes.{Scope, Local, Meant, written, after, bind_local, static_if, meant_by, meant, scope_of}
+use Rattle.kr_types_meaning.specs.Scopes.{Scope, Local, written, after, bind_local, static_if, meant_by, meant}
 use Rattle.kr_types_meaning.specs.Rules.{Typed, Fits, ask, fine, is_new, parameter_rule}
 use Rattle.kr_types_meaning.specs.Typing.{judged, IsWellTyped}
 use Rattle.kr_laws_shapes.specs.Shapes.{AreParameters, IsMember}
 use Rattle.kr_mean.specs.Program.{program_with, class_scope}
 use Rattle.kr_mean.specs.Purity.{IsOneOf}
 use Rattle.kr_laws_safety.proofs.Glue.{kept}
-use Rattle.kr_laws_never_stuck.proofs.Unbroken.{both_empty}
 use Rattle.kr_laws_never_stuck.proofs.Declared.{one_part, found_one, no_more, equal_names}
 use Rattle.kr_laws_never_stuck.specs.WellTyped.{AreFiles}
 use Rattle.kr_laws_never_stuck.proofs.Files.{class_good_at}
 use Rattle.kr_laws_never_stuck.proofs.Members.{member_of}
+use Rattle.kr_base.proofs.ListLemmas.{append_is_nil}
 
 -- no local has the name
 HasNone : List Local → List ℕ → Type 0
@@ -41,7 +41,7 @@ new_name s p n below f = let rule = kept p (parameter_rule s n) below f in go (i
     go true x e = refl
     go false x e = absurd (cc (e))
 
--- what is found of a parameter: no local before it has its name, and it is the first of its name
+-- a parameter found by name: no local before it has its name, and it is the first of its name
 record IsFound (ls : List Local) (ps : List Parameter) (q : Parameter) : Type 0 where
   none : HasNone ls q.name
   found : find (λ p. bytes_eq p.name q.name) ps ≡ Some q
@@ -52,7 +52,7 @@ parameters_found s trees.Nil q h f i = absurd i
 parameters_found s (trees.Cons (trees.Parameter p t n) b) q h f i = go i (parameters_found (bind_local n (written s t) s) b q h.1 parts.1)
   where
     parts : ((judged s (trees.Parameter p t n)).faults ≡ []) × ((judged (bind_local n (written s t) s) b).faults ≡ [])
-    parts = both_empty (judged s (trees.Parameter p t n)).faults (judged (bind_local n (written s t) s) b).faults f
+    parts = append_is_nil (judged s (trees.Parameter p t n)).faults (judged (bind_local n (written s t) s) b).faults f
 
     ps : List Parameter
     ps = parameters_in s.table.headings b
@@ -76,9 +76,9 @@ method_found : (s : Scope) (c : ℕ) (m : Method) (q : Parameter) (t : Tree) →
 unfolding judged
 method_found s c m q (trees.Method p st n (trees.Signature a r ps cs) b) f h (inl i) j =
     let S = static_if st s in
-    let parts = both_empty (judged S (trees.Signature a r ps cs)).faults (judged (after S (trees.Signature a r ps cs)) b).faults f in
-    let signed = both_empty ((judged S r).faults ++ (judged S ps).faults) (judged (after S (trees.Signature a r ps cs)) cs).faults parts.0 in
-    let both = both_empty (judged S r).faults (judged S ps).faults signed.0 in
+    let parts = append_is_nil (judged S (trees.Signature a r ps cs)).faults (judged (after S (trees.Signature a r ps cs)) b).faults f in
+    let signed = append_is_nil ((judged S r).faults ++ (judged S ps).faults) (judged (after S (trees.Signature a r ps cs)) cs).faults parts.0 in
+    let both = append_is_nil (judged S r).faults (judged S ps).faults signed.0 in
     subst (λ (xs : List Parameter). find (λ p. bytes_eq p.name q.name) xs ≡ Some q) (ap (λ (x : Method). x.parameters) i)
     (parameters_found S ps q h.0.1 both.1 (subst (λ (xs : List Parameter). IsOneOf q xs) (sym (ap (λ (x : Method). x.parameters) i)) j)).found
 method_found s c m q (trees.Method p st n (trees.Signature a r ps cs) b) f h (inr i) j = absurd i

@@ -11,7 +11,7 @@ use Rattle.kr_laws_runs.proofs.Respects.{AllOf, all_front, all_back, all_both}
 use Rattle.kr_laws_never_stuck.specs.Apart.{nodes_at}
 use Rattle.kr_laws_never_stuck.proofs.Files.{heading_at}
 
--- a list that stands in another
+-- a sublist of another
 pub record IsPart (whole part : List Tree) : Type 0 where
   pub before : List Tree
   pub behind : List Tree

@@ -5,10 +5,11 @@ use Rattle.std.proofs.lemmas.Bool.Decides.{nat_tests}
 use Rattle.kr_lex.specs.Characters.{is_line_end, begins_character}
 use Rattle.kr_lex.specs.Cursors.{one_if}
 use Rattle.kr_lex.specs.Places.{ends_line, line_ends, has_line_end, last_line, characters, line_after, column_after}
+use Rattle.kr_lex.proofs.Positions.{or_false, last_line_push, characters_push}
 
 -- ---- lines and columns
 
--- the first place is not behind the second
+-- the first place is not after the second
 abbrev pub IsUpTo : ℕ → ℕ → ℕ → ℕ → Type 0
 IsUpTo l c m d = (l < m) ⊎ ((l ≡ m) × (c ≤ d))
 
@@ -39,45 +40,12 @@ unfolding last
 line_ends_push before b [] = omega arith
 line_ends_push before b (c ∷ bs) = omega (arith, line_ends_push c b bs)
 
-or_false : (x : Bool) → (x || false) ≡ x
-or_false true = refl
-or_false false = refl
-
-or_assoc : (x y z : Bool) → (x || (y || z)) ≡ ((x || y) || z)
-or_assoc true y z = refl
-or_assoc false y z = refl
-
-has_line_end_push : (b : ℕ) (bs : List ℕ) → has_line_end (bs ++ b ∷ []) ≡ (has_line_end bs || is_line_end b)
-has_line_end_push b [] = or_false (is_line_end b)
-has_line_end_push b (c ∷ bs) = ap (λ t. is_line_end c || t) (has_line_end_push b bs) ∙ or_assoc (is_line_end c) (has_line_end bs) (is_line_end b)
-
-line_cases : (x y z : Bool) (l m : List ℕ) (b c : ℕ) → cond (x || (y || z)) (cond z [] (l ++ b ∷ [])) (c ∷ m ++ b ∷ []) ≡ cond z [] (cond (x || y) l (c ∷ m) ++ b ∷ [])
-line_cases true true true l m b c = refl
-line_cases true true false l m b c = refl
-line_cases true false true l m b c = refl
-line_cases true false false l m b c = refl
-line_cases false true true l m b c = refl
-line_cases false true false l m b c = refl
-line_cases false false true l m b c = refl
-line_cases false false false l m b c = refl
-
-last_line_push : (b : ℕ) (bs : List ℕ) → last_line (bs ++ b ∷ []) ≡ cond (is_line_end b) [] (last_line bs ++ b ∷ [])
-last_line_push b [] = ap (λ t. cond t [] (b ∷ [])) (or_false (is_line_end b))
-last_line_push b (c ∷ bs) =
-    ap (λ t. cond (is_line_end c || t) (last_line (bs ++ b ∷ [])) (c ∷ bs ++ b ∷ [])) (has_line_end_push b bs)
-    ∙ (ap (λ l. cond (is_line_end c || (has_line_end bs || is_line_end b)) l (c ∷ bs ++ b ∷ [])) (last_line_push b bs)
-    ∙ line_cases (is_line_end c) (has_line_end bs) (is_line_end b) (last_line bs) bs b c)
-
-characters_push : (b : ℕ) (bs : List ℕ) → characters (bs ++ b ∷ []) ≡ characters bs + cond (begins_character b) 1 0
-characters_push b [] = omega arith
-characters_push b (c ∷ bs) = omega (arith, characters_push b bs)
-
 column_push : (b : ℕ) (bs : List ℕ) → is_line_end b ≡ false → column_after (bs ++ b ∷ []) ≡ column_after bs + cond (begins_character b) 1 0
 column_push b bs e =
     let l : last_line (bs ++ b ∷ []) ≡ last_line bs ++ b ∷ [] = last_line_push b bs ∙ ap (λ t. cond t [] (last_line bs ++ b ∷ [])) e in
     omega (arith, ap characters l, characters_push b (last_line bs))
 
--- behind a line end stands column 1
+-- after a line end comes column 1
 has_end : (b : ℕ) (bs : List ℕ) → is_line_end (last b bs) ≡ true → has_line_end (b ∷ bs) ≡ true
 unfolding last
 has_end b [] e = or_false (is_line_end b) ∙ e
@@ -92,11 +60,11 @@ unfolding last
 nothing_behind b [] e = ap (λ t. cond t [] (b ∷ [])) (has_end b [] e)
 nothing_behind b (c ∷ bs) e = ap (λ t. cond t (last_line (c ∷ bs)) (b ∷ c ∷ bs)) (has_end b (c ∷ bs) e) ∙ nothing_behind c bs e
 
--- a line end that ends no line of its own is a LF behind a CR
+-- a line end that ends no line of its own is a LF after a CR
 no_line : (before b : ℕ) → is_line_end b ≡ true → ends_line before b ≡ false → before ≡ 13
 no_line before b e n = grind (arith, nat_tests)
 
--- what ends a line or not
+-- a character that ends a line or not
 line_stays : (before b : ℕ) → is_line_end b ≡ false → ends_line before b ≡ false
 line_stays before b e = grind (arith, nat_tests)
 

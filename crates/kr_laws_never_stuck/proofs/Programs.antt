@@ -1,13 +1,13 @@
--- What typing gives of a whole program.
+-- Typing of a whole program.
 use Rattle.std.proofs.Common.{◌≡◌, refl, sym, ap, ◌∙◌, subst, inl, inr, ◌⊎◌, ℕ, suc, Bool, true, false, List, [], ◌∷◌, ◌++◌, Option, Some, None}
 use Rattle.std.specs.Prelude.{map, flat_map, reverse, is_some, bytes_eq, option_to_list, option_and_then, drop, if◌then◌else◌}
 use Rattle.std.proofs.lemmas.List.{append-nil}
 use Rattle.kr_ast.specs.Tree as trees
 use Rattle.kr_ast.specs.Tree.{Tree}
 use Rattle.kr_classes_table.specs.Types.{JavaType}
-use Rattle.kr_classes_table.specs.Table.{Heading, Table, Class, Field, Parameter, Method, Constructor, items, fields_in, methods_in, constructors_in, class_of, headings_of, table_of, class_at, super_of, line_of, own_fields, own_methods, is_instance, fields_of, field_named, method_named, constructor_parameters, is_below, is_subtype}
+use Rattle.kr_classes_table.specs.Table.{Table, Class, Field, Method, Constructor, items, fields_in, methods_in, constructors_in, headings_of, table_of, class_at, line_of, own_fields, own_methods, is_instance, fields_of, field_named, method_named, constructor_parameters, is_below}
 use Rattle.kr_classes_table.specs.Rules.{class_fault, break_if, repeated}
-use Rattle.kr_types_meaning.specs.Scopes.{Scope, scope_of, super_parameters}
+use Rattle.kr_types_meaning.specs.Scopes.{Scope, super_parameters}
 use Rattle.kr_types_meaning.specs.Typing.{judge, judged, type_in, class_rule, has_constructor, IsWellTyped}
 use Rattle.kr_laws_shapes.specs.Shapes.{MayCallSuper}
 use Rattle.kr_laws_types.specs.Types.{is_variable_type}
@@ -15,9 +15,9 @@ use Rattle.kr_laws_types.specs.Shapes.{Expression, IsCode}
 use Rattle.kr_mean.specs.Program.{Program, program_with, class_scope, method_scope, constructor_scope, first, constructor_of, declared_fields}
 use Rattle.kr_mean.specs.Purity.{IsOneOf}
 use Rattle.kr_laws_safety.specs.Steps.{field_types}
-use Rattle.kr_laws_safety.specs.Typed.{Olds, AreAllVariables, types_in, IsField, IsMethod, Overrides, CallsSuper, IsConstructor, IsConstructed, IsInitialised, AreInitialised, IsClass, IsTypedProgram}
+use Rattle.kr_laws_safety.specs.Typed.{Olds, AreAllVariables, IsField, IsMethod, Overrides, CallsSuper, IsConstructed, IsInitialised, AreInitialised, IsTypedProgram}
 use Rattle.kr_laws_never_stuck.specs.ClassRules.{FollowsClassRules}
-use Rattle.kr_laws_never_stuck.proofs.Unbroken.{unbroken, both_empty}
+use Rattle.kr_laws_never_stuck.proofs.Unbroken.{unbroken}
 use Rattle.kr_laws_never_stuck.proofs.Declared.{one_split, one_part, no_more, found_one, own_has}
 use Rattle.kr_laws_never_stuck.proofs.Overriding.{class_rules}
 use Rattle.kr_classes_table.proofs.Tables.{table_law}
@@ -40,7 +40,8 @@ use Rattle.kr_laws_types.proofs.Expressions.{is_typed}
 use Rattle.kr_laws_runs.proofs.Respects.{AllOf, all_both}
 use Rattle.kr_laws_safety.proofs.Targets.{widened}
 use Rattle.kr_laws_safety.proofs.Creations.{is_nil, nil_is, present}
-use Rattle.kr_laws_never_stuck.proofs.Declared.{one_front}
+use Rattle.kr_laws_runs.proofs.Overriders.{one_front}
+use Rattle.kr_base.proofs.ListLemmas.{append_is_nil}
 
 -- ---- lists
 
@@ -189,11 +190,11 @@ module _ (files : List Tree) (arrays : List JavaType) (shapes : AreFiles files) 
   variables : HasVariables t
   variables = record { fields = λ c n f q. let part = one_part f (own_fields t) (line_of t c) (found_one (λ (y : Field). bytes_eq y.name n) f (flat_map (own_fields t) (line_of t c)) q).0 in (own_good part.0 f part.2).type; results = λ c n m q. (method c n m q).result }
 
-  -- where a constant's value stands
+  -- the scope of a constant's value
   abbrev inside : ℕ → Field → Bool → Scope
   inside c g final = declaring_constant final g.type (class_scope program c)
 
-  -- what is written of a constant has a type
+  -- the expression of a constant has a type
   constant_typed : (c : ℕ) (d : Class) (q : class_at t.classes c ≡ Some d) (g : Field) (i : IsOneOf g d.fields) (static : g.is_static ≡ true) → is_nil g.initial ≡ false → IsTyped (inside c g (good_constant c d q g i static).final) g.initial
   constant_typed c d q g i static present' =
       let k = good_constant c d q g i static in
@@ -308,7 +309,7 @@ module _ (files : List Tree) (arrays : List JavaType) (shapes : AreFiles files) 
           (taken d q [] e, none_implied (class_scope program c) g.heading.place (judged (class_scope program c) g.tree).faults rule)
       by d q (k ∷ ks) e =
           let names = map (λ (x : Field). x.name) (flat_map (own_fields t) (Rattle.kr_classes_table.specs.Table.ancestors t c)) in
-          let four = (both_empty (repeated 4 names (map (λ f. (f.name, f.place)) d.fields)) (flat_map (λ k. break_if true 4 k.place) (drop 1 d.constructors)) ((unbroken t faults).C4 c d q)).1 in
+          let four = (append_is_nil (repeated 4 names (map (λ f. (f.name, f.place)) d.fields)) (flat_map (λ k. break_if true 4 k.place) (drop 1 d.constructors)) ((unbroken t faults).C4 c d q)).1 in
           let alone = none_behind ks (subst (λ (xs : List Constructor). flat_map (λ (k : Constructor). break_if true 4 k.place) (drop 1 xs) ≡ []) e four) in
           let i : IsOneOf k d.constructors = subst (λ (xs : List Constructor). IsOneOf k xs) (sym e) (inl refl) in
           let g = good_constructor c d q k i in

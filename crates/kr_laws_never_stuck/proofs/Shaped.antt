@@ -1,4 +1,4 @@
--- What is asked of code: it is as the grammar derives it, and the array types that it creates have numbers.
+-- Code is as the grammar derives it, and the array types that it creates have numbers.
 use Rattle.std.specs.Prelude.{◌≡◌, ℕ, true, false, List, [], ◌∷◌, Some}
 use Rattle.kr_ast.specs.Tree as trees
 use Rattle.kr_ast.specs.Tree.{Tree}

@@ -102,7 +102,7 @@ placed p (a ∷ i) = one_at p a.place + placed p i
 same_parts : (q p : Place) → is_at_place q p ≡ true → (q.file ≡ p.file) × (q.line ≡ p.line) × (q.col ≡ p.col)
 same_parts q p e = (grind (arith, nat_tests), grind (arith, nat_tests), grind (arith, nat_tests))
 
--- the place is before what stands behind a front
+-- the place is before those after a front
 abbrev IsAhead : Place → List ℕ → Type 0
 IsAhead p front = IsBefore p.line p.col (line_after front) (column_after front)
 
@@ -138,7 +138,7 @@ at_front p file front part e s =
     subst (λ (c : ℕ). IsBefore p.line c (line_after (front ++ part)) (column_after (front ++ part))) q.2
     (subst (λ (l : ℕ). IsBefore l (column_after front) (line_after (front ++ part)) (column_after (front ++ part))) q.1 (passes part front s))
 
--- no two tokens of a file stand at one place
+-- no two tokens of a file are at one place
 pub once : {file : ℕ} {inside last : Bool} {front text end left : List ℕ} {list : List Lexeme} → Reaches file inside front text list last end left → (p : Place) → placed p list ≤ 1
 once here p = omega arith
 once (gap part rest z g d) p = once d p
@@ -184,7 +184,7 @@ elsewhere {file = file} (contract {front = front} kind blank rest c d) p n = ome
 abbrev pub star : List ℕ → ℕ
 star n = one_if (bytes_eq n (codes "*"))
 
--- what the names weigh that are `*`
+-- the weight of names that are `*`
 abbrev pub star_of : Kind → Lexeme → ℕ
 star_of kinds.Identifier a = star a.text
 star_of k a = 0

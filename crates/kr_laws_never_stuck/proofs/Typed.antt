@@ -1,10 +1,12 @@
 -- Each slot's domain has values of the slot's type.
-use Rattle.std.proofs.Common.{◌≡◌, ℕ, zero, suc, ◌+◌, ◌<◌, Bool, true, false, ◌||◌, List, [], ◌∷◌, ◌++◌, length, map, get_or, Option, Some, None, refl, sym, ap, ◌∙◌, subst, inl, inr, ◌⊎◌, arith}
-use Rattle.std.specs.Prelude.{flat_map, bytes_eq, codes, find, unwrap_or, is_none, option_map, option_and_then, All, if◌then◌else◌}
+use Rattle.std.proofs.Common.{◌≡◌, ℕ, zero, suc, ◌+◌, ◌<◌, Bool, true, false, not, ◌&&◌, ◌||◌, ◌==◌, nat_lt, List, [], ◌∷◌, ◌++◌, length, map, get_or, Option, Some, None, refl, sym, ap, ◌∙◌, subst, inl, inr, ◌⊎◌, arith}
+use Rattle.std.specs.Prelude.{flat_map, bytes_eq, codes, find, unwrap_or, option_map, option_and_then, All, if◌then◌else◌}
 use Rattle.std.specs.List.{AllByRecursion}
 use Rattle.std.proofs.Common.{length-append}
-use Rattle.std.proofs.lemmas.List.{get_or_at, append_assoc}
+use Rattle.std.proofs.lemmas.Bool.Decides.{nat_tests}
+use Rattle.std.proofs.lemmas.List.{get_or_at, append_assoc, length-map}
 use Rattle.std.proofs.lemmas.List.Elements.{recursion_from_All}
+use Rattle.std.proofs.lemmas.Bool.{or_cases, or_right, or_left}
 use Rattle.kr_ast.specs.Tree.{Tree}
 use Rattle.kr_classes_table.specs.Types.{JavaType, VoidType, ArrayType, is_same}
 use Rattle.kr_classes_table.specs.Table.{Heading, Table, Field, Parameter, Method, table_of, fields_of, method_named, number_of}
@@ -13,19 +15,22 @@ use Rattle.kr_value.specs.declared.object.Class.TheVariants.{Object}
 use Rattle.kr_mean.specs.declared.mode.Mode.{Mode}
 use Rattle.kr_mean.specs.declared.mode.Mode.TheVariants.{List as Listing, Method as Testing}
 use Rattle.kr_mean.specs.Purity.{IsOneOf}
-use Rattle.kr_mean.specs.Problem.{Problem, ClassDomain, Domain, no_objects, domain_at}
+use Rattle.kr_mean.specs.Problem.{Problem, ClassDomain, Domain, no_objects, domain_at, slots}
 use Rattle.kr_mean.specs.Runs.{class_number, root_class, tested_method}
 use Rattle.kr_fin.specs.declared.document.FinDoc.{FinDoc}
+use Rattle.kr_fin.specs.declared.document.Count.{Count}
 use Rattle.kr_fin.specs.declared.document.ArrayBound.{ArrayBound}
 use Rattle.kr_fin.specs.declared.document.NamedDomain.{NamedDomain}
 use Rattle.kr_fin.specs.declared.document.Item.{Item as FinItem}
 use Rattle.kr_fin.specs.Shapes.{is_pair}
 use Rattle.kr_space_meaning.specs.Names.{array_or_none, array_type, type_within}
-use Rattle.kr_space_meaning.specs.Bounds.{Setting, setting_of, bounded, typed_bound, class_name, field_values, parameter_values, field_key, field_spots, class_domains, element_spots, elements_key, array_spots, array_class_domain, lengths_of, greatest, domains_of, root_of, tested_parameters, parameter_key, problem_in, program_in, problem_of}
-use Rattle.kr_space_meaning.specs.Keys.{owner_part, element_of, instance_type, own_field_type, field_type, method_at, parameter_type, parameters_of}
-use Rattle.kr_space_meaning.specs.Faults.{is_unfit, fields_unfit, params_unfit, S1, S2, S3_S5_S6, S4, S7, S8, S9, faults_in}
+use Rattle.kr_space_meaning.specs.Bounds.{Setting, setting_of, bounded, typed_bound, class_name, field_values, parameter_values, field_key, field_spots, object_domain, object_number, element_spots, elements_key, array_spots, array_class_domain, lengths_of, greatest, domains_of, root_domain, root_number, root_of, tested_parameters, parameter_key, problem_in, program_in, problem_of}
+use Rattle.kr_space_meaning.specs.Keys.{owner_part, element_of, instance_alone, instance_type, own_field_type, field_type, method_at, parameter_type, parameters_of}
+use Rattle.kr_space_meaning.specs.Faults.{is_instance, is_predicate, is_unfit, fields_unfit, params_unfit, numbers_of, numbers_of_lengths, S1, S2, S3_S5_S6, S4, S7, S8, S9, faults_in}
+use Rattle.kr_space_meaning.specs.declared.refusal.SpaceRule.TheVariants.{EmptyDomain, TooMany}
+use Rattle.kr_space_meaning.specs.Order.{break_if}
 use Rattle.kr_space_meaning.specs.Limits.{IsSmall, AreLengths, IsWithinLimits}
-use Rattle.kr_space_meaning.proofs.Each.{both_none, unbroken, none_each, each_of_both, each_weaker, each_at}
+use Rattle.kr_space_meaning.proofs.Each.{unbroken, none_each, each_of_both, each_weaker, each_at}
 use Rattle.kr_space_meaning.proofs.Plain.{length-element_spots}
 use Rattle.kr_laws_safety.specs.Domains as types
 use Rattle.kr_laws_safety.specs.Domains.{class_type, IsDomainOf, AreDomainsOf, AreAllDomainsOf, AreElementsOf, AreSpotsOf, HaveDomainsTypes}
@@ -35,7 +40,9 @@ use Rattle.kr_laws_never_stuck.specs.Keys.{IsKeyed, HasKeys, HasPairs}
 use Rattle.kr_laws_never_stuck.specs.DomainTypes.{DomainTypesLaw}
 use Rattle.kr_laws_never_stuck.proofs.Pairs.{IsApart, apart, dotted}
 use Rattle.kr_space_meaning.proofs.Given.{given_holds}
-use Rattle.kr_laws_never_stuck.proofs.Values.{lengths_short, class_below, AreArrays, HasDomains, given_of}
+use Rattle.kr_laws_never_stuck.proofs.Values.{lengths_short, AreArrays, HasDomains, given_of}
+use Rattle.kr_space.proofs.Laid.{document_is}
+use Rattle.kr_base.proofs.ListLemmas.{append_is_nil}
 
 -- ---- lists
 
@@ -48,34 +55,22 @@ by_recursion P xs h = recursion_from_All P xs h
 
 -- ---- numbers of array types
 
-or_one : (a b : Bool) → (a || b) ≡ true → (a ≡ true) ⊎ (b ≡ true)
-or_one true b e = inl refl
-or_one false b e = inr e
-
-or_left : (a b : Bool) → a ≡ true → (a || b) ≡ true
-or_left true b e = refl
-or_left false b e = absurd (cc (e))
-
-or_right : (a b : Bool) → b ≡ true → (a || b) ≡ true
-or_right true b e = refl
-or_right false b e = e
-
 listed_back : (t : JavaType) (xs ys : List JavaType) → is_listed t ys ≡ true → is_listed t (xs ++ ys) ≡ true
 listed_back t [] ys h = h
 listed_back t (x ∷ xs) ys h = or_right (is_same t x) (is_listed t (xs ++ ys)) (listed_back t xs ys h)
 
 listed_front : (t : JavaType) (xs ys : List JavaType) → is_listed t xs ≡ true → is_listed t (xs ++ ys) ≡ true
 listed_front t [] ys h = absurd (cc (h))
-listed_front t (x ∷ xs) ys h = go (or_one (is_same t x) (is_listed t xs) h) (listed_front t xs ys)
+listed_front t (x ∷ xs) ys h = go (or_cases (is_same t x) (is_listed t xs) h) (listed_front t xs ys)
   where
     go : (is_same t x ≡ true) ⊎ (is_listed t xs ≡ true) → (is_listed t xs ≡ true → is_listed t (xs ++ ys) ≡ true) → (is_same t x || is_listed t (xs ++ ys)) ≡ true
     go (inl e) r = or_left (is_same t x) (is_listed t (xs ++ ys)) e
     go (inr e) r = or_right (is_same t x) (is_listed t (xs ++ ys)) (r e)
 
--- what stands among some stands once, or stood before
+-- a type among some occurs once, or was there before
 listed_once : (t : JavaType) (seen xs : List JavaType) → is_listed t xs ≡ true → (is_listed t (once seen xs) ≡ true) ⊎ (is_listed t seen ≡ true)
 listed_once t seen [] h = absurd (cc (h))
-listed_once t seen (x ∷ xs) h = go (is_listed x seen) refl (or_one (is_same t x) (is_listed t xs) h) (listed_once t seen xs) (listed_once t (x ∷ seen) xs)
+listed_once t seen (x ∷ xs) h = go (is_listed x seen) refl (or_cases (is_same t x) (is_listed t xs) h) (listed_once t seen xs) (listed_once t (x ∷ seen) xs)
   where
     split : (is_same t x ≡ true) ⊎ (is_listed t seen ≡ true) → (is_listed t (x ∷ once (x ∷ seen) xs) ≡ true) ⊎ (is_listed t seen ≡ true)
     split (inl e) = inl (or_left (is_same t x) (is_listed t (once (x ∷ seen) xs)) e)
@@ -83,7 +78,7 @@ listed_once t seen (x ∷ xs) h = go (is_listed x seen) refl (or_one (is_same t 
 
     later : (is_listed t (once (x ∷ seen) xs) ≡ true) ⊎ (is_listed t (x ∷ seen) ≡ true) → (is_listed t (x ∷ once (x ∷ seen) xs) ≡ true) ⊎ (is_listed t seen ≡ true)
     later (inl e) = inl (or_right (is_same t x) (is_listed t (once (x ∷ seen) xs)) e)
-    later (inr e) = split (or_one (is_same t x) (is_listed t seen) e)
+    later (inr e) = split (or_cases (is_same t x) (is_listed t seen) e)
 
     go : (b : Bool) → is_listed x seen ≡ b → (is_same t x ≡ true) ⊎ (is_listed t xs ≡ true) → (is_listed t xs ≡ true → (is_listed t (once seen xs) ≡ true) ⊎ (is_listed t seen ≡ true)) → (is_listed t xs ≡ true → (is_listed t (once (x ∷ seen) xs) ≡ true) ⊎ (is_listed t (x ∷ seen) ≡ true))
         → (is_listed t (if b then once seen xs else x ∷ once (x ∷ seen) xs) ≡ true) ⊎ (is_listed t seen ≡ true)
@@ -92,7 +87,7 @@ listed_once t seen (x ∷ xs) h = go (is_listed x seen) refl (or_one (is_same t 
     go false q (inl e) r s = inl (or_left (is_same t x) (is_listed t (once (x ∷ seen) xs)) e)
     go false q (inr e) r s = later (s e)
 
--- what is listed has a number, and stands there
+-- a listed type has a number, and is at it
 record IsNumbered (k : ℕ) (t : JavaType) (xs : List JavaType) : Type 0 where
   number : ℕ
   at : ℕ
@@ -113,7 +108,7 @@ numbered k t (x ∷ xs) h = go (is_same t x) refl h (numbered (k + 1) t xs)
 
 -- ---- bounds
 
--- what is known of an array type that the document bounds
+-- an array type that the document bounds
 record IsBound (setting : Setting) (a : JavaType × ArrayBound) : Type 0 where
   element : JavaType
   array : a.0 ≡ ArrayType element
@@ -121,7 +116,7 @@ record IsBound (setting : Setting) (a : JavaType × ArrayBound) : Type 0 where
   number : get_or setting.types (unwrap_or (array_number setting.types a.0) 0) VoidType ≡ a.0
   lengths : AllByRecursion AreLengths a.1.lengths
 
--- what is known of it before the types have numbers
+-- before the types have numbers
 record IsNamed (hs : List Heading) (a : JavaType × ArrayBound) : Type 0 where
   element : JavaType
   array : a.0 ≡ ArrayType element
@@ -158,10 +153,10 @@ all_listed hs (a ∷ more) h = (
 
 -- ---- the whole
 
-abbrev posed : Setting → Mode → Problem
+abbrev pub posed : Setting → Mode → Problem
 posed setting mode = record {
   program = program_in setting;
-  root = unwrap_or (root_of setting) 0;
+  root = root_domain setting;
   mode = mode;
   parameters = map (λ p. parameter_values setting (parameter_key mode p)) (tested_parameters setting mode);
   fuel = setting.document.fuel;
@@ -169,44 +164,96 @@ posed setting mode = record {
 }
 
 -- what is known of a domain that is given for a key
-abbrev IsFieldDomain : Table → List ℕ → List FinItem → Type 0
-IsFieldDomain table key items = (is_pair key ≡ true) × (is_unfit table (field_type table key) items ≡ false) × AllByRecursion IsSmall items
+abbrev IsFieldDomain : Table → FinDoc → List ℕ → List FinItem → Type 0
+IsFieldDomain table document key items = (is_pair key ≡ true) × (is_unfit table document (field_type table key) items ≡ false) × AllByRecursion IsSmall items
 
-abbrev IsParameterDomain : Table → Option ℕ → List ℕ → List FinItem → Type 0
-IsParameterDomain table root key items = (is_pair key ≡ true) × (is_unfit table (parameter_type table root key) items ≡ false) × AllByRecursion IsSmall items
+abbrev IsParameterDomain : Table → FinDoc → Option ℕ → List ℕ → List FinItem → Type 0
+IsParameterDomain table document root key items = (is_pair key ≡ true) × (is_unfit table document (parameter_type table root key) items ≡ false) × AllByRecursion IsSmall items
 
 -- what a setting has where no rule is broken
-record IsSet (setting : Setting) : Type 0 where
+pub record IsSet (setting : Setting) : Type 0 where
   keys : HasKeys setting.table
   root : ℕ
   rooted : root_of setting ≡ Some root
+  number : ℕ
+  numbered : object_number 0 setting.objects setting.document.root root ≡ Some number
   bounds : AllByRecursion (IsBound setting) setting.arrays
-  fields : AllByRecursion (λ d. IsFieldDomain setting.table d.key d.domain) setting.document.fields
-  params : AllByRecursion (λ d. IsParameterDomain setting.table (root_of setting) d.key d.domain) setting.document.params
+  fields : AllByRecursion (λ d. IsFieldDomain setting.table setting.document d.key d.domain) setting.document.fields
+  params : AllByRecursion (λ d. IsParameterDomain setting.table setting.document (root_of setting) d.key d.domain) setting.document.params
+
+number_same : (m n : ℕ) → (m == n) ≡ true → m ≡ n
+number_same m n e = grind (arith, nat_tests)
+
+and_parts : (a b : Bool) → (a && b) ≡ true → (a ≡ true) × (b ≡ true)
+and_parts true b e = (refl, e)
+and_parts false b e = absurd (cc (e))
+
+-- the root's domain, where it has one of its class
+pub root_domain_is : (setting : Setting) (c d : ℕ) → root_of setting ≡ Some c → object_number 0 setting.objects setting.document.root c ≡ Some d → root_domain setting ≡ d
+unfolding root_domain
+root_domain_is setting c d e n =
+    ap (λ (o : Option ℕ). unwrap_or (root_number setting o) (length (domains_of setting))) e
+    ∙ ap (λ (o : Option ℕ). unwrap_or o (length (domains_of setting))) n
+
+past_all : (ds : List ClassDomain) → (get_or ds (length ds) no_objects).count ≡ 0
+past_all [] = refl
+past_all (d ∷ ds) = past_all ds
+
+-- a root of a class that has objects has a domain of its class
+pub root_numbered : (setting : Setting) (c : ℕ) → root_of setting ≡ Some c → ((get_or (domains_of setting) (root_domain setting) no_objects).count == 0) ≡ false → (d : ℕ) × (object_number 0 setting.objects setting.document.root c ≡ Some d)
+unfolding root_domain
+root_numbered setting c e some = go (object_number 0 setting.objects setting.document.root c) refl
+  where
+    true_not_false : true ≡ false → ⊥
+    true_not_false e = absurd (cc (e))
+
+    at : (o : Option ℕ) → object_number 0 setting.objects setting.document.root c ≡ o → unwrap_or (root_number setting (root_of setting)) (length (domains_of setting)) ≡ unwrap_or o (length (domains_of setting))
+    at o q = ap (λ (r : Option ℕ). unwrap_or (root_number setting r) (length (domains_of setting))) e ∙ ap (λ (r : Option ℕ). unwrap_or r (length (domains_of setting))) q
+
+    go : (o : Option ℕ) → object_number 0 setting.objects setting.document.root c ≡ o → (d : ℕ) × (object_number 0 setting.objects setting.document.root c ≡ Some d)
+    go (Some d) q = (d, q)
+    go None q =
+        let none : (get_or (domains_of setting) (unwrap_or (root_number setting (root_of setting)) (length (domains_of setting))) no_objects).count ≡ 0 =
+        ap (λ (n : ℕ). (get_or (domains_of setting) n no_objects).count) (at None q) ∙ past_all (domains_of setting) in
+        absurd (true_not_false (ap (λ (n : ℕ). n == 0) (sym none) ∙ some))
+
+-- the object domain of a name and a class
+record IsThere (setting : Setting) (os : List (ℕ × Count)) (rest : List ClassDomain) (k d c : ℕ) : Type 0 where
+  at : ℕ
+  behind : d ≡ k + at
+  below : at < length (map (object_domain setting) os ++ rest)
+  class : (get_or (map (object_domain setting) os ++ rest) at no_objects).class ≡ Object c
+
+object_there : (setting : Setting) (k : ℕ) (os : List (ℕ × Count)) (rest : List ClassDomain) (name : List ℕ) (c d : ℕ) → object_number k os name c ≡ Some d → IsThere setting os rest k d c
+object_there setting k [] rest name c d e = absurd (cc (e))
+object_there setting k (o ∷ os) rest name c d e = go (bytes_eq o.1.name name && (o.0 == c)) refl e (object_there setting (k + 1) os rest name c d)
+  where
+    go : (b : Bool) → (bytes_eq o.1.name name && (o.0 == c)) ≡ b → (if b then Some k else object_number (k + 1) os name c) ≡ Some d → (object_number (k + 1) os name c ≡ Some d → IsThere setting os rest (k + 1) d c) → IsThere setting (o ∷ os) rest k d c
+    go true q e r = record {
+      at = 0;
+      behind = (let same : k ≡ d = cc (e) in omega (arith, same));
+      below = omega arith;
+      class = ap Object (number_same o.0 c (and_parts (bytes_eq o.1.name name) (o.0 == c) q).1);
+    }
+    go false q e r = let t = r e in record { at = suc t.at; behind = (let b = t.behind in omega (arith, b)); below = (let b = t.below in omega (arith, b)); class = t.class }
+
+object_below : (setting : Setting) (name : List ℕ) (c d : ℕ) → object_number 0 setting.objects name c ≡ Some d → d < length (domains_of setting)
+object_below setting name c d e =
+    let t = object_there setting 0 setting.objects (map (array_class_domain setting) setting.arrays) name c d e in
+    let z : t.at ≡ d = (let b = t.behind in omega (arith, b)) in
+    subst (λ (n : ℕ). n < length (domains_of setting)) z t.below
+
+pub object_class : (setting : Setting) (name : List ℕ) (c d : ℕ) → object_number 0 setting.objects name c ≡ Some d → (get_or (domains_of setting) d no_objects).class ≡ Object c
+object_class setting name c d e =
+    let t = object_there setting 0 setting.objects (map (array_class_domain setting) setting.arrays) name c d e in
+    let z : t.at ≡ d = (let b = t.behind in omega (arith, b)) in
+    subst (λ (n : ℕ). (get_or (domains_of setting) n no_objects).class ≡ Object c) z t.class
 
 module _ (setting : Setting) (mode : Mode) (set : IsSet setting) where
   abbrev P : Problem
   P = posed setting mode
 
-  -- ---- class domains by number
-
-  class_there : (k : ℕ) (hs : List Heading) (rest : List ClassDomain) (c : ℕ) → c < length hs → (c < length (class_domains setting k hs ++ rest)) × ((get_or (class_domains setting k hs ++ rest) c no_objects).class ≡ Object (k + c))
-  class_there k [] rest c l = absurd (omega (arith, l))
-  class_there k (h ∷ hs) rest zero l = let z : k ≡ k + 0 = omega arith in (omega arith, ap Object z)
-  class_there k (h ∷ hs) rest (suc c) l =
-      let r = class_there (k + 1) hs rest c (omega (arith, l)) in
-      let z : k + 1 + c ≡ k + suc c = omega arith in
-      (omega (arith, r.0), r.1 ∙ ap Object z)
-
-  domain_of_class : (c : ℕ) → c < length setting.table.headings → (c < length P.domains) × ((domain_at P c).class ≡ Object c)
-  domain_of_class c l =
-      let r = class_there 0 setting.table.headings (map (array_class_domain setting) setting.arrays) c l in
-      let z : 0 + c ≡ c = omega arith in
-      (r.0, r.1 ∙ ap Object z)
-
-  length_classes : (k : ℕ) (hs : List Heading) → length (class_domains setting k hs) ≡ length hs
-  length_classes k [] = refl
-  length_classes k (h ∷ hs) = ap suc (length_classes (k + 1) hs)
+  -- ---- domains by number
 
   arrays_there : (d : ℕ) (front : List ClassDomain) (bounds : List (JavaType × ArrayBound)) → length front ≡ d → P.domains ≡ front ++ map (array_class_domain setting) bounds → AllByRecursion (IsBound setting) bounds → AreArrays P d bounds
   arrays_there d front [] l e h = tt
@@ -222,8 +269,8 @@ module _ (setting : Setting) (mode : Mode) (set : IsSet setting) where
   has : HasDomains P setting
   has = record {
     table = refl;
-    classes = λ c l. let r = domain_of_class c l in (r.0, ap (class_type P.program) r.1);
-    arrays = arrays_there (length setting.table.headings) (class_domains setting 0 setting.table.headings) setting.arrays (length_classes 0 setting.table.headings) refl set.bounds;
+    objects = λ name c d e. (object_below setting name c d e, ap (class_type P.program) (object_class setting name c d e));
+    arrays = arrays_there (length setting.objects) (map (object_domain setting) setting.objects) setting.arrays (length-map setting.objects (object_domain setting)) refl set.bounds;
   }
 
   -- ---- fields
@@ -239,10 +286,10 @@ module _ (setting : Setting) (mode : Mode) (set : IsSet setting) where
       ∙ (ap (own_field_type setting.table f.name) k.class
       ∙ (ap (option_and_then instance_type) k.found ∙ ap (λ (b : Bool). if b then None else Some f.type) k.instance)))
 
-  -- what is given for a key of `fields` of a type
+  -- the domain given for a key of `fields` of a type
   given_typed : (key : List ℕ) (t : JavaType) → (is_pair key ≡ true → field_type setting.table key ≡ Some t) → IsDomainOf P t (field_values setting key)
   given_typed key t h = given_of P setting has (field_type setting.table) setting.document.fields key t (λ items e.
-      let d : IsFieldDomain setting.table key items = given_holds (IsFieldDomain setting.table) setting.document.fields key items set.fields e in
+      let d : IsFieldDomain setting.table setting.document key items = given_holds (IsFieldDomain setting.table setting.document) setting.document.fields key items set.fields e in
       (h d.0, d.1, d.2))
 
   field_typed : (f : Field) → IsKeyed setting.table f → IsDomainOf P f.type (field_values setting (field_key setting.table f))
@@ -257,10 +304,10 @@ module _ (setting : Setting) (mode : Mode) (set : IsSet setting) where
   Spots : ClassDomain → Type 0
   Spots d = AreSpotsOf P d.class d.spots
 
-  classes_typed : (c : ℕ) (hs : List Heading) → AllByRecursion Spots (class_domains setting c hs)
+  objects_typed : (os : List (ℕ × Count)) → AllByRecursion Spots (map (object_domain setting) os)
   unfolding Spots
-  classes_typed c [] = tt
-  classes_typed c (h ∷ hs) = (fields_typed 0 (fields_of setting.table c) (λ f i. set.keys.fields c f i), classes_typed (c + 1) hs)
+  objects_typed [] = tt
+  objects_typed (o ∷ os) = (fields_typed 0 (fields_of setting.table o.0) (λ f i. set.keys.fields o.0 f i), objects_typed os)
 
   -- ---- arrays
 
@@ -287,14 +334,14 @@ module _ (setting : Setting) (mode : Mode) (set : IsSet setting) where
 
   spots_typed : (d : ℕ) → d < length P.domains → AreSpotsOf P (domain_at P d).class (domain_at P d).spots
   unfolding Spots
-  spots_typed d l = each_at Spots P.domains d no_objects (each_of_both Spots (class_domains setting 0 setting.table.headings) (map (array_class_domain setting) setting.arrays) (classes_typed 0 setting.table.headings) (arrays_typed setting.arrays set.bounds)) l
+  spots_typed d l = each_at Spots P.domains d no_objects (each_of_both Spots (map (object_domain setting) setting.objects) (map (array_class_domain setting) setting.arrays) (objects_typed setting.objects) (arrays_typed setting.arrays set.bounds)) l
 
   -- ---- the root and the method under test
 
   root_there : (domain_at P P.root).class ≡ Object set.root
   root_there =
-      ap (λ (o : Option ℕ). (domain_at P (unwrap_or o 0)).class) set.rooted
-      ∙ (domain_of_class set.root (class_below setting.table.headings setting.document.root set.root set.rooted)).1
+      ap (λ (n : ℕ). (domain_at P n).class) (root_domain_is setting set.root set.number set.rooted set.numbered)
+      ∙ object_class setting setting.document.root set.root set.number set.numbered
 
   root_is : root_class P ≡ set.root
   root_is = ap class_number root_there
@@ -307,7 +354,7 @@ module _ (setting : Setting) (mode : Mode) (set : IsSet setting) where
       let key = name ++ codes "." ++ p.name in
       let same = dotted name p.name in
       given_of P setting has (parameter_type setting.table (root_of setting)) setting.document.params key p.type (λ items e.
-      let d : IsParameterDomain setting.table (root_of setting) key items = given_holds (IsParameterDomain setting.table (root_of setting)) setting.document.params key items set.params e in
+      let d : IsParameterDomain setting.table setting.document (root_of setting) key items = given_holds (IsParameterDomain setting.table setting.document (root_of setting)) setting.document.params key items set.params e in
       let a = subst (λ (k : List ℕ). IsApart k name p.name) (sym same) (apart name p.name (ap is_pair (sym same) ∙ d.0)) in
       let found : parameter_type setting.table (root_of setting) key ≡ Some p.type =
       ap (λ (n : List ℕ). option_map (λ p. p.type) (find (λ q. bytes_eq q.name n) (parameters_of (method_at setting.table (root_of setting) (owner_part key))))) a.name_is
@@ -320,24 +367,41 @@ module _ (setting : Setting) (mode : Mode) (set : IsSet setting) where
   all_parameters [] key h = tt
   all_parameters (p ∷ ps) key h = (h p (inl refl), all_parameters ps key (λ q i. h q (inr i)))
 
+-- the method under test is one that objects have
+alone : (m : Method) → is_instance (Some m) ≡ true → instance_alone (Some m) ≡ Some m
+alone m h = go m.is_static h
+  where
+    go : (b : Bool) → not b ≡ true → (if b then None else Some m) ≡ Some m
+    go false h = refl
+    go true h = absurd (cc (h))
+
+holds : (b : Bool) → not b ≡ false → b ≡ true
+holds true e = refl
+holds false e = absurd (cc (e))
+
+instance_rule : (setting : Setting) (name : List ℕ) → S8 setting (Testing name) ≡ [] → is_instance (method_at setting.table (root_of setting) name) ≡ true
+instance_rule setting name e = holds (is_instance (method_at setting.table (root_of setting) name)) (unbroken _ _ (codes "method") e)
+
 module _ (setting : Setting) where
-  parameters_typed : (mode : Mode) (set : IsSet setting) (m : Method) → tested_method (posed setting mode) mode ≡ Some m → AreDomainsOf (posed setting mode) (map (λ p. p.type) m.parameters) (posed setting mode).parameters
-  parameters_typed Listing set m e = absurd (cc (e))
-  parameters_typed (Testing name) set m e =
+  parameters_typed : (mode : Mode) (set : IsSet setting) (instance : S8 setting mode ≡ []) (m : Method) → tested_method (posed setting mode) mode ≡ Some m → AreDomainsOf (posed setting mode) (map (λ p. p.type) m.parameters) (posed setting mode).parameters
+  parameters_typed Listing set instance m e = absurd (cc (e))
+  parameters_typed (Testing name) set instance m e =
+      let found = tested_is setting (Testing name) set name ∙ e in
+      let one = alone m (subst (λ (o : Option Method). is_instance o ≡ true) found (instance_rule setting name instance)) in
       let problem = posed setting (Testing name) in
       subst (λ (o : Option Method). AreDomainsOf problem (map (λ p. p.type) m.parameters) (map (λ p. parameter_values setting (name ++ codes "." ++ p.name)) (parameters_of o)))
-      (sym (tested_is setting (Testing name) set name ∙ e))
+      (sym (ap instance_alone found ∙ one))
       (all_parameters setting (Testing name) set m.parameters (λ p. name ++ codes "." ++ p.name) (λ p i. parameter_typed setting (Testing name) set name m p e i))
 
   no_parameters : (mode : Mode) (set : IsSet setting) → tested_method (posed setting mode) mode ≡ None → (posed setting mode).parameters ≡ []
   no_parameters Listing set e = refl
   no_parameters (Testing name) set e =
-      ap (λ (o : Option Method). map (λ p. parameter_values setting (name ++ codes "." ++ p.name)) (parameters_of o)) (tested_is setting (Testing name) set name ∙ e)
+      ap (λ (o : Option Method). map (λ p. parameter_values setting (name ++ codes "." ++ p.name)) (parameters_of (instance_alone o))) (tested_is setting (Testing name) set name ∙ e)
 
-  typed : (mode : Mode) → IsSet setting → HaveDomainsTypes (posed setting mode)
-  typed mode set = record {
+  typed : (mode : Mode) → IsSet setting → S8 setting mode ≡ [] → HaveDomainsTypes (posed setting mode)
+  typed mode set instance = record {
     spots = spots_typed setting mode set;
-    parameters = parameters_typed mode set;
+    parameters = parameters_typed mode set instance;
     none = no_parameters mode set;
     root = root_there setting mode set ∙ ap Object (sym (root_is setting mode set));
   }
@@ -347,40 +411,69 @@ module _ (setting : Setting) where
 all_small : (domains : List NamedDomain) → All (λ d. All IsSmall d.domain) domains → AllByRecursion (λ d. AllByRecursion IsSmall d.domain) domains
 all_small domains h = each_weaker (λ d. All IsSmall d.domain) (λ d. AllByRecursion IsSmall d.domain) domains (λ d k. by_recursion IsSmall d.domain k) (by_recursion (λ d. All IsSmall d.domain) domains h)
 
-record Rules (setting : Setting) : Type 0 where
-  root : is_none (root_of setting) ≡ false
-  fields : fields_unfit setting.table setting.document.fields ≡ []
-  params : params_unfit setting.table (root_of setting) setting.document.params ≡ []
+pub record Rules (problem : Problem) (setting : Setting) (mode : Mode) : Type 0 where
+  pub some : ((domain_at problem problem.root).count == 0) ≡ false
+  pub fields : fields_unfit setting.table setting.document setting.document.fields ≡ []
+  pub params : params_unfit setting.table setting.document (root_of setting) setting.document.params ≡ []
+  pub predicate : is_predicate (method_at setting.table (root_of setting) (codes "repOk")) ≡ true
+  pub instance : S8 setting mode ≡ []
 
-rules_of : (problem : Problem) (setting : Setting) (mode : Mode) → faults_in problem setting mode ≡ [] → Rules setting
+-- the objects of the root
+root_some : (problem : Problem) (setting : Setting) → S3_S5_S6 problem setting ≡ [] → ((domain_at problem problem.root).count == 0) ≡ false
+root_some problem setting e =
+    let fields = numbers_of problem setting (field_type setting.table) (codes "fields.") setting.document.fields in
+    let params = numbers_of problem setting (parameter_type setting.table (root_of setting)) (codes "params.") setting.document.params in
+    let lengths = numbers_of_lengths problem setting setting.document.arrays in
+    let this = break_if ((domain_at problem problem.root).count == 0) EmptyDomain (codes "this") in
+    let many = break_if (nat_lt 4096 (length (slots problem))) TooMany (codes "slots") in
+    let first = (append_is_nil fields (params ++ (lengths ++ (this ++ many))) e).1 in
+    let second = (append_is_nil params (lengths ++ (this ++ many)) first).1 in
+    let third = (append_is_nil lengths (this ++ many) second).1 in
+    unbroken ((domain_at problem problem.root).count == 0) EmptyDomain (codes "this") (append_is_nil this many third).0
+
+pub rules_of : (problem : Problem) (setting : Setting) (mode : Mode) → faults_in problem setting mode ≡ [] → Rules problem setting mode
 unfolding faults_in
 rules_of problem setting mode e =
-    let first = both_none (S1 setting) (S2 setting mode ++ (S3_S5_S6 problem setting ++ (S4 setting ++ (S7 setting ++ (S8 setting mode ++ S9 setting))))) e in
-    let second = both_none (S2 setting mode) (S3_S5_S6 problem setting ++ (S4 setting ++ (S7 setting ++ (S8 setting mode ++ S9 setting)))) first.1 in
-    let third = both_none (S3_S5_S6 problem setting) (S4 setting ++ (S7 setting ++ (S8 setting mode ++ S9 setting))) second.1 in
-    let fourth = both_none (S4 setting) (S7 setting ++ (S8 setting mode ++ S9 setting)) third.1 in
-    let four = both_none (fields_unfit setting.table setting.document.fields) (params_unfit setting.table (root_of setting) setting.document.params) fourth.0 in
-    record { root = unbroken _ _ (codes "root") (both_none _ _ first.0).0; fields = four.0; params = four.1 }
+    let first = append_is_nil (S1 setting) (S2 setting mode ++ (S3_S5_S6 problem setting ++ (S4 setting ++ (S7 setting ++ (S8 setting mode ++ S9 setting))))) e in
+    let second = append_is_nil (S2 setting mode) (S3_S5_S6 problem setting ++ (S4 setting ++ (S7 setting ++ (S8 setting mode ++ S9 setting)))) first.1 in
+    let third = append_is_nil (S3_S5_S6 problem setting) (S4 setting ++ (S7 setting ++ (S8 setting mode ++ S9 setting))) second.1 in
+    let fourth = append_is_nil (S4 setting) (S7 setting ++ (S8 setting mode ++ S9 setting)) third.1 in
+    let four = append_is_nil (fields_unfit setting.table setting.document setting.document.fields) (params_unfit setting.table setting.document (root_of setting) setting.document.params) fourth.0 in
+    let fifth = append_is_nil (S7 setting) (S8 setting mode ++ S9 setting) fourth.1 in
+    record {
+      some = root_some problem setting third.0;
+      fields = four.0;
+      params = four.1;
+      predicate = holds (is_predicate (method_at setting.table (root_of setting) (codes "repOk"))) (unbroken _ _ (codes "root") fifth.0);
+      instance = (append_is_nil (S8 setting mode) (S9 setting) fifth.1).0;
+    }
 
-some_of : (o : Option ℕ) → is_none o ≡ false → (c : ℕ) × (o ≡ Some c)
-some_of (Some c) e = (c, refl)
-some_of None e = absurd (cc (e))
+-- what has a predicate has a class
+pub rooted_by : (setting : Setting) → is_predicate (method_at setting.table (root_of setting) (codes "repOk")) ≡ true → (c : ℕ) × (root_of setting ≡ Some c)
+rooted_by setting e = some_of (root_of setting) e
+  where
+    some_of : (o : Option ℕ) → is_predicate (method_at setting.table o (codes "repOk")) ≡ true → (c : ℕ) × (o ≡ Some c)
+    some_of (Some c) e = (c, refl)
+    some_of None e = absurd (cc (e))
 
-set_of : (setting : Setting) → AllByRecursion (IsBound setting) setting.arrays → HasKeys setting.table → HasPairs setting.document → IsWithinLimits setting.document → Rules setting → IsSet setting
-set_of setting bounds keys pairs limits rules =
-    let root = some_of (root_of setting) rules.root in
+set_of : (problem : Problem) (setting : Setting) (mode : Mode) → ((get_or (domains_of setting) (root_domain setting) no_objects).count == 0) ≡ false → AllByRecursion (IsBound setting) setting.arrays → HasKeys setting.table → HasPairs setting.document → IsWithinLimits setting.document → Rules problem setting mode → IsSet setting
+set_of problem setting mode some bounds keys pairs limits rules =
+    let root = rooted_by setting rules.predicate in
+    let number = root_numbered setting root.0 root.1 some in
     let small = all_small setting.document.fields limits.fields in
     let small_params = all_small setting.document.params limits.params in
-    let fit = each_weaker _ (λ d. is_unfit setting.table (field_type setting.table d.key) d.domain ≡ false) setting.document.fields (λ d e. unbroken _ _ _ e) (none_each _ setting.document.fields rules.fields) in
-    let fit_params = each_weaker _ (λ d. is_unfit setting.table (parameter_type setting.table (root_of setting) d.key) d.domain ≡ false) setting.document.params (λ d e. unbroken _ _ _ e) (none_each _ setting.document.params rules.params) in
+    let fit = each_weaker _ (λ d. is_unfit setting.table setting.document (field_type setting.table d.key) d.domain ≡ false) setting.document.fields (λ d e. unbroken _ _ _ e) (none_each _ setting.document.fields rules.fields) in
+    let fit_params = each_weaker _ (λ d. is_unfit setting.table setting.document (parameter_type setting.table (root_of setting) d.key) d.domain ≡ false) setting.document.params (λ d e. unbroken _ _ _ e) (none_each _ setting.document.params rules.params) in
     record {
       keys = keys;
       root = root.0;
       rooted = root.1;
+      number = number.0;
+      numbered = number.1;
       bounds = bounds;
-      fields = each_weaker _ (λ d. IsFieldDomain setting.table d.key d.domain) setting.document.fields (λ d h. (h.0, h.1.0, h.1.1))
+      fields = each_weaker _ (λ d. IsFieldDomain setting.table setting.document d.key d.domain) setting.document.fields (λ d h. (h.0, h.1.0, h.1.1))
           (each_both _ _ setting.document.fields pairs.fields (each_both _ _ setting.document.fields fit small));
-      params = each_weaker _ (λ d. IsParameterDomain setting.table (root_of setting) d.key d.domain) setting.document.params (λ d h. (h.0, h.1.0, h.1.1))
+      params = each_weaker _ (λ d. IsParameterDomain setting.table setting.document (root_of setting) d.key d.domain) setting.document.params (λ d h. (h.0, h.1.0, h.1.1))
           (each_both _ _ setting.document.params pairs.params (each_both _ _ setting.document.params fit_params small_params));
     }
 
@@ -409,7 +502,7 @@ bounds_of files document limits =
     only t (inl e) = e
     only t (inr e) = absurd (cc (e))
 
-is_posed : (setting : Setting) (mode : Mode) → problem_in (program_in setting) setting mode ≡ posed setting mode
+pub is_posed : (setting : Setting) (mode : Mode) → problem_in (program_in setting) setting mode ≡ posed setting mode
 unfolding problem_in
 is_posed setting mode = refl
 
@@ -418,13 +511,12 @@ table_is : (files : List Tree) (document : FinDoc) → (setting_of files documen
 unfolding setting_of
 table_is files document = refl
 
-document_is : (files : List Tree) (document : FinDoc) → (setting_of files document).document ≡ document
-unfolding setting_of
-document_is files document = refl
-
 pub domains_typed : DomainTypesLaw
 domains_typed files document mode keys pairs limits e =
     let setting = setting_of files document in
     let here = document_is files document in
-    let set = set_of setting (bounds_of files document limits) (subst HasKeys (sym (table_is files document)) keys) (subst HasPairs (sym here) pairs) (subst IsWithinLimits (sym here) limits) (rules_of (problem_of files document mode) setting mode e) in
-    subst HaveDomainsTypes (sym (is_posed setting mode)) (typed setting mode set)
+    let problem = problem_of files document mode in
+    let rules = rules_of problem setting mode e in
+    let some = subst (λ (p : Problem). ((domain_at p p.root).count == 0) ≡ false) (is_posed setting mode) rules.some in
+    let set = set_of problem setting mode some (bounds_of files document limits) (subst HasKeys (sym (table_is files document)) keys) (subst HasPairs (sym here) pairs) (subst IsWithinLimits (sym here) limits) rules in
+    subst HaveDomainsTypes (sym (is_posed setting mode)) (typed setting mode set rules.instance)

@@ -1,14 +1,11 @@
 -- Where no class rule is broken, none is of any class.
-use Rattle.std.proofs.Common.{◌≡◌, refl, ap, subst, ℕ, zero, suc, ◌+◌, Bool, true, false, List, [], ◌∷◌, ◌++◌, arith}
+use Rattle.std.proofs.Common.{◌≡◌, refl, ap, subst, ℕ, zero, suc, ◌+◌, Bool, true, false, List, [], ◌∷◌, arith}
 use Rattle.std.specs.Prelude.{Option, Some, None}
 use Rattle.kr_base.specs.declared.place.Place.{Place}
 use Rattle.kr_classes_table.specs.Table.{Table, Class, class_at}
 use Rattle.kr_classes_table.specs.Rules.{Fault, class_fault, least, each_class, break_if, first_of, C1, C2, C3, C4, C5, C6, C7, C8}
 use Rattle.kr_classes_table.proofs.Least.{is_least}
-
-pub both_empty : {A : Type 0} (xs ys : List A) → xs ++ ys ≡ [] → (xs ≡ []) × (ys ≡ [])
-both_empty [] ys e = (refl, e)
-both_empty (x ∷ xs) ys e = absurd (cc (e))
+use Rattle.kr_base.proofs.ListLemmas.{append_is_nil}
 
 pub not_broken : (b : Bool) (r : ℕ) (p : Place) → break_if b r p ≡ [] → b ≡ false
 not_broken true r p e = absurd (cc (e))
@@ -29,10 +26,10 @@ each rule k [] c d e h = absurd (cc (h))
 each rule k (x ∷ ds) zero d e h =
     let i : x ≡ d = ap (λ (o : Option Class). elim o as (λ y. Class) [ Some z ↦ z | None ↦ x ]) h in
     let n : k ≡ k + 0 = omega arith in
-    subst (λ (z : Class). rule (k + 0) z ≡ []) i (subst (λ (j : ℕ). rule j x ≡ []) n (both_empty (rule k x) (each_class rule (k + 1) ds) e).0)
+    subst (λ (z : Class). rule (k + 0) z ≡ []) i (subst (λ (j : ℕ). rule j x ≡ []) n (append_is_nil (rule k x) (each_class rule (k + 1) ds) e).0)
 each rule k (x ∷ ds) (suc c) d e h =
     let n : k + 1 + c ≡ k + suc c = omega arith in
-    subst (λ (j : ℕ). rule j d ≡ []) n (each rule (k + 1) ds c d (both_empty (rule k x) (each_class rule (k + 1) ds) e).1 h)
+    subst (λ (j : ℕ). rule j d ≡ []) n (each rule (k + 1) ds c d (append_is_nil (rule k x) (each_class rule (k + 1) ds) e).1 h)
 
 -- a rule of each class
 pub record Unbroken (t : Table) : Type 0 where

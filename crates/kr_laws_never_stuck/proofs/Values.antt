@@ -1,10 +1,10 @@
--- The values that a document gives are of the types that they are asked for.
+-- The values that a document gives are of the types that their keys require.
 use Rattle.std.proofs.Common.{◌≡◌, ℕ, suc, ◌+◌, ◌<◌, ◌≤◌, ℤ, pos, negsuc, Bool, true, false, not, ◌||◌, cond, List, [], ◌∷◌, ◌++◌, length, map, Option, Some, None, refl, sym, ap, ◌∙◌, subst, arith}
-use Rattle.std.specs.Prelude.{bytes_eq, codes, unwrap_or}
+use Rattle.std.specs.Prelude.{unwrap_or}
 use Rattle.std.specs.Int.Signed.{le_z}
 use Rattle.std.specs.List.{AllByRecursion, list_any}
 use Rattle.kr_classes_table.specs.Types.{JavaType, IntType, BooleanType, ClassType, is_same}
-use Rattle.kr_classes_table.specs.Table.{Heading, Table, is_subtype, number_from, number_of}
+use Rattle.kr_classes_table.specs.Table.{Table, is_subtype}
 use Rattle.kr_value.specs.declared.value.Value.TheVariants.{Int, Bool as Truth, Null}
 use Rattle.kr_mean.specs.Problem.{Problem, DomainItem, Domain, Plain, Objects, domain_at}
 use Rattle.kr_space_layout.specs.Items.{integers}
@@ -12,9 +12,9 @@ use Rattle.kr_fin.specs.declared.document.ArrayBound.{ArrayBound}
 use Rattle.kr_fin.specs.declared.document.NamedDomain.{NamedDomain}
 use Rattle.kr_fin.specs.declared.document.Item.{Item as FinItem}
 use Rattle.kr_fin.specs.declared.document.Item.TheVariants.{Number, Range, Truth as FinTruth, Name}
-use Rattle.kr_space_meaning.specs.Names.{Meant, NoReference, Unknown, array_type, array_meant, class_meant, meant}
+use Rattle.kr_space_meaning.specs.Names.{Meant, NoReference, Unknown, meant}
 use Rattle.kr_space_meaning.specs.Names as names
-use Rattle.kr_space_meaning.specs.Bounds.{Setting, given, array_domain, width_for, meant_values, item_values, values_with, values_of, lengths_in, lengths_of, greatest, values_given}
+use Rattle.kr_space_meaning.specs.Bounds.{Setting, all_of, bound_number, given, object_number, width_for, meant_values, item_values, values_with, values_of, lengths_in, lengths_of, greatest, values_given}
 use Rattle.kr_space_meaning.specs.Faults.{meant_fits, fits, is_unfit}
 use Rattle.kr_space_meaning.specs.Limits.{IsSmall, AreLengths}
 use Rattle.kr_space_meaning.proofs.Each.{each_of_both}
@@ -57,55 +57,17 @@ greatest_short (Objects d ∷ items) h = greatest_short items h.1
 pub lengths_short : (setting : Setting) (items : List FinItem) → AllByRecursion AreLengths items → greatest (lengths_of setting items) ≤ 64
 lengths_short setting items h = greatest_short (values_with setting Bits32 items) (short_items setting items h)
 
--- ---- names
-
--- the class that a name means has a number below that of all
-number_below : (k : ℕ) (hs : List Heading) (n : List ℕ) (c : ℕ) → number_from k hs n ≡ Some c → c < k + length hs
-number_below k [] n c e = absurd (cc (e))
-number_below k (h ∷ hs) n c e = go (bytes_eq h.name n) e (number_below (k + 1) hs n c)
-  where
-    inside : Option ℕ → ℕ
-    inside (Some z) = z
-    inside None = c
-
-    go : (b : Bool) → cond b (Some k) (number_from (k + 1) hs n) ≡ Some c → (number_from (k + 1) hs n ≡ Some c → c < k + 1 + length hs) → c < k + suc (length hs)
-    go true e r = let same : k ≡ c = ap inside e in omega (arith, same)
-    go false e r = omega (arith, r e)
-
-pub class_below : (hs : List Heading) (n : List ℕ) (c : ℕ) → number_of hs n ≡ Some c → c < length hs
-class_below hs n c e = omega (arith, number_below 0 hs n c e)
-
-IsClassBelow : List Heading → Meant → Type 0
-IsClassBelow hs (names.Objects c) = c < length hs
-IsClassBelow hs m = Unit {0}
-
-meant_below : (hs : List Heading) (n : List ℕ) → IsClassBelow hs (meant hs n)
-unfolding meant IsClassBelow
-meant_below hs n = go (bytes_eq n (codes "null")) (of_class (number_of hs n) refl)
-  where
-    of_array : (o : Option JavaType) → IsClassBelow hs (array_meant o)
-    of_array (Some t) = tt
-    of_array None = tt
-
-    of_class : (o : Option ℕ) → number_of hs n ≡ o → IsClassBelow hs (class_meant hs n o)
-    of_class (Some c) e = class_below hs n c e
-    of_class None e = of_array (array_type hs n)
-
-    go : (b : Bool) → IsClassBelow hs (class_meant hs n (number_of hs n)) → IsClassBelow hs (cond b NoReference (class_meant hs n (number_of hs n)))
-    go true h = tt
-    go false h = h
-
 -- ---- values
 
--- the objects of classes and of bounded array types have class domains of their types
+-- bounded array types have domains of their types
 abbrev pub AreArrays : Problem → ℕ → List (JavaType × ArrayBound) → Type 0
 AreArrays problem d [] = Unit {0}
 AreArrays problem d (a ∷ more) = ((d < length problem.domains) × (class_type problem.program (domain_at problem d).class ≡ a.0)) × AreArrays problem (d + 1) more
 
 pub record HasDomains (problem : Problem) (setting : Setting) : Type 0 where
   pub table : problem.program.table ≡ setting.table
-  pub classes : (c : ℕ) → c < length setting.table.headings → (c < length problem.domains) × (class_type problem.program (domain_at problem c).class ≡ ClassType c)
-  pub arrays : AreArrays problem (length setting.table.headings) setting.arrays
+  pub objects : (name : List ℕ) (c d : ℕ) → object_number 0 setting.objects name c ≡ Some d → (d < length problem.domains) × (class_type problem.program (domain_at problem d).class ≡ ClassType c)
+  pub arrays : AreArrays problem (length setting.objects) setting.arrays
 
 module _ (problem : Problem) (setting : Setting) (has : HasDomains problem setting) where
   both : (t : JavaType) (xs ys : Domain) → IsDomainOf problem t xs → IsDomainOf problem t ys → IsDomainOf problem t (xs ++ ys)
@@ -119,22 +81,28 @@ module _ (problem : Problem) (setting : Setting) (has : HasDomains problem setti
   objects_of : (t u : JavaType) (d : ℕ) → d < length problem.domains → class_type problem.program (domain_at problem d).class ≡ u → is_subtype setting.table u t ≡ true → IsDomainOf problem t (Objects d ∷ [])
   objects_of t u d l c a = ((l, ap (λ (x : Table). is_subtype x (class_type problem.program (domain_at problem d).class) t) has.table ∙ (ap (λ (x : JavaType). is_subtype setting.table x t) c ∙ a)), tt)
 
-  arrays_of : (t u : JavaType) (d : ℕ) (bounds : List (JavaType × ArrayBound)) → AreArrays problem d bounds → is_subtype setting.table u t ≡ true → IsDomainOf problem t (array_domain d bounds u)
+  named_of : (t : JavaType) (name : List ℕ) (c : ℕ) → is_subtype setting.table (ClassType c) t ≡ true → IsDomainOf problem t (all_of (object_number 0 setting.objects name c))
+  named_of t name c a = go (object_number 0 setting.objects name c) refl
+    where
+      go : (o : Option ℕ) → object_number 0 setting.objects name c ≡ o → IsDomainOf problem t (all_of o)
+      go None e = tt
+      go (Some d) e = let h = has.objects name c d e in objects_of t (ClassType c) d h.0 h.1 a
+
+  arrays_of : (t u : JavaType) (d : ℕ) (bounds : List (JavaType × ArrayBound)) → AreArrays problem d bounds → is_subtype setting.table u t ≡ true → IsDomainOf problem t (all_of (bound_number d bounds u))
   arrays_of t u d [] h a = tt
   arrays_of t u d (x ∷ bounds) h a = go (is_same x.0 u) refl (arrays_of t u (d + 1) bounds h.1 a)
     where
-      go : (b : Bool) → is_same x.0 u ≡ b → IsDomainOf problem t (array_domain (d + 1) bounds u) → IsDomainOf problem t (cond b (Objects d ∷ []) (array_domain (d + 1) bounds u))
+      go : (b : Bool) → is_same x.0 u ≡ b → IsDomainOf problem t (all_of (bound_number (d + 1) bounds u)) → IsDomainOf problem t (all_of (cond b (Some d) (bound_number (d + 1) bounds u)))
       go true e r = objects_of t u d h.0.0 (h.0.1 ∙ same_type x.0 u e) a
       go false e r = r
 
-  meant_of : (t : JavaType) (m : Meant) → IsClassBelow setting.table.headings m → meant_fits setting.table t m ≡ true → IsDomainOf problem t (meant_values setting m)
-  unfolding IsClassBelow
-  meant_of t NoReference l e = (e, tt)
-  meant_of t (names.Objects c) l e = let h = has.classes c l in objects_of t (ClassType c) c h.0 h.1 e
-  meant_of t (names.Arrays u) l e = arrays_of t u (length setting.table.headings) setting.arrays has.arrays e
-  meant_of t Unknown l e = tt
+  meant_of : (t : JavaType) (name : List ℕ) (m : Meant) → meant_fits setting.table t m ≡ true → IsDomainOf problem t (meant_values setting name m)
+  meant_of t name NoReference e = (e, tt)
+  meant_of t name (names.Objects c) e = named_of t name c e
+  meant_of t name (names.Arrays u) e = arrays_of t u (length setting.objects) setting.arrays has.arrays e
+  meant_of t name Unknown e = tt
 
-  item_of : (t : JavaType) (item : FinItem) → fits setting.table t item ≡ true → IsSmall item → IsDomainOf problem t (item_values setting (width_for (Some t)) item)
+  item_of : (t : JavaType) (item : FinItem) → fits setting.table setting.document t item ≡ true → IsSmall item → IsDomainOf problem t (item_values setting (width_for (Some t)) item)
   unfolding width_for
   item_of t (Number z) e s = ((same_type t IntType e, is_int z s), tt)
   item_of t (Range from to) e s = go (le_z from to) refl e
@@ -143,20 +111,20 @@ module _ (problem : Problem) (setting : Setting) (has : HasDomains problem setti
       go true q e = integers_of t (integers from to) (same_type t IntType e) (range_ints from to (is_int from s.0) (is_int to s.1))
       go false q e = subst (λ (zs : List ℤ). IsDomainOf problem t (map (λ z. Plain (Int z)) zs)) (sym (none_between from to q)) tt
   item_of t (FinTruth b) e s = (same_type t BooleanType e, tt)
-  item_of t (Name n) e s = meant_of t (meant setting.table.headings n) (meant_below setting.table.headings n) e
+  item_of t (Name n) e s = meant_of t n (meant setting.table.headings setting.document n) e
 
-  all_fit : (t : JavaType) (items : List FinItem) → list_any (λ i. not (fits setting.table t i)) items ≡ false → AllByRecursion IsSmall items → IsDomainOf problem t (values_of setting (Some t) items)
+  all_fit : (t : JavaType) (items : List FinItem) → list_any (λ i. not (fits setting.table setting.document t i)) items ≡ false → AllByRecursion IsSmall items → IsDomainOf problem t (values_of setting (Some t) items)
   all_fit t [] e s = tt
-  all_fit t (i ∷ is) e s = go (fits setting.table t i) refl e (all_fit t is)
+  all_fit t (i ∷ is) e s = go (fits setting.table setting.document t i) refl e (all_fit t is)
     where
-      go : (b : Bool) → fits setting.table t i ≡ b → (not b || list_any (λ i. not (fits setting.table t i)) is) ≡ false → (list_any (λ i. not (fits setting.table t i)) is ≡ false → AllByRecursion IsSmall is → IsDomainOf problem t (values_of setting (Some t) is))
+      go : (b : Bool) → fits setting.table setting.document t i ≡ b → (not b || list_any (λ i. not (fits setting.table setting.document t i)) is) ≡ false → (list_any (λ i. not (fits setting.table setting.document t i)) is ≡ false → AllByRecursion IsSmall is → IsDomainOf problem t (values_of setting (Some t) is))
           → IsDomainOf problem t (item_values setting (width_for (Some t)) i ++ values_of setting (Some t) is)
       go true q e r = both t (item_values setting (width_for (Some t)) i) (values_of setting (Some t) is) (item_of t i q s.0) (r e s.1)
       go false q e r = absurd (cc (e))
 
-  -- what is given for a key, if anything is, is of the type that the key asks for
+  -- the value given for a key, if there is one, is of the type that the key requires
   pub given_of : (asked : List ℕ → Option JavaType) (domains : List NamedDomain) (key : List ℕ) (t : JavaType)
-      → ((items : List FinItem) → given domains key ≡ Some items → (asked key ≡ Some t) × (is_unfit setting.table (asked key) items ≡ false) × AllByRecursion IsSmall items) → IsDomainOf problem t (values_given setting asked domains key)
+      → ((items : List FinItem) → given domains key ≡ Some items → (asked key ≡ Some t) × (is_unfit setting.table setting.document (asked key) items ≡ false) × AllByRecursion IsSmall items) → IsDomainOf problem t (values_given setting asked domains key)
   given_of asked domains key t h = go (given domains key) refl
     where
       go : (o : Option (List FinItem)) → given domains key ≡ o → IsDomainOf problem t (values_of setting (asked key) (unwrap_or o []))
@@ -164,4 +132,4 @@ module _ (problem : Problem) (setting : Setting) (has : HasDomains problem setti
       go (Some items) e =
           let x = h items e in
           subst (λ (o : Option JavaType). IsDomainOf problem t (values_of setting o items)) (sym x.0)
-          (all_fit t items (subst (λ (o : Option JavaType). is_unfit setting.table o items ≡ false) x.0 x.1) x.2)
+          (all_fit t items (subst (λ (o : Option JavaType). is_unfit setting.table setting.document o items ≡ false) x.0 x.1) x.2)

@@ -1,4 +1,4 @@
--- The `\old`s in conditions: what they hold is unbroken and has a type, and none stands in another.
+-- The `\old`s in conditions: their operands are unbroken and have types, and none is in another.
 use Rattle.std.proofs.Common.{◌≡◌, ℕ, Bool, true, false, not, ◌&&◌, List, [], ◌++◌, Option, Some, None, refl, sym, ◌∙◌, subst}
 use Rattle.kr_base.specs.declared.place.Place.{Place}
 use Rattle.kr_ast.specs.declared.node.UnaryOperator.{UnaryOperator}
@@ -9,7 +9,7 @@ use Rattle.kr_classes_table.specs.Nodes.{nodes}
 use Rattle.kr_classes_table.specs.Types.{JavaType}
 use Rattle.kr_classes_table.specs.Rules.{Fault}
 use Rattle.kr_classes_table.specs.Table.{Heading, type_named}
-use Rattle.kr_types_meaning.specs.Scopes.{Scope, Role, AsValue, value, in_old, after, class_before}
+use Rattle.kr_types_meaning.specs.Scopes.{Scope, Role, AsValue, in_old, after, class_before}
 use Rattle.kr_types_meaning.specs.Rules.{Typed, Value, Variable, Values, Untyped, Fits, ask, old_rule, is_code, is_ensuring}
 use Rattle.kr_types_meaning.specs.Typing.{judge, on_one, field_of, method_of, operand, judged, type_in}
 use Rattle.kr_laws_shapes.specs.Expressions.{Shaped}
@@ -20,9 +20,10 @@ use Rattle.kr_mean.specs.Code.{Node, code}
 use Rattle.kr_laws_runs.proofs.Respects.{AllOf, all_front, all_back, all_both}
 use Rattle.kr_laws_safety.specs.Typed.{Olds}
 use Rattle.kr_laws_safety.specs.Claims.{is_target}
-use Rattle.kr_laws_safety.proofs.Glue.{front_none, back_none, below_none, kept, on_type}
+use Rattle.kr_laws_safety.proofs.Glue.{kept, on_type}
 use Rattle.kr_laws_never_stuck.proofs.Codes.{IsNumbered}
 use Rattle.kr_laws_never_stuck.proofs.Closed.{is_open, closed_target, Closed, IsNamed, closed}
+use Rattle.kr_laws_types.proofs.Typed.{front_none, back_none, below_none}
 
 -- expressions leave their scope
 pub shaped_after : (s : Scope) (e : Tree) → Shaped false e → after s e ≡ s
@@ -54,7 +55,7 @@ shaped_after s _ h = absurd h
 abbrev as_role : Role → Scope → Scope
 as_role r u = record u { is_in_loop = false; role = r }
 
--- what an `\old` holds, in the scope around it
+-- the operand of an `\old`, in the scope around it
 pub record OldGood (arrays : List JavaType) (s : Scope) (x : Tree) : Type 0 where
   pub unbroken : (judged (in_old s) x).faults ≡ []
   pub code : (olds : Olds) → IsCode arrays olds (Expression false) (plain (in_old s)) x
@@ -169,7 +170,7 @@ module _ (arrays : List JavaType) (hs : List Heading) where
     ensuring_code Expressions u _ q h a g k = absurd h
     ensuring_code _ u e q h a g k = absurd h
 
-  -- ---- what `\old`s hold
+  -- ---- operands of `\old`s
 
   class_code : (s v : Scope) (e : Tree) (c : ℕ) → class_before s e ≡ Some c → AllOf G (code v e)
   class_code s v (trees.Variable p n) c q = (tt, tt)

@@ -1,4 +1,4 @@
--- What the declarators and `\old`s of a tree weigh is no more than what the tokens weigh that spell it.
+-- The declarators and `\old`s of a tree weigh no more than the tokens that spell it.
 use Rattle.std.proofs.Common.{◌≡◌, ℕ, ◌+◌, ◌≤◌, List, [], ◌∷◌, ◌++◌, ap, arith}
 use Rattle.kr_base.specs.declared.place.Place.{Place}
 use Rattle.kr_lex.specs.Lexemes.{Lexeme}
@@ -58,7 +58,7 @@ module _ (declared : Place → List ℕ → ℕ) (held : Place → ℕ) where
   old_weighs : (a : Lexeme) → a.kind ≡ kinds.Old → token a ≡ held a.place
   old_weighs a e = ap (λ (k : Kind). of_kind k a) e
 
-  -- ---- what is derived
+  -- ---- derived trees
 
   modified : {i r : List Lexeme} {f : Modifiers} → Modified i f r → T r ≤ T i
   modified nothing = omega arith

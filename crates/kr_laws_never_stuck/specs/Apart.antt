@@ -13,17 +13,17 @@ abbrev pub one_if : Bool → ℕ
 one_if true = 1
 one_if false = 0
 
--- 1 for a place that is the one asked for
+-- 1 for a place that is this one
 abbrev pub one_at : Place → Place → ℕ
 one_at p q = one_if (is_at_place q p)
 
--- 1 for a declarator or an `\old` that stands there
+-- 1 for a declarator or an `\old` at this place
 abbrev pub node_at : Place → Tree → ℕ
 node_at p (trees.Declarator q n e) = one_at p q
 node_at p (trees.Old q e) = one_at p q
 node_at p t = 0
 
--- how many of them stand at a place
+-- how many of them are at a place
 abbrev pub nodes_at : Place → List Tree → ℕ
 nodes_at p [] = 0
 nodes_at p (t ∷ ts) = node_at p t + nodes_at p ts
@@ -40,7 +40,7 @@ abbrev pub fields_at : Place → List Field → ℕ
 fields_at p [] = 0
 fields_at p (f ∷ fs) = one_at p f.place + fields_at p fs
 
--- no two fields stand at one place, and none is named `*`, as a finitization names an array's elements
+-- no two fields are at one place, and none is named `*`, as a finitization names an array's elements
 pub record AreApart (table : Table) : Type 0 where
   pub places : (p : Place) → fields_at p (all_fields table) ≤ 1
   pub names : AllByRecursion (λ f. bytes_eq f.name (codes "*") ≡ false) (all_fields table)

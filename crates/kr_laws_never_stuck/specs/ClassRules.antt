@@ -15,7 +15,8 @@ pub record IsDeclared (program : Program) (c : ℕ) (n : List ℕ) (f : Field) :
   pub below : is_below program.table c f.class ≡ true
   pub instance : f.is_static ≡ false → HasField program c f.name f.type
 
--- the method k that objects of the class d run where m is called: it takes the same, and gives what may stand for what m gives
+-- the method k that objects of the class d run where m is called: it has the same parameters, and its result may replace that
+-- of m
 pub record IsOverrider (program : Program) (d : ℕ) (m k : Method) : Type 0 where
   pub found : overriding program m (Object d) ≡ Some k
   pub named : method_named program.table d m.name ≡ Some k
@@ -24,8 +25,8 @@ pub record IsOverrider (program : Program) (d : ℕ) (m k : Method) : Type 0 whe
   pub parameters : types_in k.parameters ≡ types_in m.parameters
   pub result : is_subtype program.table k.result m.result ≡ true
 
--- Ancestors of ancestors are ancestors, and lines of classes are whole. A field stands at one place of all objects that have it,
--- and a method is overridden by such as may stand for it.
+-- Ancestors of ancestors are ancestors, and lines of classes are whole. A field is at one place of all objects that have it,
+-- and a method is overridden only by methods that may replace it.
 pub record FollowsClassRules (program : Program) : Type 0 where
   pub below : (c d e : ℕ) → is_below program.table c d ≡ true → is_below program.table d e ≡ true → is_below program.table c e ≡ true
   pub lines : (c : ℕ) → IsLine program.table (line_of program.table c)

@@ -23,7 +23,7 @@ pub record HasContract (program : Program) (m : Method) : Type 0 where
   pub olds : AreOldNodes program (olds_of program m)
   pub ensures : AreConditions program (type_of_old (old_types (olds_of program m))) (ensures_of program m)
 
--- In files that the grammar may derive, that break no rule, and at most one of whose declarators and `\old`s stands at a place.
+-- In files that the grammar may derive, that break no rule, and at most one of whose declarators and `\old`s is at a place.
 abbrev pub ContractsLaw : Type 0
 ContractsLaw = (files : List Tree) (more : List JavaType) → AreFiles files → class_fault (table_of files) ≡ None → IsWellTyped files → ((p : Place) → nodes_at p (flat_map nodes files) ≤ 1)
     → IsTypedProgram (program_with (table_of files) (array_types_of files ++ more)) → (c : ℕ) (n : List ℕ) (m : Method) → method_named (table_of files) c n ≡ Some m → HasContract (program_with (table_of files) (array_types_of files ++ more)) m

@@ -19,7 +19,7 @@ use Rattle.kr_laws_safety.specs.Domains.{HaveDomainsTypes}
 use Rattle.kr_laws_safety.specs.Typed.{IsTypedProgram}
 use Rattle.kr_laws_safety.specs.Tested.{HasContracts, IsTestable}
 
--- No two fields of the program stand at one place: names of a text don't.
+-- No two fields of the program are at one place: names of a text aren't.
 abbrev pub AreApart : Table → Type 0
 AreApart table = (c d : ℕ) (f g : Field) → IsOneOf f (own_fields table c) → IsOneOf g (own_fields table d) → is_at_place f.place g.place ≡ true → f ≡ g
 
@@ -27,8 +27,8 @@ abbrev pub AreFiles : List Tree → Type 0
 AreFiles [] = Unit {0}
 AreFiles (file ∷ files) = AreClasses file × AreFiles files
 
--- In files that the grammar may derive, of which no class rule and no typing rule is broken; the array types behind those that
--- the files name are whichever.
+-- In files that the grammar may derive, of which no class rule and no typing rule is broken; the array types after those that
+-- the files name are arbitrary.
 abbrev pub WellTypedProgramsLaw : Type 0
 WellTypedProgramsLaw = (files : List Tree) (more : List JavaType) → AreFiles files → class_fault (table_of files) ≡ None → IsWellTyped files → AreApart (table_of files) → IsTypedProgram (program_with (table_of files) (array_types_of files ++ more))
 

@@ -1,5 +1,5 @@
 //! No run of an accepted program is stuck: what the class rules, the typing rules and the rules of a finitization give of whole
-//! programs, and that this is all that the laws on runs ask.
+//! programs, and that the laws on runs require no more.
 #![tactic(auto)]
 
 mod class_rules;

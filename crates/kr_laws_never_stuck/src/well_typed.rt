@@ -1,7 +1,7 @@
-// What the rules give of whole programs.
+// Laws of the rules of whole programs.
 ghost use Rattle.kr_laws_never_stuck.specs.WellTyped.{RunsLaw, WellTypedProgramsLaw};
 
-/// In files of the grammar's shape that break no class rule and no typing rule, and no two of whose fields stand at one place,
+/// In files of the grammar's shape that break no class rule and no typing rule, and no two of whose fields are at one place,
 /// each field, constant, method, constructor and initial value is as runs rely on.
 pub fn well_typed_programs_law()
     ensures { WellTypedProgramsLaw }

@@ -1,6 +1,6 @@
--- Comparisons of numbers: what the operators on constants say.
+-- Comparisons of numbers, as the operators on constants have them.
 use Rattle.std.proofs.Common.{◌≡◌, ℕ, ◌<◌, ◌≤◌, ◌⊎◌, inl, inr, Bool, true, false, refl, sym, ap, ◌∙◌, arith, subst}
-use Rattle.std.specs.Prelude.{ℤ, pos, negsuc, not, ◌&&◌, int_lt, int_le, nat_lt, ◌%◌, Ok}
+use Rattle.std.specs.Prelude.{ℤ, pos, negsuc, not, int_lt, int_le, nat_lt, ◌%◌, Ok}
 use Rattle.std.specs.Ordering.{int_eq}
 use Rattle.kr_ast.specs.declared.node.BinaryOperator.{BinaryOperator}
 use Rattle.kr_ast.specs.declared.node.BinaryOperator.TheVariants.{Less, LessOrEqual, Greater, GreaterOrEqual, Equal, NotEqual}
@@ -10,7 +10,7 @@ use Rattle.kr_classes_table.specs.Numbers.{Bits32, wrap}
 use Rattle.kr_mean.specs.Operators.{is_comparison, holds_of}
 use Rattle.std.proofs.Math.Dec.{leb}
 use Rattle.std.proofs.Math.Nat.{mod-eq_of_lt}
-use Rattle.std.proofs.lemmas.Bool.{cases_lt, lt-leb, le-leb, lt-ltb, le-ltb, leb-true}
+use Rattle.std.proofs.lemmas.Bool.{cases_lt, lt-leb, le-leb, lt-ltb, le-ltb, leb-true, and_parts}
 use Rattle.std.proofs.lemmas.Bool.Decides.{Decides-int_eq}
 
 not_above : (m n : ℕ) → leb m n ≡ not (nat_lt n m)
@@ -19,10 +19,6 @@ not_above m n = go (cases_lt n m)
     go : (n < m) ⊎ (m ≤ n) → leb m n ≡ not (nat_lt n m)
     go (inl h) = lt-leb m n h ∙ sym (ap not (lt-ltb n m h))
     go (inr h) = le-leb m n h ∙ sym (ap not (le-ltb n m h))
-
-and_parts : (a b : Bool) → (a && b) ≡ true → (a ≡ true) × (b ≡ true)
-and_parts true b e = (refl, e)
-and_parts false b e = absurd (cc (e))
 
 le_is : (a b : ℤ) → int_le a b ≡ not (int_lt b a)
 le_is (pos m) (pos n) = not_above m n

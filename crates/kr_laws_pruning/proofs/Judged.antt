@@ -59,7 +59,7 @@ Untouched problem f = (class : Class) (k : ℕ) → IsFinitized problem class �
 abbrev pub Unput : Problem → JavaType → Type 0
 Unput problem t = (class : Class) → IsFinitized problem class → is_array_of problem.program t class ≡ true → ⊥
 
--- what a node writes it touches
+-- a node touches the places that it writes
 touches : (program : Program) (s : Scope) (t : Tree) (class : Class) → writes_to program (written_by s t) class ≡ true → may_touch program s t class ≡ true
 touches program s (trees.ObjectCreation p t es) class h = absurd (no_target class h)
   where
@@ -188,7 +188,7 @@ module _ (problem : Problem) (w : IsWellFormed problem) (pure : IsPure problem) 
   abbrev pub AgreeOnPlace : SlotPlace → Type 0
   AgreeOnPlace p = AllOf (AgreeAt problem w name n v u) (slots_for problem p)
 
-  -- what is known holds what is known
+  -- known places hold known values
   pub record IsClosed : Type 0 where
     pub this : KnownValue N Known (value_at problem v 0)
     pub parameter : (i : ℕ) → i < parameters problem → KnownValue N Known (value_at problem v (i + 1))
@@ -198,7 +198,7 @@ module _ (problem : Problem) (w : IsWellFormed problem) (pure : IsPure problem) 
     abbrev AtObject : (ℕ → Type 0) → Type 0
     AtObject P = (d k : ℕ) → d < length problem.domains → k < count_at problem d → P (heap_number problem (object d k))
 
-    -- what holds of each object holds of each number
+    -- a property of each object is one of each number
     at_objects : (P : ℕ → Type 0) → AtObject P → (o : ℕ) → o < N → P o
     at_objects P f o h = let r = number_of_object problem o h in subst P (sym r.is) (f r.domain r.number r.domain_in r.number_in)
 
@@ -233,7 +233,7 @@ module _ (problem : Problem) (w : IsWellFormed problem) (pure : IsPure problem) 
     abbrev size_of : ℕ → ℕ → ℕ
     size_of d k = length (here (heap_number problem (object d k))).values
 
-    -- what holds of the objects of classes and of arrays
+    -- the objects of classes and of arrays
     by_class : (P : ℕ → Type 0) (spot : Spot) → ((d k c : ℕ) → d < length problem.domains → k < count_at problem d → class_at problem w d ≡ Object c → has_spot_of (Object c) (size_of d k) spot ≡ true → P (heap_number problem (object d k))) → ((d k t : ℕ) → d < length problem.domains → k < count_at problem d → class_at problem w d ≡ Array t → has_spot_of (Array t) (size_of d k) spot ≡ true → P (heap_number problem (object d k))) → (o : ℕ) → o < N → has_spot (here o) spot ≡ true → P o
     by_class P spot f g o h e = at_objects (λ o. has_spot (here o) spot ≡ true → P o) (λ d k a b e. go d k a b (class_at problem w d) refl (sym (ap (λ (c : Class). has_spot_of c (size_of d k) spot) (heap_class problem w v d k a b)) ∙ e)) o h e
       where

@@ -1,6 +1,5 @@
--- What keys tell, and that each least vector has its entry.
+-- Laws of keys; each least vector has its entry.
 use Rattle.std.proofs.Common.{◌≡◌, ℕ, List, [], ◌∷◌, ◌++◌, sym, ap, ◌∙◌, get_or}
-use Rattle.kr_mean.specs.Problem.{Problem}
 use Rattle.kr_mean.specs.Space.{space_of}
 use Rattle.kr_mean.specs.Readings.{Forks}
 use Rattle.kr_mean.specs.Runs.{order_of, key_along}

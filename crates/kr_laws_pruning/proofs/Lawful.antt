@@ -57,7 +57,7 @@ module _ (problem : Problem) (w : IsWellFormed problem) (pure : IsPure problem) 
         (reads_fork problem w pure name n v u iv KO closed K known_this known_parameter known_slot)
         (λ e. subst (λ (x : End). SlotForks move K (Agrees v u) SameEnd (accepted_walk problem v) (if is_accepted x then walk problem u else [])) (sym (ap (λ (x : End × ℕ). x.0) e)) (tails_fork (is_accepted (end_on problem v)) e)))
 
--- nothing is asked of what is known
+-- nothing is required of known places
 trivially_known : (n : ℕ) (x : Value) → KnownValue n (λ o. (o < n) × Unit {0}) x
 trivially_known n (Int i) = tt
 trivially_known n (Truth b) = tt
@@ -180,7 +180,7 @@ module _ (problem : Problem) (w : IsWellFormed problem) (pure : IsPure problem) 
       at : ℕ → ℕ → ℕ × Value
       at s x = (s, (get_or (choices_at problem s) x no_choice).value)
 
-  -- what an accepting run walks is in its order
+  -- the slots that an accepting run walks are in its order
   walk_ordered : (u : List ℕ) → end_on problem u ≡ True → (s : ℕ) → Has s (walk problem u) → Has s (order_of problem u)
   unfolding order_of
   walk_ordered u e s h =

@@ -2,6 +2,7 @@
 use Rattle.std.proofs.Common.{◌≡◌, ℕ, ◌+◌, ◌<◌, ◌⊎◌, inl, inr, List, [], ◌∷◌, refl, sym, ap, ◌∙◌, subst, arith, get_or, Bool, true, false}
 use Rattle.std.specs.Prelude.{map, filter, ◌==◌, ◌&&◌, ◌||◌, not}
 use Rattle.std.proofs.lemmas.Bool.Decides.{nat_tests}
+use Rattle.std.proofs.lemmas.Bool.{cases_Bool}
 use Rattle.kr_base.specs.declared.entry.Mark.{Mark}
 use Rattle.kr_base.specs.declared.entry.Entry.{Entry}
 use Rattle.kr_base.specs.Cuts.{Before, is_before}
@@ -14,7 +15,7 @@ use Rattle.kr_mean.specs.Isomorphism.{IsLeast}
 use Rattle.kr_mean.specs.Entries.{entry_of, IsListed, all_pass, vectors, renamings, name_in, renamed, key_by, is_least, is_settled}
 use Rattle.kr_laws_slots.proofs.CutOrder.{is_before_yes, is_before_no}
 use Rattle.kr_laws_pruning.proofs.Forks.{forks_equal}
-use Rattle.kr_laws_slots.proofs.Membership.{Has, bool_cases, has_map, has_map_from, has_filter, has_filter_from, has_range, range_has, fits_has, has_fits, fits_ranges, ranges_fit}
+use Rattle.kr_laws_slots.proofs.Membership.{Has, has_map, has_map_from, has_filter, has_filter_from, has_range, range_has, fits_has, has_fits, fits_ranges, ranges_fit}
 use Rattle.kr_laws_slots.proofs.Numbers.{lacks_number, has_not, no_lacks, has_number}
 use Rattle.kr_laws_pruning.proofs.Renamings.{row_of, names_have, names_same, names_rename}
 use Rattle.kr_iso.proofs.Least.{renamed_along, key_renamed}
@@ -31,7 +32,7 @@ vectors_are space v h =
 
 pass_at : {A : Type 0} (p : A → Bool) (xs : List A) (x : A) → all_pass p xs ≡ true → Has x xs → p x ≡ true
 pass_at p [] x t h = absurd h
-pass_at {A} p (y ∷ ys) x t h = go (bool_cases (p y)) (pass_at p ys x) h
+pass_at {A} p (y ∷ ys) x t h = go (cases_Bool (p y)) (pass_at p ys x) h
   where
     go : (p y ≡ true) ⊎ (p y ≡ false) → (all_pass p ys ≡ true → Has x ys → p x ≡ true) → (y ≡ x) ⊎ Has x ys → p x ≡ true
     go (inl e) r (inl q) = ap p (sym q) ∙ e
@@ -77,7 +78,7 @@ module _ (space : Space) {R : Type 0} (order : List ℕ → List ℕ) (mark : Li
       grind (arith, nat_tests)
 
   yes_settled : (v : List ℕ) → ((s : ℕ) → s < space.slots → Lacks (order v) s → get_or v s 0 ≡ 0) → is_settled space order v ≡ true
-  yes_settled v off = pass_all (λ x. contains_number (order v) x || (get_or v x 0 == 0)) (upto space.slots) (λ s h. go s (let r = (range_has 0 space.slots s h).1 in omega arith) (bool_cases (contains_number (order v) s)))
+  yes_settled v off = pass_all (λ x. contains_number (order v) x || (get_or v x 0 == 0)) (upto space.slots) (λ s h. go s (let r = (range_has 0 space.slots s h).1 in omega arith) (cases_Bool (contains_number (order v) s)))
     where
       go : (s : ℕ) → s < space.slots → (contains_number (order v) s ≡ true) ⊎ (contains_number (order v) s ≡ false) → contains_number (order v) s || (get_or v s 0 == 0) ≡ true
       go s h (inl e) = rw e refl

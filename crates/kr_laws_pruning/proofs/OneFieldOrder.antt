@@ -82,7 +82,7 @@ two_slots form = (omega arith, (omega arith, tt))
 apart : Differ (0 ∷ 1 ∷ [])
 apart = ((λ e. cc, tt), (tt, tt))
 
--- vectors that agree along the order are one, so that all that is said of them is the same
+-- vectors that agree along the order are one, so that every claim about one is about the other
 forks_spelled : {M : Type 0} (said : List ℕ → M) (i j : ℕ) → Forks (0 ∷ i ∷ []) (0 ∷ j ∷ []) (said (0 ∷ i ∷ []) ≡ said (0 ∷ j ∷ [])) (0 ∷ 1 ∷ []) (0 ∷ 1 ∷ [])
 forks_spelled said i j = (refl, λ e. (refl, λ same. ap (λ i. said (0 ∷ i ∷ [])) same))
 

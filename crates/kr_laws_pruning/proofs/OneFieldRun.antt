@@ -1,4 +1,4 @@
--- The run on a class of one `int` field: it reads the object and then its field, and says what the comparison says.
+-- The run on a class of one `int` field: it reads the object and then its field, and answers the comparison.
 use Rattle.std.proofs.Common.{◌≡◌, ℕ, ◌<◌, Bool, true, false, ℤ, pos, [], ◌∷◌, length, get_or, None, refl, ap, ◌∙◌}
 use Rattle.std.specs.Prelude.{List, ◌++◌, Result, Ok, Err, if◌then◌else◌}
 use Rattle.std.specs.Str.{bytes_eq}
@@ -28,7 +28,7 @@ use Rattle.kr_value.specs.declared.value.Value.{Value}
 use Rattle.kr_value.specs.declared.value.Value.TheVariants.{Int, Bool as Truth, Null, Ref as Reference}
 use Rattle.kr_laws_pruning.proofs.OneFieldSpace.{Form, problem_of, choice_of}
 
--- what the comparison says of a value
+-- the comparison of a value
 abbrev pub says : Form → Value → Bool
 says form v = holds_of form.test v (Int (pos form.number))
 
@@ -39,7 +39,7 @@ end_for b = if b then True else False
 found : (name : List ℕ) → bytes_eq name name ≡ true
 found name = (bytes_eq-Decides name name).1 refl
 
--- what a comparison answers: of two numbers what it says
+-- the answer of a comparison of two numbers
 abbrev answered : BinaryOperator → Value → Value → Result Value Stop
 answered test (Int a) (Int b) = Ok (Truth (holds_of test (Int a) (Int b)))
 answered test v w = operated test v w
@@ -69,13 +69,13 @@ looks_at_both _ e m n = absurd (cc (e))
 both_operands : (test : BinaryOperator) → is_comparison test ≡ true → (m n : Run Value) → binary test m n ≡ (m >>= (λ v. n >>= (λ w. say (answered test v w))))
 both_operands test e m n = looks_at_both test e m n ∙ ap (λ (f : Value → Value → Result Value Stop). m >>= (λ v. n >>= (λ w. say (f v w)))) (answers_all test e)
 
--- `this.repOk()` says what the comparison says, for six units, and reads the field
+-- `this.repOk()` answers the comparison, for six units, and reads the field
 rep_ok_is : (form : Form) (i : ℕ) (z : ℤ) → value_at (problem_of form) (0 ∷ i ∷ []) 1 ≡ Int z
     → value (problem_of form).program (class_scope (problem_of form).program 0) rep_ok (start (problem_of form) (0 ∷ i ∷ [])) ≡ record { said = Ok (Truth (says form (Int z))); after = record (start (problem_of form) (0 ∷ i ∷ [])) { fuel = form.spare }; reads = At 0 (Field 0) ∷ [] }
 unfolding table_of values_of judged heap_of bind eval exec value
 rep_ok_is form i z v = rw (both_operands form.test form.compares, found form.field_name, found form.field_name, v, small_is form.number form.small) refl
 
--- the run when a condition says so
+-- the run when a condition gives this
 run_for : State → Bool → Outcome Bool
 run_for s b = after_reads (This ∷ []) (go_on (Ok (Truth b)) s (At 0 (Field 0) ∷ []) (λ v. where_true v (give true)))
 
@@ -93,7 +93,7 @@ run_is : (form : Form) (i : ℕ) (z : ℤ) → value_at (problem_of form) (0 ∷
 unfolding bind run_for
 run_is form i z v = ap (λ (o : Outcome Value). after_reads (This ∷ []) (go_on o.said o.after o.reads (λ x. where_true x (give true)))) (rep_ok_is form i z v)
 
--- whatever the comparison says, the same places are read
+-- the comparison's result doesn't change the places read
 reads_by : (form : Form) (i : ℕ) (z : ℤ) → value_at (problem_of form) (0 ∷ i ∷ []) 1 ≡ Int z → read_slots (problem_of form) (0 ∷ i ∷ []) ≡ 0 ∷ 1 ∷ []
 unfolding read_slots
 reads_by form i z v = ap (λ (o : Outcome Bool). flat_map (slots_for (problem_of form)) o.reads) (run_is form i z v) ∙ ap (flat_map (slots_for (problem_of form))) (reads_for _ (says form (Int z)))

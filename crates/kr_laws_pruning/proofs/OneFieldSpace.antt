@@ -1,6 +1,6 @@
 -- Candidates of a class of one `int` field: an object with an index into the field's values. Other names for one object
 -- change nothing.
-use Rattle.std.proofs.Common.{◌≡◌, ℕ, zero, suc, ◌+◌, ◌-◌, ◌*◌, ◌<◌, ◌≤◌, true, ℤ, pos, List, [], ◌∷◌, length, map, get_or, Some, None, refl, sym, ap, ◌∙◌, subst, arith}
+use Rattle.std.proofs.Common.{◌≡◌, ℕ, zero, suc, ◌<◌, ◌≤◌, true, ℤ, pos, List, [], ◌∷◌, length, map, get_or, None, refl, sym, ap, ◌∙◌, subst, arith}
 use Rattle.kr_ast.specs.declared.node.BinaryOperator.{BinaryOperator}
 use Rattle.kr_mean.specs.Problem.{Problem, Choice, choices_in, slots, slot_at, domain_at}
 use Rattle.kr_mean.specs.Space.{Space, no_choice, space_of, IsVector, IsRenaming, IsRenamed}

@@ -3,7 +3,6 @@ use Rattle.std.proofs.Common.{◌≡◌, ℕ, zero, suc, ◌<◌, List, [], ◌�
 use Rattle.kr_mean.specs.Problem.{DomainObject}
 use Rattle.kr_mean.specs.Space.{Space, IsVector, IsRenaming, IsRenamed, IsRenamedSlot, renamed_owner}
 use Rattle.kr_mean.specs.Blocks.{IsSpace, IsMoved, on_slot}
-use Rattle.kr_mean.specs.Entries.{renamed}
 use Rattle.kr_iso.proofs.Moves.{lands, moves, one_target, same_back}
 use Rattle.kr_laws_slots.proofs.Renamed.{renamed_is_renamed}
 use Rattle.kr_laws_slots.proofs.Spaces.{is_space}

@@ -21,7 +21,7 @@ fits_replicate : (xs ys : List ℕ) → ((x : ℕ) → Has x xs → Has x ys) �
 fits_replicate [] ys h = tt
 fits_replicate (x ∷ xs) ys h = (h x (inl refl), fits_replicate xs ys (λ z q. h z (inr q)))
 
--- the numbers that a renaming gives stand among all renamings
+-- the numbers that a renaming gives are among all renamings
 pub names_have : (space : Space) (f : ℕ → ℕ → ℕ) → IsRenaming space f → Has (map (row_of f space.count) (upto space.domains)) (renamings space)
 names_have space f n = fits_has (map (row_of f space.count) (upto space.domains)) (map (λ c. permutations (space.count c)) (upto space.domains)) (fits_pointwise (row_of f space.count) (λ c. permutations (space.count c)) 0 space.domains (λ c. one c))
   where

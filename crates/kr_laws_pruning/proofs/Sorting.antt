@@ -1,10 +1,11 @@
--- Ascending lists of entries: what sorting gives, and that their entries tell them.
+-- Ascending lists of entries: the result of sorting, which its entries determine.
 use Rattle.std.proofs.Common.{◌≡◌, ℕ, ◌⊎◌, inl, inr, List, [], ◌∷◌, refl, sym, ap, ◌∙◌, subst, true, false}
+use Rattle.std.proofs.lemmas.Bool.{cases_Bool}
 use Rattle.kr_base.specs.declared.entry.Entry.{Entry}
 use Rattle.kr_base.specs.Cuts.{Before, is_before}
 use Rattle.kr_base.specs.Entries.{AllAfter, Ascends, IsAmong}
 use Rattle.kr_mean.specs.Entries.{insert, sorted}
-use Rattle.kr_laws_slots.proofs.Membership.{Has, bool_cases}
+use Rattle.kr_laws_slots.proofs.Membership.{Has}
 use Rattle.kr_laws_slots.proofs.CutOrder.{before_not_self, before_trans, connected, tested}
 
 pub among_after : {R : Type 0} (k : List ℕ) (e : Entry R) (es : List (Entry R)) → AllAfter k es → IsAmong e es → Before k e.key
@@ -65,7 +66,7 @@ ascends_sorted (e ∷ es) = ascends_insert e (sorted es) (ascends_sorted es)
 among_insert : {R : Type 0} (x e : Entry R) (es : List (Entry R)) → IsAmong x (insert e es) → (e ≡ x) ⊎ IsAmong x es
 among_insert x e [] (inl h) = inl h
 among_insert x e [] (inr h) = absurd h
-among_insert {R} x e (f ∷ es) h = go (bool_cases (is_before e.key f.key)) (bool_cases (is_before f.key e.key)) h (among_insert x e es)
+among_insert {R} x e (f ∷ es) h = go (cases_Bool (is_before e.key f.key)) (cases_Bool (is_before f.key e.key)) h (among_insert x e es)
   where
     pick : (e ≡ x) ⊎ ((f ≡ x) ⊎ IsAmong x es) → (e ≡ x) ⊎ IsAmong x (f ∷ es)
     pick h' = h'
@@ -85,7 +86,7 @@ among_sorted x (e ∷ es) h = elim (among_insert x e (sorted es) h) [ inl a ↦ 
 
 stays : {R : Type 0} (x e : Entry R) (es : List (Entry R)) → IsAmong x es → IsAmong x (insert e es)
 stays x e [] h = absurd h
-stays {R} x e (f ∷ es) h = go (bool_cases (is_before e.key f.key)) (bool_cases (is_before f.key e.key)) h (stays x e es)
+stays {R} x e (f ∷ es) h = go (cases_Bool (is_before e.key f.key)) (cases_Bool (is_before f.key e.key)) h (stays x e es)
   where
     deep : (f ≡ x) ⊎ IsAmong x es → (IsAmong x es → IsAmong x (insert e es)) → IsAmong x (f ∷ insert e es)
     deep (inl q) r = inl q

@@ -36,12 +36,9 @@ use Rattle.kr_laws_slots.proofs.SlotForks.{all_has}
 use Rattle.kr_laws_slots.proofs.Goes.{Forked, renamed_value, renamed_place, KnownValue, Knows, KnownPlace, Setting, Related, SlotLike, LocalLike, OldLike, ObjectLike, HeapLike, Like, SaidLike, Reaches, Meets, Goes, bind_goes, plain_like, value_goes, method_goes, MayStore, MayPut}
 use Rattle.kr_laws_slots.proofs.Reached.{IsMet, this_known, parameter_known, field_known, field_walked, root_walked}
 use Rattle.kr_laws_slots.proofs.Walked.{walked}
+use Rattle.kr_laws_runs.proofs.Bounds.{all_any}
 
-all_any : {A : Type 0} (xs : List A) → AllOf (λ x. Unit {0}) xs
-all_any [] = tt
-all_any (x ∷ xs) = (tt, all_any xs)
-
--- where all places agree, both runs come to their end
+-- where all places agree, both runs reach their end
 forked_end : (on : SlotPlace → SlotPlace) (K A : SlotPlace → Type 0) (X : Type 0) (ps qs : List SlotPlace) → ((p : SlotPlace) → A p) → Forked on K A X ps qs → X
 forked_end on K A X [] [] a f = f
 forked_end on K A X [] (q ∷ qs) a f = absurd f
@@ -58,7 +55,7 @@ module _ (problem : Problem) (w : IsWellFormed problem) (u v : List ℕ) (on_wal
   abbrev N : ℕ
   N = length (all_objects problem)
 
-  -- what is reachable in the first, and what a run makes
+  -- the places that are reachable in the first, and those that a run makes
   abbrev KnownHere : ℕ → Type 0
   KnownHere o = o < N → IsMet problem w u o
 
@@ -231,7 +228,7 @@ module _ (problem : Problem) (w : IsWellFormed problem) (u v : List ℕ) (on_wal
         ((method_goes problem.program setting (λ node. Unit {0}) any_code s.fuel x y xs ys (Some m) (all_any (code_of_method problem.program m), tt) r e).by s s' l);
   }
 
-  -- ---- what is said of them
+  -- ---- claims about them
 
   judged_same : {A : Type 0} (S : A → A → Type 0) (trap : Kind → Verdict) (o o' : Outcome A) (next next' : A → State → Verdict) → Meets problem.program setting S o o' → ((a b : A) (s s' : State) → S a b → Like problem.program setting s s' → next a s ≡ next' b s') → then_judged trap o next ≡ then_judged trap o' next'
   judged_same {A} S trap o o' next next' m f =

@@ -23,7 +23,7 @@ use Rattle.kr_value.specs.declared.object.Class.TheVariants.{Object}
 use Rattle.kr_value.specs.declared.object.Spot.TheVariants.{Field}
 use Rattle.kr_value.specs.declared.value.Value.TheVariants.{Int, Ref as Reference}
 
--- where the nodes of such a class stand
+-- the places of the nodes of such a class
 pub record Places : Type 0 where
   pub class : Place
   pub field : Place

@@ -1,4 +1,4 @@
-// What holds of the entries of every problem.
+// Laws of the entries of every problem.
 ghost use Rattle.kr_laws_pruning.specs.Laws.{RenamedLaw, PlainLaw, ClassLaw, LawfulLaw, KeysLaw, EntryLaw};
 ghost use Rattle.kr_laws_pruning.specs.OneField.{OneFieldLaw};
 

@@ -1,4 +1,4 @@
-//! What holds of the entries of every problem: the laws that Korat's pruning stands on.
+//! The laws of every problem's entries that Korat's pruning rests on.
 #![tactic(auto)]
 
 mod laws;

@@ -20,7 +20,7 @@ use Rattle.kr_mean.specs.declared.kind.Stop.TheVariants.{OutOfFuel, Stuck}
 use Rattle.kr_mean.specs.Program.{Program, default_of, spot_of_field, is_array_of}
 use Rattle.kr_mean.specs.Places.{SlotPlace}
 use Rattle.kr_mean.specs.Collections.{Collected, collected}
-use Rattle.kr_mean.specs.Steps.{Local, Old, State, Outcome, Run, say, give, stop, go_on, bind, given, ◌>>=◌, ◌>>◌, tick, tick_at, get_this, local_at, local_given, read_local, declare, assign_if, assign, get_result, old_at, get_old, entered, within, scoped, load_if, load, index_within, element_read, element_if, element, class_or_null, store_at, store, store_new_if, store_new, store_index, store_element_if, store_element, make, collect_as, collect}
+use Rattle.kr_mean.specs.Steps.{Local, State, Outcome, Run, say, stop, go_on, bind, given, ◌>>=◌, ◌>>◌, tick, tick_at, get_this, local_at, local_given, read_local, declare, assign_if, assign, get_result, old_at, get_old, entered, within, scoped, load_if, load, index_within, element_read, element_if, element, class_or_null, store_at, store, store_new_if, store_new, store_index, store_element_if, store_element, make, collect_as, collect}
 use Rattle.kr_mean.specs.Operators.{operated, operated_alone}
 use Rattle.kr_mean.specs.declared.flow.Flow.{Flow}
 use Rattle.kr_mean.specs.declared.flow.Flow.TheVariants.{Next, Broke, Continued, Left, Gave}
@@ -28,7 +28,7 @@ use Rattle.kr_mean.specs.Meaning.{Parts, Target, LocalTarget, OwnField, FieldOf,
 use Rattle.kr_mean.specs.Code.{Node, code, code_of_method, code_run}
 use Rattle.kr_mean.specs.Purity.{written_by}
 use Rattle.kr_laws_runs.specs.Laws.{Spends, round, HasEquations}
-use Rattle.kr_laws_runs.proofs.Respects.{Any, Same, Each, OnOption, OnFlow, AllOf, MayWrite, Logic, IsCode, PartsAlike, values, flows, declareds, then_rounds, runs_method}
+use Rattle.kr_laws_runs.proofs.Respects.{Any, Same, Each, OnFlow, AllOf, MayWrite, Logic, IsCode, PartsAlike, values, flows, then_rounds, runs_method}
 
 abbrev pub SaidSame : {A : Type 0} → (A → A → Type 0) → Result A Stop → Result A Stop → Type 0
 SaidSame S (Ok a) (Ok b) = S a b
@@ -61,7 +61,7 @@ bind_under j {A} {B} S T m m' f f' p q = record { by = λ s le. go s le (m s) (m
     go : (s : State) → s.fuel ≤ j → (o o' : Outcome A) → OneOutcome s.fuel S o o' → OneOutcome s.fuel T (go_on o.said o.after o.reads f) (go_on o'.said o'.after o'.reads f')
     go s le o o' x = subst (λ (t : State). OneOutcome s.fuel T (go_on o.said o.after o.reads f) (go_on o'.said t o'.reads f')) (sym x.after) (subst (λ (ps : List SlotPlace). OneOutcome s.fuel T (go_on o.said o.after o.reads f) (go_on o'.said o.after ps f')) (sym x.reads) (step s.fuel o.said o'.said o.after o.reads le x.said x.less))
 
-said_self : {A : Type 0} (S : A → A → Type 0) → ((a : A) → S a a) → (r : Result A Stop) → SaidSame S r r
+pub said_self : {A : Type 0} (S : A → A → Type 0) → ((a : A) → S a a) → (r : Result A Stop) → SaidSame S r r
 said_self S one (Ok a) = one a
 said_self S one (Err e) = refl
 
@@ -285,7 +285,7 @@ module _ (program : Program) (j : ℕ) where
 
 -- ---- a bound of at least the fuel cuts nothing off
 
--- what comes behind a unit has less fuel
+-- steps after a unit have less fuel
 unit_first : (j : ℕ) {A : Type 0} (S : A → A → Type 0) (m m' : Run A) → ((i : ℕ) → i < j → Under i S m m') → Under j S (tick >> m) (tick >> m')
 unfolding bind
 unit_first j {A} S m m' p = record { by = λ s le. go s le s.fuel refl }
@@ -329,11 +329,11 @@ flow_self Continued = tt
 flow_self Left = tt
 flow_self (Gave v) = refl
 
-all_any : {A : Type 0} (xs : List A) → AllOf (λ x. Unit {0}) xs
+pub all_any : {A : Type 0} (xs : List A) → AllOf (λ x. Unit {0}) xs
 all_any [] = tt
 all_any (x ∷ xs) = (tt, all_any xs)
 
-may_any : (t : Target) → MayWrite AnyField AnyType t
+pub may_any : (t : Target) → MayWrite AnyField AnyType t
 may_any (LocalTarget k) = tt
 may_any (OwnField f) = tt
 may_any (FieldOf e f) = tt

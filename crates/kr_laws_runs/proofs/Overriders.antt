@@ -11,12 +11,12 @@ use Rattle.kr_mean.specs.Program.{Program, overriding}
 use Rattle.kr_mean.specs.Code.{overriders}
 use Rattle.kr_mean.specs.Purity.{IsOneOf}
 
-one_front : {A : Type 0} (x : A) (xs ys : List A) → IsOneOf x xs → IsOneOf x (xs ++ ys)
+pub one_front : {A : Type 0} (x : A) (xs ys : List A) → IsOneOf x xs → IsOneOf x (xs ++ ys)
 one_front x [] ys h = absurd h
 one_front x (z ∷ xs) ys (inl e) = inl e
 one_front x (z ∷ xs) ys (inr h) = inr (one_front x xs ys h)
 
-one_back : {A : Type 0} (x : A) (xs ys : List A) → IsOneOf x ys → IsOneOf x (xs ++ ys)
+pub one_back : {A : Type 0} (x : A) (xs ys : List A) → IsOneOf x ys → IsOneOf x (xs ++ ys)
 one_back x [] ys h = h
 one_back x (z ∷ xs) ys h = inr (one_back x xs ys h)
 
@@ -33,7 +33,7 @@ no_class [] c h = refl
 no_class (d ∷ ds) zero h = absurd (omega (arith, h))
 no_class (d ∷ ds) (suc c) h = no_class ds c (omega (arith, h))
 
-no_line : (n : ℕ) (t : Table) → line_within n t None ≡ []
+pub no_line : (n : ℕ) (t : Table) → line_within n t None ≡ []
 no_line zero t = refl
 no_line (suc n) t = refl
 

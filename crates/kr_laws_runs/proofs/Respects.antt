@@ -26,7 +26,7 @@ use Rattle.kr_mean.specs.Steps.{Run, say, give, stop, given, not_null, ◌>>=◌
 use Rattle.kr_mean.specs.Operators.{operated, operated_alone, step_operator, gives_old}
 use Rattle.kr_mean.specs.declared.flow.Flow.{Flow}
 use Rattle.kr_mean.specs.declared.flow.Flow.TheVariants.{Next, Broke, Continued, Left, Gave}
-use Rattle.kr_mean.specs.Meaning.{Parts, Target, LocalTarget, OwnField, FieldOf, ElementOf, NoTarget, Change, then_on, then_round, then_update, returned, completed, choose, values_of, all, updates, condition, rounds, constant, read_name, access, typed_method, run_body, run_method, run_chosen, own_call, called, method_call, super_method, super_arguments, initialised, all_initialised, constructed_by, constructed, create, create_array, target_of, assigned, changed, change_to, compound, change_from, stepped, binary, cast, is_primitive, instance, value_of, initial_value, declared, all_declared, declaring_locals, flow_of, statement, spent, parts_within, eval, exec}
+use Rattle.kr_mean.specs.Meaning.{Parts, Target, LocalTarget, OwnField, FieldOf, ElementOf, NoTarget, Change, then_on, then_round, then_update, returned, completed, choose, values_of, all, updates, condition, rounds, constant, read_name, access, typed_method, run_body, run_method, run_chosen, own_call, called, method_call, super_method, super_arguments, initialised, all_initialised, constructed_by, constructed, create, create_array, target_of, assigned, changed, compound, change_from, stepped, binary, cast, is_primitive, instance, value_of, initial_value, declared, all_declared, declaring_locals, flow_of, statement, spent, parts_within, eval, exec}
 use Rattle.kr_mean.specs.Code.{Node, code, code_of_all, code_of_method, code_of_constructor, code_of_class, overriders, runnable, runnable_behind, methods_run, classes_run, code_run}
 use Rattle.kr_mean.specs.Purity.{IsOneOf, written_by}
 use Rattle.kr_laws_runs.proofs.Overriders.{overrider_in}
@@ -83,7 +83,7 @@ all_at P x [] h i = absurd i
 all_at P x (y ∷ ys) h (inl e) = subst P e h.0
 all_at P x (y ∷ ys) h (inr i) = all_at P x ys h.1 i
 
--- what may be written, by what is written
+-- the places that may be written
 abbrev pub MayWrite : (Field → Type 0) → (JavaType → Type 0) → Target → Type 0
 MayWrite MayStore MayPut (LocalTarget k) = Unit {0}
 MayWrite MayStore MayPut (OwnField f) = MayStore f
@@ -91,7 +91,7 @@ MayWrite MayStore MayPut (FieldOf e f) = MayStore f
 MayWrite MayStore MayPut (ElementOf a i t) = MayPut t
 MayWrite MayStore MayPut NoTarget = Unit {0}
 
--- What a relation between runs keeps: each step respects it. Fields and elements that may not be written are left out.
+-- A relation between runs that each step respects. Fields and elements that may not be written are left out.
 pub record Logic (program : Program) (MayStore : Field → Type 0) (MayPut : JavaType → Type 0) : Type 1 where
   pub R : Value → Value → Type 0
   pub Rel : {A : Type 0} → (A → A → Type 0) → Run A → Run A → Type 0
@@ -327,7 +327,7 @@ module _ (program : Program) (MayStore : Field → Type 0) (MayPut : JavaType �
         go None e = tt
         go (Some n) e = (all_at CodedMethod n (overriders program m) h (overrider_in program m class n e), tt)
 
-    -- what may be run of a method: by what it is
+    -- a method that may be run
     chosen_coded : (m : Method) → AllOf CodedMethod (runnable program (Some m)) → (o o' : Value) (vs ws : List Value) (class : Class) → l.R o o' → Each l.R vs ws → l.Rel l.R (run_chosen program p m o vs class) (run_chosen program p' m o' ws class)
     chosen_coded m h o o' vs ws class r s = go m.is_static h
       where

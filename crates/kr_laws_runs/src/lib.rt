@@ -1,5 +1,5 @@
-//! What all constructs of the language keep: a relation between runs that each step respects is respected by every tree. From
-//! it the equations of the meaning without a bound on nesting.
+//! Induction over all constructs of the language: a relation between runs that each step respects is respected by every tree.
+//! It gives the equations of the meaning without a bound on nesting.
 #![tactic(auto)]
 
 mod laws;

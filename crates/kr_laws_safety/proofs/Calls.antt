@@ -11,7 +11,7 @@ use Rattle.kr_classes_table.specs.Types.{JavaType, ClassType, is_void, is_known}
 use Rattle.kr_classes_table.specs.Table.{Table, Parameter, Method, items, method_named, is_subtype}
 use Rattle.kr_types_meaning.specs.Scopes.{Scope, Local, after}
 use Rattle.kr_types_meaning.specs.Rules as rules
-use Rattle.kr_types_meaning.specs.Rules.{Typed, Values, Untyped, Judgement, Fits, ask, takes, arguments_fit, is_statement}
+use Rattle.kr_types_meaning.specs.Rules.{Typed, Values, Untyped, Judgement, takes, arguments_fit}
 use Rattle.kr_types_meaning.specs.Typing.{on_list, joined, judged, type_in}
 use Rattle.kr_mean.specs.declared.kind.Kind.TheVariants.{NoReturn}
 use Rattle.kr_mean.specs.Program.{Program, overriding, method_scope, parameter_local}
@@ -30,19 +30,20 @@ use Rattle.kr_laws_types.proofs.Given.{variable_known}
 use Rattle.kr_laws_types.proofs.Expressions.{after_expression}
 use Rattle.kr_laws_safety.specs.Typed.{AreAllVariables, types_in, IsMethod, IsTypedProgram}
 use Rattle.kr_laws_safety.specs.Claims.{this_of, types_of, is_target, GivesAs, IsScope, Coded, LeadsOn, PartsSafe}
-use Rattle.kr_laws_safety.proofs.Targets.{variable_target, variable_not_void, void_is, widened, void_kept}
-use Rattle.kr_laws_safety.proofs.Glue.{Ruled, front_none, back_none, fits_inside, safe_next, safe_as_result}
+use Rattle.kr_laws_safety.proofs.Targets.{variable_target, variable_not_void}
+use Rattle.kr_laws_safety.proofs.Glue.{Ruled, safe_next, safe_as_result}
 use Rattle.kr_laws_safety.proofs.Classes.{IsSeenAs, class_below, safe_class}
 use Rattle.kr_laws_safety.proofs.Sequences.{after_all, sequence}
+use Rattle.kr_laws_types.proofs.Typed.{fits_same, front_none, back_none}
 
 -- ---- the types of arguments
 
 -- a rule of a list of arguments
 pub ruled_list : (f : List JavaType → Judgement) (x : Typed) (t : JavaType) → Ruled (on_list f x) t → (ts : List JavaType) × (x ≡ Values ts) × Ruled (f ts) t
 ruled_list f (Values ts) t r = (ts, refl, r)
-ruled_list f (rules.Value u) t r = absurd (cc (r.2, ap type_in (fits_inside Untyped r.0 r.1)))
-ruled_list f (rules.Variable u) t r = absurd (cc (r.2, ap type_in (fits_inside Untyped r.0 r.1)))
-ruled_list f Untyped t r = absurd (cc (r.2, ap type_in (fits_inside Untyped r.0 r.1)))
+ruled_list f (rules.Value u) t r = absurd (cc (r.2, ap type_in (fits_same Untyped r.0 r.1)))
+ruled_list f (rules.Variable u) t r = absurd (cc (r.2, ap type_in (fits_same Untyped r.0 r.1)))
+ruled_list f Untyped t r = absurd (cc (r.2, ap type_in (fits_same Untyped r.0 r.1)))
 
 values_inside : (ts us : List JavaType) → Values ts ≡ Values us → ts ≡ us
 values_inside ts us e = ap inside e
@@ -72,7 +73,7 @@ Fit table _ _ = ⊥
 pub arguments_are : (s : Scope) (ts : List JavaType) (ps : List Parameter) → AreAllVariables (types_in ps) → arguments_fit s ts ps ≡ true → Fit s.table ts (types_in ps)
 arguments_are s [] [] v e = tt
 arguments_are s (a ∷ more) (p ∷ ps) v e =
-    let h = Rattle.kr_laws_safety.proofs.Targets.and_true (takes s p.type a) (arguments_fit s more ps) e in
+    let h = Rattle.std.proofs.lemmas.Bool.and_parts (takes s p.type a) (arguments_fit s more ps) e in
     (taken (is_known p.type) (variable_known p.type v.0) h.0, arguments_are s more ps v.1 h.1)
   where
     taken : (b : Bool) → b ≡ true → (not b || is_subtype s.table a p.type) ≡ true → is_subtype s.table a p.type ≡ true

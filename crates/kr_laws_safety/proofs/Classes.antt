@@ -1,4 +1,4 @@
--- What is seen of an object's class, and what is done by it.
+-- The class of an object: how it is found, and how it is used.
 use Rattle.std.proofs.Common.{◌≡◌, ℕ, ◌<◌, Bool, true, false, List, length, get_or, Option, Some, None, refl, sym, ap, ◌∙◌, subst}
 use Rattle.std.specs.Prelude.{bytes_eq, codes, if◌then◌else◌}
 use Rattle.kr_value.specs.declared.value.Value.{Value}

@@ -36,7 +36,7 @@ module _ (program : Program) (fixed : Fixed) where
   IsGiven types u (Ok v) = IsOf program.table types u v
   IsGiven types u (Err k) = Unit {0}
 
-  -- what a call makes of members of a type
+  -- the members after a call, of members of a type
   record Makes (types : List JavaType) (t u : JavaType) (c : Option Collected) : Type 0 where
     collected_is : Collected
     is : c ≡ Some collected_is

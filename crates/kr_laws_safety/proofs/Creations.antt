@@ -1,6 +1,6 @@
 -- New objects: the constructors of their classes, and the initial values of fields.
 use Rattle.std.proofs.Common.{◌≡◌, ℕ, zero, suc, ◌<◌, ◌≤◌, Bool, true, false, List, [], ◌∷◌, ◌++◌, length, Option, Some, None, refl, sym, ap, ◌∙◌, arith, subst}
-use Rattle.std.specs.Prelude.{map, flat_map, option_to_list, if◌then◌else◌}
+use Rattle.std.specs.Prelude.{map, flat_map, option_to_list}
 use Rattle.std.proofs.lemmas.List.{length-map, append-nil, length-append}
 use Rattle.kr_base.specs.declared.place.Place.{Place}
 use Rattle.kr_ast.specs.Tree as trees
@@ -12,8 +12,8 @@ use Rattle.kr_classes_table.specs.Types.{JavaType, VoidType, ClassType}
 use Rattle.kr_classes_table.specs.Table.{Table, Field, Parameter, Constructor, items, super_of, line_of, ancestors, is_among, fields_of, constructor_parameters, is_below, is_subtype}
 use Rattle.kr_types_meaning.specs.Scopes.{Scope, after, super_parameters}
 use Rattle.kr_types_meaning.specs.Rules as rules
-use Rattle.kr_types_meaning.specs.Rules.{Typed, Values, Untyped, Judgement, Fits, ask, arguments_fit, super_constructor_rule}
-use Rattle.kr_types_meaning.specs.Typing.{judge, on_list, judged, type_in}
+use Rattle.kr_types_meaning.specs.Rules.{Typed, Values, Untyped, Fits, ask, arguments_fit, super_constructor_rule}
+use Rattle.kr_types_meaning.specs.Typing.{on_list, judged, type_in}
 use Rattle.kr_mean.specs.Program.{Program, default_of, class_scope, constructor_scope, constructor_of, declared_fields}
 use Rattle.kr_mean.specs.Steps.{Run, give, ◌>>=◌, ◌>>◌, tick, within, make, store_new}
 use Rattle.kr_mean.specs.declared.flow.Flow.{Flow}
@@ -29,9 +29,10 @@ use Rattle.kr_laws_types.proofs.Expressions.{after_expression}
 use Rattle.kr_laws_safety.specs.Typed.{AreAllVariables, types_in, CallsSuper, IsConstructor, IsConstructed, IsInitialised, AreInitialised, first_class, IsLine, IsTypedProgram}
 use Rattle.kr_laws_safety.specs.Claims.{this_of, types_of, GivesAs, IsScope, Coded, LeadsOn, PartsSafe}
 use Rattle.kr_laws_safety.proofs.Targets.{variable_target, variable_not_void, default_is}
-use Rattle.kr_laws_safety.proofs.Glue.{front_none, back_none, below_none, kept, safe_next, safe_keep, typed_at}
+use Rattle.kr_laws_safety.proofs.Glue.{kept, safe_next, safe_keep, typed_at}
 use Rattle.kr_laws_safety.proofs.Sequences.{after_all, sequence}
 use Rattle.kr_laws_safety.proofs.Calls.{Fit, variables_used, arguments_are, parameter_types, parameter_variables, Given, arguments}
+use Rattle.kr_laws_types.proofs.Typed.{front_none, back_none, below_none}
 
 -- ---- parts that may be absent
 
@@ -53,7 +54,7 @@ nil_is _ q = absurd (cc (q))
 
 -- ---- lines of classes
 
--- what the constructor of the nearest class takes
+-- the parameters of the nearest class's constructor
 abbrev pub taken_by : Table → List ℕ → List JavaType
 taken_by table [] = []
 taken_by table (c ∷ cs) = types_in (constructor_parameters table c)
@@ -207,7 +208,7 @@ module _ (program : Program) (fixed : Fixed) (facts : IsTypedProgram program) (p
   ended types this ls before locals Broke h = absurd (cc (h.1))
   ended types this ls before locals Continued h = absurd (cc (h.1))
 
-  -- what a line of constructors does with a new object
+  -- a line of constructors, on a new object
   abbrev pub Constructs : ℕ → ℕ → List ℕ → Type 0
   Constructs c o cs = (types : List JavaType) (this : Option ℕ) (ls : List JavaType) (vs : List Value) → IsNew types o c → AreOf program.table types (taken_by program.table cs) vs → Safe program fixed types this ls (constructed program p cs (Reference o) vs) (Keeps ls)
 

@@ -1,11 +1,10 @@
--- No run changes what `this` is: a call puts it back.
-use Rattle.std.proofs.Common.{◌≡◌, ℕ, zero, suc, Bool, true, false, List, [], ◌∷◌, length, Result, Ok, Err, Option, Some, None, refl, sym, ap, ◌∙◌, subst}
+-- No run changes `this`: a call restores it.
+use Rattle.std.proofs.Common.{◌≡◌, ℕ, zero, suc, Bool, true, false, List, length, Result, Ok, Err, Option, Some, None, refl, sym, ap, ◌∙◌, subst}
 use Rattle.std.specs.Prelude.{pos, negsuc, map, take, nat_eq, nat_lt, if◌then◌else◌}
 use Rattle.kr_base.specs.declared.place.Place.{Place}
 use Rattle.kr_ast.specs.Tree.{Tree}
 use Rattle.kr_value.specs.declared.value.Value.{Value}
 use Rattle.kr_value.specs.declared.value.Value.TheVariants.{Int, Bool as Truth, Null, Ref as Reference}
-use Rattle.kr_value.specs.declared.object.Class.{Class}
 use Rattle.kr_value.specs.declared.object.Spot.{Spot}
 use Rattle.kr_value.specs.declared.object.Spot.TheVariants.{Field as FieldSpot, Length}
 use Rattle.kr_value.specs.Heaps.{object_in, has_spot}
@@ -14,18 +13,18 @@ use Rattle.kr_classes_table.specs.Table.{Field}
 use Rattle.kr_classes_table.specs.Arrays.{array_number}
 use Rattle.kr_types_meaning.specs.Scopes.{Scope}
 use Rattle.kr_mean.specs.declared.kind.Stop.{Stop}
-use Rattle.kr_mean.specs.declared.kind.Stop.TheVariants.{OutOfFuel, Stuck}
+use Rattle.kr_mean.specs.declared.kind.Stop.TheVariants.{Stuck}
 use Rattle.kr_mean.specs.Program.{Program, spot_of_field, is_array_of}
 use Rattle.kr_mean.specs.Places.{SlotPlace}
 use Rattle.kr_mean.specs.Collections.{Collected, collected}
-use Rattle.kr_mean.specs.Steps.{Local, Old, State, Outcome, Run, say, give, stop, go_on, bind, given, ◌>>=◌, ◌>>◌, tick, tick_at, get_this, local_at, local_given, read_local, plain_local, declare, assign_if, assign, get_result, old_at, get_old, entered, within, scoped, load_if, load, index_within, element_read, element_if, element, class_or_null, store_at, store, store_new_if, store_new, store_index, store_element_if, store_element, make, collect_as, collect}
+use Rattle.kr_mean.specs.Steps.{Local, State, Outcome, Run, say, stop, go_on, bind, given, ◌>>=◌, ◌>>◌, tick, tick_at, get_this, local_at, local_given, read_local, plain_local, declare, assign_if, assign, get_result, old_at, get_old, entered, within, scoped, load_if, load, index_within, element_read, element_if, element, class_or_null, store_at, store, store_new_if, store_new, store_index, store_element_if, store_element, make, collect_as, collect}
 use Rattle.kr_mean.specs.Operators.{operated, operated_alone}
-use Rattle.kr_mean.specs.Meaning.{Target, LocalTarget, OwnField, FieldOf, ElementOf, NoTarget, choose, make_array, create_array, value}
+use Rattle.kr_mean.specs.Meaning.{choose, make_array, create_array, value}
 use Rattle.kr_mean.specs.Code.{code}
-use Rattle.kr_laws_runs.proofs.Respects.{Any, Same, Each, AllOf, MayWrite, Logic, IsCode, evals}
+use Rattle.kr_laws_runs.proofs.Respects.{Any, Same, Each, Logic, IsCode, evals}
 use Rattle.kr_mean.specs.Code.{code_run}
 use Rattle.kr_mean.specs.Purity.{written_by}
-use Rattle.kr_laws_runs.proofs.Bounds.{SaidSame, AnyField, AnyType, AnyNode}
+use Rattle.kr_laws_runs.proofs.Bounds.{SaidSame, AnyField, AnyType, AnyNode, may_any, all_any, each_same, said_self, same_option}
 
 abbrev pub KeepsThis : {A : Type 0} → Run A → Type 0
 KeepsThis m = (s : State) → (m s).after.this_value ≡ s.this_value
@@ -52,22 +51,9 @@ bind_framed {A} {B} S T m m' f f' p q = record { by = λ s. go s (m s) (m' s) (p
     go : (s : State) (o o' : Outcome A) → OneFrame s S o o' → OneFrame s T (go_on o.said o.after o.reads f) (go_on o'.said o'.after o'.reads f')
     go s o o' x = subst (λ (t : State). OneFrame s T (go_on o.said o.after o.reads f) (go_on o'.said t o'.reads f')) (sym x.after) (step s o.said o'.said o.after o.reads o'.reads x.said x.kept)
 
-said_self : {A : Type 0} (S : A → A → Type 0) → ((a : A) → S a a) → (r : Result A Stop) → SaidSame S r r
-said_self S one (Ok a) = one a
-said_self S one (Err e) = refl
-
 -- a step that leaves `this`, beside itself
 self : {A : Type 0} (S : A → A → Type 0) → ((a : A) → S a a) → (m : Run A) → KeepsThis m → Framed S m m
 self S one m kept = record { by = λ s. record { said = said_self S one (m s).said; after = refl; kept = kept s } }
-
-same_option : (x : Option Class) → Same x x
-same_option x = refl
-
-each_same : {A : Type 0} (xs ys : List A) → Each Same xs ys → ys ≡ xs
-each_same [] [] e = refl
-each_same [] (y ∷ ys) e = absurd e
-each_same (x ∷ xs) [] e = absurd e
-each_same (x ∷ xs) (y ∷ ys) e = ap (λ (z : _). z ∷ ys) e.0 ∙ ap (λ (l : List _). x ∷ l) (each_same xs ys e.1)
 
 -- ---- steps leave `this` as it is
 
@@ -266,17 +252,6 @@ frame_logic program = record {
   scopes = scopes;
 }
 
-all_any : {A : Type 0} (xs : List A) → AllOf (λ x. Unit {0}) xs
-all_any [] = tt
-all_any (x ∷ xs) = (tt, all_any xs)
-
-may_any : (t : Target) → MayWrite AnyField AnyType t
-may_any (LocalTarget k) = tt
-may_any (OwnField f) = tt
-may_any (FieldOf e f) = tt
-may_any (ElementOf a i t) = tt
-may_any NoTarget = tt
-
 any_code : (program : Program) → IsCode program AnyField AnyType AnyNode
 any_code program = record { runs = λ node h. all_any (code_run program node); writes = λ node h. may_any (written_by node.scope node.tree) }
 
@@ -294,7 +269,7 @@ keeps_then {A} {B} m f k l s = go (m s).said (m s).after (m s).reads (k s)
     go (Ok a) t ps e = l a t ∙ e
     go (Err x) t ps e = e
 
--- a body puts `this` back
+-- a body restores `this`
 pub within_keeps : {A : Type 0} (receiver : Value) (n : ℕ) (vs : List Value) (m : Run A) → KeepsThis (within receiver n vs m)
 within_keeps receiver n vs m s = go (nat_eq (length vs) n)
   where

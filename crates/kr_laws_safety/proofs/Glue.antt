@@ -1,16 +1,16 @@
--- How the steps of a construct are put together, and what its typing rule says of it.
-use Rattle.std.proofs.Common.{◌≡◌, ℕ, Bool, true, false, List, [], ◌∷◌, ◌++◌, Option, Some, None, refl, sym, ap, ◌∙◌, subst}
+-- The steps of a construct together, and its typing rule.
+use Rattle.std.proofs.Common.{◌≡◌, ℕ, Bool, true, false, List, [], ◌++◌, Option, Some, None, refl, sym, ap, ◌∙◌, subst}
 use Rattle.std.specs.Prelude.{if◌then◌else◌}
 use Rattle.kr_base.specs.declared.place.Place.{Place}
 use Rattle.kr_ast.specs.Tree.{Tree}
 use Rattle.kr_value.specs.declared.value.Value.{Value}
-use Rattle.kr_classes_table.specs.Types.{JavaType, IntType, BooleanType, VoidType, is_same, is_void}
+use Rattle.kr_classes_table.specs.Types.{JavaType, IntType, BooleanType}
 use Rattle.kr_classes_table.specs.Rules.{Fault}
 use Rattle.kr_classes_table.specs.Table.{Table, is_subtype}
 use Rattle.kr_types_meaning.specs.Scopes.{Scope}
 use Rattle.kr_types_meaning.specs.Rules as rules
 use Rattle.kr_types_meaning.specs.Promotion.{promoted_alone}
-use Rattle.kr_types_meaning.specs.Rules.{Typed, Values, Untyped, Judgement, Fits, Breaks, ask, is_int, is_boolean, is_statement, of_promoted}
+use Rattle.kr_types_meaning.specs.Rules.{Typed, Values, Untyped, Judgement, Fits, Breaks, ask, is_int, is_boolean, of_promoted}
 use Rattle.kr_types_meaning.specs.Typing.{Judged, judge, on_one, on_two, judged, type_in}
 use Rattle.kr_mean.specs.Program.{Program}
 use Rattle.kr_mean.specs.Steps.{Run, ◌>>=◌}
@@ -25,29 +25,14 @@ use Rattle.kr_laws_types.proofs.Expressions.{is_typed}
 use Rattle.kr_laws_safety.specs.Typed.{IsTypedProgram}
 use Rattle.kr_laws_safety.specs.Claims.{GivesAs, IsScope, Coded}
 use Rattle.kr_laws_safety.proofs.Targets.{IsOnward, widened, void_kept}
+use Rattle.kr_laws_types.proofs.Typed.{fits_same}
+use Rattle.kr_base.proofs.ListLemmas.{push_is_some}
 
 -- ---- rules
 
 -- a rule that is kept, of a node of a type
 abbrev pub Ruled : Judgement → JavaType → Type 0
 Ruled v t = (x : Typed) × (v ≡ Fits x) × (type_in x ≡ Some t)
-
-none_behind : {A : Type 0} (xs : List A) (y : A) → xs ++ y ∷ [] ≡ [] → ⊥
-none_behind [] y e = cc (e)
-none_behind (x ∷ xs) y e = cc (e)
-
-pub front_none : {A : Type 0} (xs ys : List A) → xs ++ ys ≡ [] → xs ≡ []
-front_none [] ys e = refl
-front_none (x ∷ xs) ys e = absurd (cc (e))
-
-pub back_none : {A : Type 0} (xs ys : List A) → xs ++ ys ≡ [] → ys ≡ []
-back_none [] ys e = e
-back_none (x ∷ xs) ys e = absurd (cc (e))
-
--- a node without broken nodes: neither its parts nor itself
-pub below_none : (p : Place) (v : Judgement) (below : List Fault) → (judge p v below).faults ≡ [] → below ≡ []
-below_none p (Fits x) below e = e
-below_none p (Breaks r) below e = absurd (none_behind below (record { place = p; rule = r }) e)
 
 pub ruled : (p : Place) (v : Judgement) (below : List Fault) (t : JavaType) → (judge p v below).faults ≡ [] → type_in (judge p v below).typed ≡ Some t → Ruled v t
 ruled p (Fits x) below t e f = (x, refl, f)
@@ -56,7 +41,7 @@ ruled p (Breaks r) below t e f = absurd (cc (f))
 -- a rule that gives no type is kept
 pub kept : (p : Place) (v : Judgement) (below : List Fault) → (judge p v below).faults ≡ [] → (x : Typed) × (v ≡ Fits x)
 kept p (Fits x) below e = (x, refl)
-kept p (Breaks r) below e = absurd (none_behind below (record { place = p; rule = r }) e)
+kept p (Breaks r) below e = absurd (push_is_some below (record { place = p; rule = r }) e)
 
 pub on_type : (f : JavaType → Judgement) (x : Typed) (t : JavaType) → type_in x ≡ Some t → on_one f x ≡ f t
 on_type f (rules.Value u) t e = ap (λ (z : Option JavaType). by z) e
@@ -86,13 +71,6 @@ pub ruled_ask : (b : Bool) (r : ℕ) (v : Judgement) (t : JavaType) → Ruled (a
 ruled_ask true r v t h = (refl, h)
 ruled_ask false r v t h = absurd (cc (h.1))
 
-pub fits_inside : (x y : Typed) → Fits x ≡ Fits y → x ≡ y
-fits_inside x y e = ap inside e
-  where
-    inside : Judgement → Typed
-    inside (Fits z) = z
-    inside (Breaks r) = x
-
 pub some_inside : (t u : JavaType) → Some t ≡ Some u → t ≡ u
 some_inside t u e = ap inside e
   where
@@ -104,31 +82,31 @@ pub same_types : (x : Option JavaType) (t u : JavaType) → x ≡ Some t → x �
 same_types x t u e f = some_inside t u (sym e ∙ f)
 
 pub ruled_value : (u t : JavaType) → Ruled (Fits (rules.Value u)) t → u ≡ t
-ruled_value u t r = some_inside u t (ap type_in (fits_inside (rules.Value u) r.0 r.1) ∙ r.2)
+ruled_value u t r = some_inside u t (ap type_in (fits_same (rules.Value u) r.0 r.1) ∙ r.2)
 
 pub ruled_variable : (u t : JavaType) → Ruled (Fits (rules.Variable u)) t → u ≡ t
-ruled_variable u t r = some_inside u t (ap type_in (fits_inside (rules.Variable u) r.0 r.1) ∙ r.2)
+ruled_variable u t r = some_inside u t (ap type_in (fits_same (rules.Variable u) r.0 r.1) ∙ r.2)
 
 pub ruled_gives : (u t : JavaType) → Ruled (rules.gives u) t → u ≡ t
 ruled_gives u t r = go (Rattle.kr_classes_table.specs.Types.is_known u) r
   where
     go : (b : Bool) → Ruled (Fits (if b then rules.Value u else Untyped)) t → u ≡ t
     go true r = ruled_value u t r
-    go false r = absurd (cc (r.2, ap type_in (fits_inside Untyped r.0 r.1)))
+    go false r = absurd (cc (r.2, ap type_in (fits_same Untyped r.0 r.1)))
 
 pub ruled_varies : (u t : JavaType) → Ruled (Fits (rules.variable_of u)) t → u ≡ t
 ruled_varies u t r = go (Rattle.kr_classes_table.specs.Types.is_known u) r
   where
     go : (b : Bool) → Ruled (Fits (if b then rules.Variable u else Untyped)) t → u ≡ t
     go true r = ruled_variable u t r
-    go false r = absurd (cc (r.2, ap type_in (fits_inside Untyped r.0 r.1)))
+    go false r = absurd (cc (r.2, ap type_in (fits_same Untyped r.0 r.1)))
 
 -- a rule that gives no variable gives a value
 pub ruled_plainly : (b : Bool) (v : Judgement) (t : JavaType) → Fine false b v → Ruled v t → v ≡ Fits (rules.Value t)
 ruled_plainly b (Fits (rules.Value u)) t h r = ap (λ (z : JavaType). Fits (rules.Value z)) (ruled_value u t r)
 ruled_plainly b (Fits (rules.Variable u)) t h r = absurd (cc (h.0))
 ruled_plainly b (Fits (Values ts)) t h r = absurd h
-ruled_plainly b (Fits Untyped) t h r = absurd (cc (r.2, ap type_in (fits_inside Untyped r.0 r.1)))
+ruled_plainly b (Fits Untyped) t h r = absurd (cc (r.2, ap type_in (fits_same Untyped r.0 r.1)))
 ruled_plainly b (Breaks n) t h r = absurd (cc (r.1))
 
 -- an operand that is promoted alone

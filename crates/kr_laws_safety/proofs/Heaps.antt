@@ -1,8 +1,8 @@
 -- Values, objects and heaps of types: what is looked up, changed and added.
-use Rattle.std.proofs.Common.{◌≡◌, ℕ, zero, suc, ◌<◌, Bool, true, false, List, [], ◌∷◌, ◌++◌, length, get_or, refl, sym, ap, ◌∙◌, arith}
-use Rattle.std.specs.Prelude.{map, slice_set, replicate, ◌&&◌, nat_eq, bytes_eq}
+use Rattle.std.proofs.Common.{◌≡◌, ℕ, zero, suc, ◌<◌, true, List, [], ◌∷◌, ◌++◌, length, get_or, refl, sym, ap, ◌∙◌, arith}
+use Rattle.std.specs.Prelude.{map, slice_set, replicate, bytes_eq}
 use Rattle.std.proofs.lemmas.List.{length-append, append_assoc}
-use Rattle.std.proofs.lemmas.Bool.{eqb-true}
+use Rattle.std.proofs.lemmas.Bool.{eqb-true, and_parts}
 use Rattle.std.proofs.lemmas.Slice.Eq.{bytes_eq-Decides}
 use Rattle.kr_value.specs.declared.value.Value.{Value}
 use Rattle.kr_value.specs.declared.value.Value.TheVariants.{Int, Bool as Truth, Null, Ref as Reference}
@@ -142,10 +142,6 @@ all_replicate table types t (suc n) v i = (i, all_replicate table types t n v i)
 
 -- ---- types
 
-both : (a b : Bool) → (a && b) ≡ true → (a ≡ true) × (b ≡ true)
-both true b e = (refl, e)
-both false b e = absurd (cc (e))
-
 pub same_type : (s t : JavaType) → is_same s t ≡ true → s ≡ t
 same_type IntType IntType e = refl
 same_type BooleanType BooleanType e = refl
@@ -156,6 +152,6 @@ same_type (ArrayType s) (ArrayType t) e = ap ArrayType (same_type s t e)
 same_type (SetType s) (SetType t) e = ap SetType (same_type s t e)
 same_type (ListType s) (ListType t) e = ap ListType (same_type s t e)
 same_type InferredType InferredType e = refl
-same_type (UnknownType o n) (UnknownType p m) e = let r = both (bytes_eq o p) (bytes_eq n m) e in ap (λ (x : List ℕ). UnknownType x n) ((bytes_eq-Decides o p).0 r.0) ∙ ap (λ (x : List ℕ). UnknownType p x) ((bytes_eq-Decides n m).0 r.1)
-same_type (AppliedType h s) (AppliedType g t) e = let r = both (is_same h g) (is_same s t) e in ap (λ (x : JavaType). AppliedType x s) (same_type h g r.0) ∙ ap (λ (x : JavaType). AppliedType g x) (same_type s t r.1)
+same_type (UnknownType o n) (UnknownType p m) e = let r = and_parts (bytes_eq o p) (bytes_eq n m) e in ap (λ (x : List ℕ). UnknownType x n) ((bytes_eq-Decides o p).0 r.0) ∙ ap (λ (x : List ℕ). UnknownType p x) ((bytes_eq-Decides n m).0 r.1)
+same_type (AppliedType h s) (AppliedType g t) e = let r = and_parts (is_same h g) (is_same s t) e in ap (λ (x : JavaType). AppliedType x s) (same_type h g r.0) ∙ ap (λ (x : JavaType). AppliedType g x) (same_type s t r.1)
 same_type _ _ e = absurd (cc (e))

@@ -2,12 +2,13 @@
 use Rattle.std.proofs.Common.{◌≡◌, ℕ, ◌⊎◌, inl, inr, Bool, true, false, List, [], ◌∷◌, Option, refl, sym, ap, ◌∙◌, subst}
 use Rattle.std.specs.Prelude.{◌&&◌, ◌||◌, not, bytes_eq, codes, if◌then◌else◌}
 use Rattle.std.proofs.lemmas.Slice.Eq.{bytes_eq-Decides}
+use Rattle.std.proofs.lemmas.Bool.{and_parts, or_cases}
 use Rattle.kr_value.specs.declared.value.Value.{Value}
 use Rattle.kr_classes_table.specs.Types.{JavaType, IntType, BooleanType, NullType, ClassType, ArrayType, SetType, ListType, InferredType, is_void, is_element, is_reference, is_collection}
 use Rattle.kr_classes_table.specs.Table.{is_subtype}
 use Rattle.kr_types_meaning.specs.Scopes.{Scope}
 use Rattle.kr_types_meaning.specs.Rules as rules
-use Rattle.kr_types_meaning.specs.Rules.{Judgement, Fits, ask, plain_call_rule, member_call_rule, collection_rule}
+use Rattle.kr_types_meaning.specs.Rules.{Fits, ask, plain_call_rule, member_call_rule, collection_rule}
 use Rattle.kr_mean.specs.Program.{Program}
 use Rattle.kr_mean.specs.Steps.{collect}
 use Rattle.kr_laws_safety.specs.Fits.{IsOf, AreOf}
@@ -18,7 +19,7 @@ use Rattle.kr_laws_safety.proofs.Collections.{safe_add, safe_contains, safe_remo
 use Rattle.kr_laws_types.specs.Types.{is_variable_type, is_value_type}
 use Rattle.kr_laws_types.proofs.Given.{AreValues}
 use Rattle.kr_laws_safety.specs.Claims.{is_target}
-use Rattle.kr_laws_safety.proofs.Targets.{and_true, or_true, variable_target, variable_not_void, used}
+use Rattle.kr_laws_safety.proofs.Targets.{variable_target, variable_not_void, used}
 use Rattle.kr_laws_safety.proofs.Glue.{Ruled, ruled_ask, ruled_value, settled}
 use Rattle.kr_laws_safety.proofs.Calls.{Fit, AreUsed}
 
@@ -47,7 +48,7 @@ members program Lists (ClassType c) h = record { of = ClassType c; target = refl
 members program Lists (ArrayType t) h = record { of = ArrayType t; target = h; given = refl; fits = type_same (ListType (ArrayType t)); element = refl; variable = h; own = λ q. refl }
 members program Lists _ h = absurd (cc (h))
 
--- what is added is of the members' type, so this is known
+-- an added value is of the members' type
 element_of : (program : Program) (k : Collection) (x e : JavaType) → is_value_type x ≡ true → is_value_type (type_with k e) ≡ true → is_subtype program.table x e ≡ true → is_element e ≡ true
 element_of program k x (ClassType c) vx ve h = refl
 element_of program k x (ArrayType t) vx ve h = refl
@@ -65,7 +66,7 @@ element_of program Sets x _ vx ve h = absurd (cc (ve))
 element_of program Lists x _ vx ve h = absurd (cc (ve))
 
 module _ (program : Program) (fixed : Fixed) where
-  -- what a call takes, and that it is safe on values of these types
+  -- the arguments of a call, which is safe on values of these types
   pub record Call (k : Collection) (e t w : JavaType) (n : List ℕ) (ts : List JavaType) : Type 0 where
     pub takes : List JavaType
     pub used_as : AreUsed takes
@@ -110,8 +111,8 @@ module _ (program : Program) (fixed : Fixed) where
       }
       go false x false y r =
           let a = ruled_ask (bytes_eq n (codes "removeFirst") && is_list k && is_element e) 25 (Fits (rules.Value e)) t r in
-          let b = and_true (bytes_eq n (codes "removeFirst") && is_list k) (is_element e) a.0 in
-          let c = and_true (bytes_eq n (codes "removeFirst")) (is_list k) b.0 in
+          let b = and_parts (bytes_eq n (codes "removeFirst") && is_list k) (is_element e) a.0 in
+          let c = and_parts (bytes_eq n (codes "removeFirst")) (is_list k) b.0 in
           record {
             takes = [];
             used_as = tt;
@@ -139,14 +140,14 @@ module _ (program : Program) (fixed : Fixed) where
           }
       go false q r =
           let a = ruled_ask ((bytes_eq n (codes "contains") || bytes_eq n (codes "remove")) && is_reference x && not (is_collection x)) 25 (Fits (rules.Value BooleanType)) t r in
-          let b = and_true ((bytes_eq n (codes "contains") || bytes_eq n (codes "remove")) && is_reference x) (not (is_collection x)) a.0 in
-          let c = and_true (bytes_eq n (codes "contains") || bytes_eq n (codes "remove")) (is_reference x) b.0 in
+          let b = and_parts ((bytes_eq n (codes "contains") || bytes_eq n (codes "remove")) && is_reference x) (not (is_collection x)) a.0 in
+          let c = and_parts (bytes_eq n (codes "contains") || bytes_eq n (codes "remove")) (is_reference x) b.0 in
           let u = used program.table x vx in
           record {
             takes = u.type ∷ [];
             used_as = ((u.target, u.given), tt);
             fit = (u.fits, tt);
-            safe = λ types this ls o vs i j. let v = one types u.type vs j in subst (λ (z : List Value). Run' n t types this ls o z) (sym v.1) (subst (λ (z : JavaType). Run' n z types this ls o (v.0 ∷ [])) (ruled_value BooleanType t a.1) (found (or_true (bytes_eq n (codes "contains")) (bytes_eq n (codes "remove")) c.0) types this ls o v.0 i));
+            safe = λ types this ls o vs i j. let v = one types u.type vs j in subst (λ (z : List Value). Run' n t types this ls o z) (sym v.1) (subst (λ (z : JavaType). Run' n z types this ls o (v.0 ∷ [])) (ruled_value BooleanType t a.1) (found (or_cases (bytes_eq n (codes "contains")) (bytes_eq n (codes "remove")) c.0) types this ls o v.0 i));
           }
 
   pub collection_call : (s : Scope) (k : Collection) (e t : JavaType) (n : List ℕ) (ts : List JavaType) (m : Members program k e) → AreValues ts → is_value_type (type_with k e) ≡ true → Ruled (collection_rule (settled program fixed s) (is_list k) e n ts) t → Call k e t m.of n ts

@@ -1,6 +1,7 @@
 -- Expressions whose parts are operands: literals, names, fields, elements, operators, casts and tests of classes.
 use Rattle.std.proofs.Common.{◌≡◌, ℕ, Bool, true, false, List, [], ◌∷◌, ◌++◌, Option, Some, None, refl, sym, ap, ◌∙◌, subst}
 use Rattle.std.specs.Prelude.{pos, ◌||◌, not, bytes_eq, codes, if◌then◌else◌, option_and_then}
+use Rattle.std.proofs.lemmas.Bool.{and_parts}
 use Rattle.kr_base.specs.declared.place.Place.{Place}
 use Rattle.kr_ast.specs.declared.node.UnaryOperator.{UnaryOperator}
 use Rattle.kr_ast.specs.declared.node.UnaryOperator.TheVariants as unaries
@@ -15,10 +16,10 @@ use Rattle.kr_classes_table.specs.Types.{JavaType, IntType, BooleanType, NullTyp
 use Rattle.kr_classes_table.specs.Table.{Field, class_or, class_named, applied, field_named, is_subtype}
 use Rattle.kr_classes_table.specs.Constants.{constant_only, constant_of, field_meant, known_value as constant_value}
 use Rattle.kr_classes_table.specs.Numbers.{Bits32, wrap}
-use Rattle.kr_types_meaning.specs.Scopes.{Scope, Meant, LocalName, FieldName, NoName, value, under_minus, in_old, written, meant, class_before}
+use Rattle.kr_types_meaning.specs.Scopes.{Scope, Meant, LocalName, FieldName, NoName, value, under_minus, written, meant, class_before}
 use Rattle.kr_types_meaning.specs.Rules as rules
 use Rattle.kr_types_meaning.specs.Promotion.{are_numbers}
-use Rattle.kr_types_meaning.specs.Rules.{Typed, Untyped, Judgement, Fits, Breaks, ask, gives, both_boolean, related_references, number_rule, this_rule, name_rule, unary_rule, operator_rule, choice_rule, cast_rule, instance_rule, field_rule, access_rule, constant_rule, element_rule, result_value_rule, old_rule}
+use Rattle.kr_types_meaning.specs.Rules.{Untyped, Fits, ask, gives, both_boolean, number_rule, this_rule, name_rule, unary_rule, operator_rule, field_rule, access_rule, constant_rule, element_rule}
 use Rattle.kr_types_meaning.specs.Typing.{judge, on_one, on_two, field_of, judged, type_in}
 use Rattle.kr_types_meaning.proofs.Types.{types_law}
 use Rattle.kr_mean.specs.Program.{Program}
@@ -39,10 +40,11 @@ use Rattle.kr_laws_types.proofs.Given.{operator_fine, unary_fine}
 use Rattle.kr_laws_types.proofs.Expressions.{written_shaped}
 use Rattle.kr_laws_safety.specs.Typed.{IsField, IsTypedProgram}
 use Rattle.kr_laws_safety.specs.Claims.{this_of, types_of, is_target, GivesAs, IsScope, Coded, PartsSafe}
-use Rattle.kr_laws_safety.proofs.Targets.{and_true, not_true, assignable_itself, Used, used}
-use Rattle.kr_laws_safety.proofs.Glue.{Ruled, ruled_alone, front_none, back_none, below_none, ruled, ruled_one, ruled_two, ruled_ask, same_types, ruled_value, ruled_variable, ruled_gives, ruled_varies, ruled_plainly, int_is, boolean_is, safe_next, safe_as, settled, typed_at, has_variables}
+use Rattle.kr_laws_safety.proofs.Targets.{not_true, assignable_itself, Used, used}
+use Rattle.kr_laws_safety.proofs.Glue.{Ruled, ruled_alone, ruled, ruled_one, ruled_two, ruled_ask, same_types, ruled_value, ruled_variable, ruled_gives, ruled_varies, ruled_plainly, int_is, boolean_is, safe_next, safe_as, settled, typed_at, has_variables}
 use Rattle.kr_laws_safety.proofs.Scoping.{meant_is, field_found, class_plain}
 use Rattle.kr_laws_safety.proofs.Classes.{safe_length_named}
+use Rattle.kr_laws_types.proofs.Typed.{front_none, back_none, below_none}
 
 -- two operands, where both are looked at
 both_operands : (o : BinaryOperator) (m n : Run Value) → is_junction o ≡ false → binary o m n ≡ (m >>= (λ v. n >>= (λ w. say (operated o v w))))
@@ -194,7 +196,7 @@ module _ (program : Program) (fixed : Fixed) (facts : IsTypedProgram program) (p
   abbrev here : Scope
   here = Rattle.kr_types_meaning.specs.Scopes.scope_of program.table program.values 0
 
-  -- what an object has by a name
+  -- the member of an object by a name
   loaded : (types : List JavaType) (this : Option ℕ) (ls : List JavaType) (n : List ℕ) (a t : JavaType) (v : Value) → Ruled (access_rule here n a) t → IsOf program.table types a v
       → Safe program fixed types this ls (load_field program n v) (Gives program ls t)
   loaded types this ls n (ClassType c) t v r i =
@@ -206,7 +208,7 @@ module _ (program : Program) (fixed : Fixed) (facts : IsTypedProgram program) (p
       subst (λ (x : JavaType). Safe program fixed types this ls (load_field program n v) (Gives program ls x)) (ruled_value IntType t h.1) (safe_length_named program fixed types this ls e n v h.0 i)
   loaded types this ls n _ t v r i = absurd (cc (r.1))
 
-  -- what is assigned to a type with fields is of it
+  -- a value assigned to a type with fields is of it
   accessed_is : (n : List ℕ) (a t : JavaType) → is_value_type a ≡ true → Ruled (access_rule here n a) t → (is_target a ≡ true) × (is_void a ≡ false)
   accessed_is n (ClassType c) t h r = (refl, refl)
   accessed_is n (ArrayType e) t h r = (h, refl)
@@ -309,8 +311,8 @@ module _ (program : Program) (fixed : Fixed) (facts : IsTypedProgram program) (p
 
   -- `&&` and `||`
   junction_is : (s : Scope) (o : BinaryOperator) (x y t : JavaType) → is_junction o ≡ true → Ruled (operator_rule s o x y) t → (x ≡ BooleanType) × (y ≡ BooleanType) × (BooleanType ≡ t)
-  junction_is s operators.And x y t j r = let h = ruled_ask (both_boolean x y) 12 (Fits (rules.Value BooleanType)) t r in let z = and_true (rules.is_boolean x) (rules.is_boolean y) h.0 in (boolean_is x z.0, boolean_is y z.1, ruled_value BooleanType t h.1)
-  junction_is s operators.Or x y t j r = let h = ruled_ask (both_boolean x y) 12 (Fits (rules.Value BooleanType)) t r in let z = and_true (rules.is_boolean x) (rules.is_boolean y) h.0 in (boolean_is x z.0, boolean_is y z.1, ruled_value BooleanType t h.1)
+  junction_is s operators.And x y t j r = let h = ruled_ask (both_boolean x y) 12 (Fits (rules.Value BooleanType)) t r in let z = and_parts (rules.is_boolean x) (rules.is_boolean y) h.0 in (boolean_is x z.0, boolean_is y z.1, ruled_value BooleanType t h.1)
+  junction_is s operators.Or x y t j r = let h = ruled_ask (both_boolean x y) 12 (Fits (rules.Value BooleanType)) t r in let z = and_parts (rules.is_boolean x) (rules.is_boolean y) h.0 in (boolean_is x z.0, boolean_is y z.1, ruled_value BooleanType t h.1)
   junction_is s _ x y t j r = absurd (cc (j))
 
   joined : (o : BinaryOperator) (types : List JavaType) (this : Option ℕ) (ls : List JavaType) (m n : Run Value) → is_junction o ≡ true → ((types : List JavaType) → Safe program fixed types this ls m (Gives program ls BooleanType)) → ((types : List JavaType) → Safe program fixed types this ls n (Gives program ls BooleanType)) → Safe program fixed types this ls (binary o m n) (Gives program ls BooleanType)

@@ -1,7 +1,7 @@
--- Operators on operands of the types that the typing rules ask, and new arrays.
+-- Operators on operands of the types that the typing rules require, and new arrays.
 use Rattle.std.proofs.Common.{◌≡◌, ℕ, suc, ◌+◌, ◌-◌, ◌≤◌, ◌⊎◌, inl, inr, Bool, true, false, List, [], ◌∷◌, get_or, Option, Some, None, Result, Ok, Err, refl, sym, ap, ◌∙◌, arith, subst}
 use Rattle.std.specs.Prelude.{ℤ, pos, negsuc, replicate, nat_lt, ◌&&◌, ◌||◌, if◌then◌else◌}
-use Rattle.std.proofs.lemmas.Bool.{ltb-true, ltb-false}
+use Rattle.std.proofs.lemmas.Bool.{ltb-true, ltb-false, and_parts, or_cases}
 use Rattle.std.proofs.lemmas.List.{length-replicate}
 use Rattle.kr_ast.specs.declared.node.BinaryOperator.{BinaryOperator}
 use Rattle.kr_ast.specs.declared.node.BinaryOperator.TheVariants.{Multiply, Divide, Remainder, Add, Subtract, ShiftLeft, ShiftRight, ShiftRightUnsigned, Less, Greater, LessOrEqual, GreaterOrEqual, Equal, NotEqual, BitAnd, BitXor, BitOr, And, Or}
@@ -46,7 +46,7 @@ whole_within Bits32 n = go (nat_lt n 2147483648) refl
     go true e = ltb-true n 2147483648 e
     go false e = omega (arith, ltb-false n 2147483648 e)
 
--- what an operator gives: a value of a type that needs no object, or a trap
+-- the result of an operator: a value of a type that needs no object, or a trap
 abbrev pub Good : JavaType → Result Value Stop → Type 0
 Good t (Ok v) = (table : Table) (types : List JavaType) → IsOf table types t v
 Good t (Err (Trapped k)) = Unit {0}
@@ -111,19 +111,11 @@ booleans_good BitXor x y = λ table types. refl
 booleans_good BitOr x y = λ table types. refl
 booleans_good _ x y = tt
 
--- ---- what the rules ask
+-- ---- requirements of the rules
 
 pub ask_holds : (b : Bool) (r : ℕ) (v : Judgement) (t : Typed) → ask b r v ≡ Fits t → (b ≡ true) × (v ≡ Fits t)
 ask_holds true r v t e = (refl, e)
 ask_holds false r v t e = absurd (cc (e))
-
-pub or_holds : (a b : Bool) → (a || b) ≡ true → (a ≡ true) ⊎ (b ≡ true)
-or_holds true b e = inl refl
-or_holds false b e = inr e
-
-and_holds : (a b : Bool) → (a && b) ≡ true → (a ≡ true) × (b ≡ true)
-and_holds true b e = (refl, e)
-and_holds false b e = absurd (cc (e))
 
 same_fits : (t u : JavaType) → Fits (rules.Value t) ≡ Fits (rules.Value u) → t ≡ u
 same_fits t u e = ap type_in e
@@ -139,7 +131,7 @@ pub data Use (o : BinaryOperator) (a b t : JavaType) : Type 0 where
   references : is_reference a ≡ true → is_reference b ≡ true → (o ≡ Equal) ⊎ (o ≡ NotEqual) → t ≡ BooleanType → Use o a b t
 
 both_booleans : (a b : JavaType) → both_boolean a b ≡ true → (a ≡ BooleanType) × (b ≡ BooleanType)
-both_booleans a b e = let r = and_holds (is_boolean a) (is_boolean b) e in (same_type a BooleanType r.0, same_type b BooleanType r.1)
+both_booleans a b e = let r = and_parts (is_boolean a) (is_boolean b) e in (same_type a BooleanType r.0, same_type b BooleanType r.1)
 
 only_ints : (s : Scope) (o : BinaryOperator) (a b t u : JavaType) (r : ℕ) → on_ints o ≡ Some u → ask (are_numbers a b) r (Fits (rules.Value u)) ≡ Fits (rules.Value t) → Use o a b t
 only_ints s o a b t u r q e =
@@ -180,17 +172,17 @@ bits o a b t q p e = go (both_boolean a b) refl e
 equals : (s : Scope) (o : BinaryOperator) (a b t : JavaType) → on_ints o ≡ Some BooleanType → on_booleans o ≡ true → (o ≡ Equal) ⊎ (o ≡ NotEqual) → ask (are_numbers a b || both_boolean a b || related_references s a b) 10 (Fits (rules.Value BooleanType)) ≡ Fits (rules.Value t) → Use o a b t
 equals s o a b t q p k e =
     let h = ask_holds (are_numbers a b || both_boolean a b || related_references s a b) 10 (Fits (rules.Value BooleanType)) (rules.Value t) e in
-    go (same_fits BooleanType t h.1) (or_holds (are_numbers a b || both_boolean a b) (related_references s a b) h.0)
+    go (same_fits BooleanType t h.1) (or_cases (are_numbers a b || both_boolean a b) (related_references s a b) h.0)
   where
     plain : BooleanType ≡ t → (are_numbers a b ≡ true) ⊎ (both_boolean a b ≡ true) → Use o a b t
     plain f (inl i) = let x = numbers_are a b i in ints x.0 x.1 (q ∙ ap (λ (y : JavaType). Some y) f)
     plain f (inr i) = let x = both_booleans a b i in booleans x.0 x.1 p (sym f)
 
     go : BooleanType ≡ t → ((are_numbers a b || both_boolean a b) ≡ true) ⊎ (related_references s a b ≡ true) → Use o a b t
-    go f (inl i) = plain f (or_holds (are_numbers a b) (both_boolean a b) i)
+    go f (inl i) = plain f (or_cases (are_numbers a b) (both_boolean a b) i)
     go f (inr i) =
-        let x = and_holds (is_reference a && is_reference b) (Rattle.kr_classes_table.specs.Table.are_related s.table a b) i in
-        let y = and_holds (is_reference a) (is_reference b) x.0 in
+        let x = and_parts (is_reference a && is_reference b) (Rattle.kr_classes_table.specs.Table.are_related s.table a b) i in
+        let y = and_parts (is_reference a) (is_reference b) x.0 in
         references y.0 y.1 k (sym f)
 
 pub used : (s : Scope) (o : BinaryOperator) (a b t : JavaType) → is_junction o ≡ false → operator_rule s o a b ≡ Fits (rules.Value t) → Use o a b t
@@ -246,7 +238,7 @@ module _ (program : Program) (fixed : Fixed) where
   reference_known types t (Int z) r i = absurd (cc (r, ap is_reference i.0))
   reference_known types t (Truth b) r i = absurd (cc (r, ap is_reference i))
 
-  -- a result that is good is said
+  -- a good result is a value
   pub said : (types : List JavaType) (this : Option ℕ) (ls : List JavaType) (t : JavaType) (r : Result Value Stop) (s : State) → IsStateOf program fixed types this ls s → Good t r → Fine program fixed types this ls (Gives program ls t) r s
   said types this ls t (Ok v) s h g = (types, ls, extends_self types, h, (refl, g program.table types), extends_self ls)
   said types this ls t (Err (Trapped k)) s h g = (types, ls, extends_self types, h, extends_self ls)

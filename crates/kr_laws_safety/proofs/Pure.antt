@@ -1,12 +1,13 @@
--- A predicate whose calls come to an end is pure where each of its nodes leaves what the finitization has alone: to be computed.
-use Rattle.std.proofs.Common.{◌≡◌, ℕ, zero, suc, ◌+◌, ◌-◌, ◌<◌, ◌≤◌, ◌⊎◌, inl, inr, Bool, true, false, List, [], ◌∷◌, ◌++◌, refl, sym, ap, ◌∙◌, arith, subst}
+-- A predicate whose calls end is pure where no node touches an object of the finitization: by computing.
+use Rattle.std.proofs.Common.{◌≡◌, ℕ, zero, suc, ◌+◌, ◌-◌, ◌<◌, ◌≤◌, ◌⊎◌, inl, inr, Bool, true, false, List, [], ◌∷◌, refl, sym, ap, ◌∙◌, arith, subst}
 use Rattle.std.specs.Prelude.{◌&&◌, not, flat_map}
-use Rattle.std.proofs.lemmas.Bool.{cases_lt}
+use Rattle.std.proofs.lemmas.Bool.{cases_lt, and_parts}
 use Rattle.kr_value.specs.declared.object.Class.{Class}
 use Rattle.kr_mean.specs.Program.{Program}
 use Rattle.kr_mean.specs.Problem.{Problem, ClassDomain}
 use Rattle.kr_mean.specs.Code.{Node, code_run}
 use Rattle.kr_mean.specs.Purity.{may_touch, IsOneOf, roots, IsPredicateCode, root, run, IsCounted, IsPure}
+use Rattle.kr_laws_runs.proofs.Overriders.{one_front, one_back}
 
 -- a node that touches nothing of these class domains
 abbrev pub leaves : Program → List ClassDomain → Node → Bool
@@ -17,7 +18,7 @@ abbrev pub all_leave : Program → List ClassDomain → List Node → Bool
 all_leave program ds [] = true
 all_leave program ds (n ∷ ns) = leaves program ds n && all_leave program ds ns
 
--- what is run n calls deep
+-- the code that is run n calls deep
 abbrev pub level : Problem → ℕ → List Node
 level problem zero = roots problem
 level problem (suc n) = flat_map (code_run problem.program) (level problem n)
@@ -27,30 +28,17 @@ abbrev pub levels_leave : Problem → ℕ → Bool
 levels_leave problem zero = true
 levels_leave problem (suc n) = all_leave problem.program problem.domains (level problem n) && levels_leave problem n
 
-both : (a b : Bool) → (a && b) ≡ true → (a ≡ true) × (b ≡ true)
-both true b e = (refl, e)
-both false b e = absurd (cc (e))
-
-one_front : {A : Type 0} (x : A) (xs ys : List A) → IsOneOf x xs → IsOneOf x (xs ++ ys)
-one_front x [] ys h = absurd h
-one_front x (z ∷ xs) ys (inl e) = inl e
-one_front x (z ∷ xs) ys (inr h) = inr (one_front x xs ys h)
-
-one_back : {A : Type 0} (x : A) (xs ys : List A) → IsOneOf x ys → IsOneOf x (xs ++ ys)
-one_back x [] ys h = h
-one_back x (z ∷ xs) ys h = inr (one_back x xs ys h)
-
 one_of_parts : {A B : Type 0} (f : A → List B) (x : A) (y : B) (xs : List A) → IsOneOf x xs → IsOneOf y (f x) → IsOneOf y (flat_map f xs)
 one_of_parts f x y [] h k = absurd h
 one_of_parts f x y (z ∷ xs) (inl e) k = one_front y (f z) (flat_map f xs) (subst (λ (w : _). IsOneOf y (f w)) (sym e) k)
 one_of_parts f x y (z ∷ xs) (inr h) k = one_back y (f z) (flat_map f xs) (one_of_parts f x y xs h k)
 
--- each node stands on a level
+-- each node is on a level
 on_level : (problem : Problem) (node : Node) → IsPredicateCode problem node → (n : ℕ) × IsOneOf node (level problem n)
 on_level problem node (root h) = (0, h)
 on_level problem node (run by h k) = let r = on_level problem by h in (suc r.0, one_of_parts (code_run problem.program) by node (level problem r.0) r.1 k)
 
--- behind an empty level all are empty
+-- after an empty level all are empty
 none_behind : (problem : Problem) (m k : ℕ) → level problem m ≡ [] → level problem (k + m) ≡ []
 none_behind problem m zero e = let q : zero + m ≡ m = omega arith in ap (level problem) q ∙ e
 none_behind problem m (suc k) e =
@@ -59,7 +47,7 @@ none_behind problem m (suc k) e =
 
 below_leave : (problem : Problem) (m n : ℕ) → levels_leave problem m ≡ true → n < m → all_leave problem.program problem.domains (level problem n) ≡ true
 below_leave problem zero n e lt = absurd (omega (arith, lt))
-below_leave problem (suc m) n e lt = go (both (all_leave problem.program problem.domains (level problem m)) (levels_leave problem m) e) (cases_lt n m) (λ f l. below_leave problem m n f l)
+below_leave problem (suc m) n e lt = go (and_parts (all_leave problem.program problem.domains (level problem m)) (levels_leave problem m) e) (cases_lt n m) (λ f l. below_leave problem m n f l)
   where
     go : (all_leave problem.program problem.domains (level problem m) ≡ true) × (levels_leave problem m ≡ true) → (n < m) ⊎ (m ≤ n) → (levels_leave problem m ≡ true → n < m → all_leave problem.program problem.domains (level problem n) ≡ true) → all_leave problem.program problem.domains (level problem n) ≡ true
     go r (inl l) f = f r.1 l
@@ -67,15 +55,15 @@ below_leave problem (suc m) n e lt = go (both (all_leave problem.program problem
 
 one_leaves : (program : Program) (ds : List ClassDomain) (node : Node) (ns : List Node) → all_leave program ds ns ≡ true → IsOneOf node ns → leaves program ds node ≡ true
 one_leaves program ds node [] e h = absurd h
-one_leaves program ds node (n ∷ ns) e (inl q) = ap (leaves program ds) (sym q) ∙ (both (leaves program ds n) (all_leave program ds ns) e).0
-one_leaves program ds node (n ∷ ns) e (inr h) = one_leaves program ds node ns (both (leaves program ds n) (all_leave program ds ns) e).1 h
+one_leaves program ds node (n ∷ ns) e (inl q) = ap (leaves program ds) (sym q) ∙ (and_parts (leaves program ds n) (all_leave program ds ns) e).0
+one_leaves program ds node (n ∷ ns) e (inr h) = one_leaves program ds node ns (and_parts (leaves program ds n) (all_leave program ds ns) e).1 h
 
 untouched : (program : Program) (ds : List ClassDomain) (node : Node) (d : ClassDomain) (class : Class) → leaves program ds node ≡ true → IsOneOf d ds → d.class ≡ class → may_touch program node.scope node.tree class ≡ true → ⊥
 untouched program [] node d class e h q t = h
 untouched program (x ∷ ds) node d class e (inl i) q t =
     let z : may_touch program node.scope node.tree x.class ≡ true = ap (λ (y : ClassDomain). may_touch program node.scope node.tree y.class) i ∙ (ap (λ (c : Class). may_touch program node.scope node.tree c) q ∙ t) in
-    absurd (cc (z, (both (not (may_touch program node.scope node.tree x.class)) (leaves program ds node) e).0))
-untouched program (x ∷ ds) node d class e (inr i) q t = untouched program ds node d class (both (not (may_touch program node.scope node.tree x.class)) (leaves program ds node) e).1 i q t
+    absurd (cc (z, (and_parts (not (may_touch program node.scope node.tree x.class)) (leaves program ds node) e).0))
+untouched program (x ∷ ds) node d class e (inr i) q t = untouched program ds node d class (and_parts (not (may_touch program node.scope node.tree x.class)) (leaves program ds node) e).1 i q t
 
 pub pure_by : (problem : Problem) (m : ℕ) → level problem m ≡ [] → levels_leave problem m ≡ true → IsPure problem
 pure_by problem m e leave node impure = go (on_level problem node impure.0) (cases_lt (on_level problem node impure.0).0 m)

@@ -14,12 +14,13 @@ use Rattle.kr_mean.specs.declared.kind.Stop.{Stop}
 use Rattle.kr_mean.specs.declared.kind.Stop.TheVariants.{Trapped, OutOfFuel, Stuck}
 use Rattle.kr_mean.specs.Program.{Program, class_scope, method_scope}
 use Rattle.kr_mean.specs.Places.{SlotPlace}
-use Rattle.kr_mean.specs.Problem.{Problem, DomainObject, all_objects, upto}
+use Rattle.kr_mean.specs.Problem.{Problem, all_objects, upto}
 use Rattle.kr_mean.specs.Heaps.{heap_of, value_at}
 use Rattle.kr_mean.specs.Steps.{State, Run, give, go_on, bind, ◌>>=◌, tick, get_this}
-use Rattle.kr_mean.specs.Meaning.{Parts, run_chosen, parts_within, eval, value, execute}
+use Rattle.kr_mean.specs.Meaning.{parts_within, eval, value, execute}
 use Rattle.kr_mean.specs.Code.{Node}
-use Rattle.kr_mean.specs.Runs.{nowhere, rep_ok, rep_ok_node, root_class, requires_of, conditions, where_true, hold_all, parameter_values, parameters_from, tested_method, start, outcome_of, IsStuck}
+use Rattle.kr_mean.specs.Runs.{rep_ok, rep_ok_node, root_class, requires_of, where_true, hold_all, parameter_values, parameters_from, tested_method, start, IsStuck}
+use Rattle.kr_base.specs.Places.{nowhere}
 use Rattle.kr_mean.specs.Space.{space_of, IsVector}
 use Rattle.kr_mean.specs.WellFormed.{IsWellFormed}
 use Rattle.kr_laws_safety.specs.Fits.{IsOf, AreOf}
@@ -161,7 +162,7 @@ parameters_plain : (i : ℕ) (vs : List Value) → values_in (parameters_from i 
 parameters_plain i [] = refl
 parameters_plain i (v ∷ vs) = ap (λ (ws : List Value). v ∷ ws) (parameters_plain (i + 1) vs)
 
--- what no run of a candidate changes
+-- parts of the state that no run of a candidate changes
 abbrev pub fixed_of : Problem → Fixed
 fixed_of problem = record { candidates = length (all_objects problem); result = None; olds = [] }
 

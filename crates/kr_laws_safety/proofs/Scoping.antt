@@ -1,4 +1,4 @@
--- What names mean: which local, which field, which method; and scopes behind code.
+-- The meaning of names: locals, fields and methods; and the scopes after code.
 use Rattle.std.proofs.Common.{◌≡◌, ℕ, zero, suc, Bool, true, false, List, [], ◌∷◌, ◌++◌, length, Option, Some, None, refl, sym, ap, ◌∙◌, arith}
 use Rattle.std.specs.Prelude.{bytes_eq, if◌then◌else◌, option_and_then}
 use Rattle.std.proofs.lemmas.List.{length-append}

@@ -21,11 +21,11 @@ use Rattle.kr_laws_types.specs.Expressions.{plain}
 use Rattle.kr_laws_types.proofs.Expressions.{written_variable}
 use Rattle.kr_laws_safety.specs.Typed.{AreUnbroken, IsTypedProgram}
 use Rattle.kr_laws_safety.specs.Claims.{this_of, types_of, IsScope, Coded, Leads, LeadsOn, PartsSafe}
-use Rattle.kr_laws_safety.proofs.Glue.{front_none, back_none}
 use Rattle.kr_laws_safety.proofs.Scoping.{after_plain, after_more}
 use Rattle.kr_laws_safety.proofs.Operands.{written_is}
+use Rattle.kr_laws_types.proofs.Typed.{front_none, back_none}
 
--- ---- scopes behind declarations
+-- ---- scopes after declarations
 
 -- where locals of a type are declared
 abbrev pub declares : JavaType → Scope → Scope
@@ -87,7 +87,7 @@ module _ (arrays : List JavaType) (olds : Place → Option JavaType) where
 
   -- ---- lists of statements
 
-  -- the scope behind statements in order
+  -- the scope after statements in order
   abbrev pub after_all : Scope → List Tree → Scope
   after_all s [] = s
   after_all s (t ∷ ts) = after_all (after s t) ts
@@ -130,7 +130,7 @@ module _ (program : Program) (fixed : Fixed) (facts : IsTypedProgram program) (p
   pub shifted_scope : (s u : Scope) → IsScope program fixed s → AreVariables u.locals → IsScope program fixed (shifted s u)
   shifted_scope s u k v = (k.0, k.1, v, k.3, k.4)
 
-  -- the scope behind a statement is one of the program
+  -- the scope after a statement is one of the program
   pub scope_after : (m : Bool) (s : Scope) (t : Tree) → IsScope program fixed s → Coded program fixed (Statement m) s t → (judged s t).faults ≡ [] → IsScope program fixed (after s t)
   scope_after m s t k h f =
       subst (IsScope program fixed) (sym (after_shifted program.arrays (type_of_old fixed.olds) m s (plain s) t h)) (shifted_scope s (after s t) k (after_variables program.arrays (type_of_old fixed.olds) m s (plain s) t h f k.2))

@@ -11,7 +11,7 @@ use Rattle.kr_classes_table.specs.Table.{Table, items, is_subtype}
 use Rattle.kr_classes_table.specs.Rules.{Fault}
 use Rattle.kr_types_meaning.specs.Scopes.{Scope, Locals, after, written, value, statement, in_loop, declaring, bind_local}
 use Rattle.kr_types_meaning.specs.Rules as rules
-use Rattle.kr_types_meaning.specs.Rules.{Typed, Values, Untyped, Judgement, Fits, Breaks, ask, fine, takes, initial_fits, is_statement, condition_rule, return_rule, jump_rule, declaration_rule}
+use Rattle.kr_types_meaning.specs.Rules.{Typed, Values, Untyped, Judgement, Fits, ask, fine, takes, initial_fits, is_statement, condition_rule, return_rule, jump_rule, declaration_rule}
 use Rattle.kr_types_meaning.specs.Typing.{judge, on_one, on_maybe, judged, type_in}
 use Rattle.kr_mean.specs.Program.{Program, default_of}
 use Rattle.kr_mean.specs.Steps.{Run, give, ◌>>=◌, ◌>>◌, tick, declare, assign, scoped}
@@ -28,13 +28,14 @@ use Rattle.kr_laws_types.proofs.Given.{variable_known, result_known}
 use Rattle.kr_laws_types.proofs.Expressions.{after_expression, written_variable}
 use Rattle.kr_laws_safety.specs.Typed.{IsTypedProgram}
 use Rattle.kr_laws_safety.specs.Claims.{this_of, types_of, GivesAs, IsScope, Coded, Leads, LeadsOn, ValuesSafe, StatementsSafe, LoopsSafe, PartsSafe}
-use Rattle.kr_laws_safety.proofs.Targets.{and_true, or_true, variable_target, variable_not_void, value_not_void, result_target, void_is, void_from, Used, used}
-use Rattle.kr_laws_safety.proofs.Glue.{front_none, back_none, below_none, kept, on_type, boolean_is, safe_next, safe_keep, typed_at}
+use Rattle.kr_laws_safety.proofs.Targets.{variable_target, variable_not_void, value_not_void, result_target, void_is, void_from, used}
+use Rattle.kr_laws_safety.proofs.Glue.{kept, on_type, boolean_is, safe_next, safe_keep, typed_at}
 use Rattle.kr_laws_safety.proofs.Scoping.{after_plain, after_statement, types_long, last_local}
 use Rattle.kr_laws_safety.proofs.Operands.{written_is}
 use Rattle.kr_laws_safety.proofs.Sequences.{declares, shifted, after_all, after_items, items_unbroken, all_more, all_shifted, all_variables, shifted_scope, sequence}
 use Rattle.kr_laws_safety.proofs.Creations.{is_nil, nil_is, present}
 use Rattle.kr_laws_safety.proofs.Values.{values_safe}
+use Rattle.kr_laws_types.proofs.Typed.{front_none, back_none, below_none}
 
 -- ---- parts that may be absent
 
@@ -101,7 +102,7 @@ lead_flows table r l ls us more ms (Gave v) x h = (subst (λ (z : List JavaType)
 module _ (program : Program) (fixed : Fixed) where
   -- ---- loops
 
-  -- behind a round
+  -- after a round
   then_rounds : (this : Option ℕ) (ls : List JavaType) (r : JavaType) (l : Bool) (m : Run Flow) → ((types : List JavaType) → Safe program fixed types this ls m (Leads program.table r l ls ls)) → (types ms : List JavaType) (flow : Flow) → Leads program.table r true ls ls types ms flow
       → Safe program fixed types this ms (then_round flow m) (Leads program.table r l ls ls)
   then_rounds this ls r l m s types ms Next h = subst (λ (z : List JavaType). Safe program fixed types this z m (Leads program.table r l ls ls)) (sym h) (s types)
@@ -291,7 +292,7 @@ module _ (program : Program) (fixed : Fixed) (facts : IsTypedProgram program) (p
       (λ more v x. subst (λ (z : Scope). Safe program fixed more (this_of s) (types_of s.locals) (updates p z (items b)) (Leads program.table s.result l (types_of s.locals) (types_of s.locals))) (sym there) (updated s b k h.1 fb more l))
   updated s _ k h f types l = absurd h
 
-  -- behind the body
+  -- after the body
   then_updates : (this : Option ℕ) (ls : List JavaType) (r : JavaType) (m : Run Flow) → ((types : List JavaType) → Safe program fixed types this ls m (Leads program.table r true ls ls)) → (types ms : List JavaType) (flow : Flow) → Leads program.table r true ls ls types ms flow
       → Safe program fixed types this ms (then_update flow m) (Leads program.table r true ls ls)
   then_updates this ls r m s types ms Next h = subst (λ (z : List JavaType). Safe program fixed types this z m (Leads program.table r true ls ls)) (sym h) (s types)
@@ -300,7 +301,7 @@ module _ (program : Program) (fixed : Fixed) (facts : IsTypedProgram program) (p
   then_updates this ls r m s types ms Left h = safe_give program fixed types this ms Left _ h
   then_updates this ls r m s types ms (Gave v) h = safe_give program fixed types this ms (Gave v) _ h
 
-  -- the loop, in the scope behind its initial statements
+  -- the loop, in the scope after its initial statements
   looped : (w : Scope) (pl : Place) (c u a : Tree) (before : List Fault) → IsScope program fixed w → is_statement w.role ≡ false → Coded program fixed (Expression true) w c → Coded program fixed Expressions w u → Coded program fixed (Statement false) w a
       → (judge pl (on_one condition_rule (judged w c).typed) ((judged w c).faults ++ (before ++ (judged (statement w) u).faults ++ (judged (in_loop w) a).faults))).faults ≡ [] → (types : List JavaType)
       → Safe program fixed types (this_of w) (types_of w.locals) (p.rounds (condition p (plain w) c) (p.exec (plain w) a >>= (λ leads. then_update leads (updates p (plain w) (items u))))) (Leads program.table w.result w.is_in_loop (types_of w.locals) (types_of w.locals))
@@ -315,7 +316,7 @@ module _ (program : Program) (fixed : Fixed) (facts : IsTypedProgram program) (p
       (λ others ms flow x l. then_updates (this_of w) (types_of w.locals) w.result (updates p (plain w) (items u)) (λ types. updated w u k hu fu types true) others ms flow l))
       types
 
-  -- behind the initial statements
+  -- after the initial statements
   started : (this : Option ℕ) (ls us : List JavaType) (r : JavaType) (l : Bool) (m : Run Flow) → Extends ls us → ((types : List JavaType) → Safe program fixed types this us m (Leads program.table r l us us)) → (types ms : List JavaType) (flow : Flow) → LeadsOn program.table r l ls us types ms flow
       → Safe program fixed types this ms (then_on flow m) (λ more after flow. Extends ls after × Flows program.table r l more flow)
   started this ls us r l m x s types ms Next h =

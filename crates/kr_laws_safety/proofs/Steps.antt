@@ -95,7 +95,7 @@ module _ (program : Program) (fixed : Fixed) where
   with_locals : (types : List JavaType) (this : Option ℕ) (ls ms : List JavaType) (s : State) (locals : List Local) → IsStateOf program fixed types this ls s → AreOf program.table types ms (values_in locals) → IsStateOf program fixed types this ms (record s { locals = locals })
   with_locals types this ls ms s locals h k = record { heap = h.heap; this_is = h.this_is; locals_are = k; result = h.result; olds = h.olds; candidates = h.candidates; enough = h.enough }
 
-  -- ---- how runs are put together
+  -- ---- composition of runs
 
   pub safe_give : (types : List JavaType) (this : Option ℕ) (ls : List JavaType) {A : Type 0} (a : A) (Q : List JavaType → List JavaType → A → Type 0) → Q types ls a → Safe program fixed types this ls (give a) Q
   safe_give types this ls a Q q = record { by = λ s h. (types, ls, extends_self types, h, q, extends_self ls) }
@@ -237,7 +237,7 @@ module _ (program : Program) (fixed : Fixed) where
           let state : IsStateOf program fixed types inner ps inside = record { heap = h.heap; this_is = i; locals_are = subst (λ (x : List Value). AreOf program.table types ps x) (sym (plain_values vs)) j; result = h.result; olds = h.olds; candidates = h.candidates; enough = h.enough } in
           subst (λ (b : Bool). Fine program fixed types this ls (λ more after a. (after ≡ ls) × Q more a) (entered b receiver vs body s).said (entered b receiver vs body s).after) (sym e) (back s h (body inside) (p.by inside state))
 
-  -- what is declared inside ends with it
+  -- locals declared inside end with it
   pub safe_scoped : (types : List JavaType) (this : Option ℕ) (ls : List JavaType) {A : Type 0} (m : Run A) (Q : List JavaType → A → Type 0) → Safe program fixed types this ls m (λ more after a. Extends ls after × Q more a) → Safe program fixed types this ls (scoped m) (λ more after a. (after ≡ ls) × Q more a)
   safe_scoped types this ls {A} m Q p = record { by = λ s h. go s h (m s).said (m s).after (p.by s h) }
     where
@@ -262,7 +262,7 @@ module _ (program : Program) (fixed : Fixed) where
       go s h (Err OutOfFuel) t f = tt
       go s h (Err Stuck) t f = f
 
-  -- ---- what is seen of a reference
+  -- ---- the class of a reference
 
   class_is : (types : List JavaType) (t u : JavaType) (x : HeapObject) → is_reference t ≡ true → is_subtype program.table u t ≡ true → IsObjectOf program types u x → IsClassOf program u x.class
   class_is types t (ClassType c) x r a h = h.0
@@ -278,7 +278,7 @@ module _ (program : Program) (fixed : Fixed) where
   safe_see types this ls t Null r i = record { by = λ s h. (types, ls, extends_self types, h, (refl, refl, refl), extends_self ls) }
   safe_see types this ls t (Reference o) r i = record { by = λ s h. (types, ls, extends_self types, h, (refl, refl, ((object_in s.heap o).class, refl, class_is types t (type_at types o) (object_in s.heap o) r i.1 (object_found program types types s.heap o h.heap i.0))), extends_self ls) }
 
-  -- the type of an object is the one that is asked for, or below it
+  -- the type of an object is the required one, or below it
   pub type_known : (types : List JavaType) (s : State) (o : ℕ) (t : JavaType) → IsHeapOf program types s.heap → IsOf program.table types t (Reference o) → Assigned program.table (type_at types o) t
   type_known types s o t h i = assigned program.table (type_at types o) t (object_type program types (type_at types o) (object_in s.heap o) (object_found program types types s.heap o h i.0)) i.1
 
@@ -460,7 +460,7 @@ module _ (program : Program) (fixed : Fixed) where
       go : (s : State) → IsStateOf program fixed types this ls s → nat_lt o s.candidates ≡ false → Fine program fixed types this ls (Keeps ls) (store_new program f (Reference o) x s).said (store_new program f (Reference o) x s).after
       go s h e = subst (λ (q : Bool). Fine program fixed types this ls (Keeps ls) (store_new_if q program f o x s).said (store_new_if q program f o x s).after) (sym e) ((safe_store types this ls f c (Reference o) x has b up i y).by s h)
 
-  -- ---- what a contract sees
+  -- ---- the values that a contract sees
 
   pub safe_result : (types : List JavaType) (this : Option ℕ) (ls : List JavaType) (t : JavaType) → fixed.result ≡ Some t → Safe program fixed types this ls get_result (Gives program ls t)
   safe_result types this ls t e = record { by = λ s h. go s h s.result (subst (λ (x : Option JavaType). IsResult program.table types x s.result) e h.result) }

@@ -1,12 +1,12 @@
 -- Types to which others are assignable, and the values of these.
-use Rattle.std.proofs.Common.{◌≡◌, ℕ, ◌⊎◌, inl, inr, Bool, true, false, List, [], ◌∷◌, length, get_or, Option, Some, None, refl, sym, ap, ◌∙◌, subst}
-use Rattle.std.specs.Prelude.{◌&&◌, ◌||◌, not}
+use Rattle.std.proofs.Common.{◌≡◌, ℕ, Bool, true, false, List, refl, sym, ap, subst}
+use Rattle.std.specs.Prelude.{not}
 use Rattle.kr_value.specs.declared.value.Value.{Value}
 use Rattle.kr_value.specs.declared.value.Value.TheVariants.{Int, Bool as Truth, Null, Ref as Reference}
 use Rattle.kr_classes_table.specs.Types.{JavaType, IntType, BooleanType, NullType, VoidType, ClassType, ArrayType, SetType, ListType, InferredType, is_void, is_reference}
 use Rattle.kr_classes_table.specs.Table.{Table, is_below, is_subtype}
 use Rattle.kr_mean.specs.Program.{default_of}
-use Rattle.kr_laws_safety.specs.Fits.{IsOf, AreOf, type_at}
+use Rattle.kr_laws_safety.specs.Fits.{IsOf, type_at}
 use Rattle.kr_laws_safety.proofs.Heaps.{same_type}
 use Rattle.kr_laws_safety.proofs.Vectors.{type_same}
 use Rattle.kr_laws_safety.proofs.Steps.{below_itself}
@@ -14,14 +14,6 @@ use Rattle.kr_laws_types.specs.Types.{is_variable_type, is_result_type, is_value
 use Rattle.kr_laws_safety.specs.Claims.{is_target}
 
 -- ---- kinds
-
-pub and_true : (a b : Bool) → (a && b) ≡ true → (a ≡ true) × (b ≡ true)
-and_true true b e = (refl, e)
-and_true false b e = absurd (cc (e))
-
-pub or_true : (a b : Bool) → (a || b) ≡ true → (a ≡ true) ⊎ (b ≡ true)
-or_true true b e = inl refl
-or_true false b e = inr e
 
 pub not_true : (a : Bool) → not a ≡ true → a ≡ false
 not_true false e = refl
@@ -137,12 +129,12 @@ module _ (table : Table) (onward : IsOnward table) where
   widened types t u Null e i = assignable_reference table t u i e
   widened types t u (Reference o) e i = (i.0, assignable_through (type_at types o) t u i.1 e)
 
-  -- what is assignable to a type of values is none without a value
+  -- a type that is assignable to a type of values has values
   pub void_kept : (t u : JavaType) → is_subtype table t u ≡ true → is_void u ≡ false → is_void t ≡ false
   void_kept VoidType u e f = absurd (cc (ap is_void (same_type VoidType u e), f))
   void_kept _ u e f = refl
 
--- ---- a type to use a value as, where nothing asks for one
+-- ---- a type to use a value as, where none is required
 
 pub record Used (table : Table) (t : JavaType) : Type 0 where
   pub type : JavaType

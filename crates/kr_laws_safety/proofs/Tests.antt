@@ -1,6 +1,7 @@
 -- Casts, tests of classes, `?:`, new arrays, and what postconditions see.
 use Rattle.std.proofs.Common.{◌≡◌, ◌⊎◌, inl, inr, Bool, true, false, [], ◌++◌, Some, refl, sym, ap, ◌∙◌, subst}
 use Rattle.std.specs.Prelude.{◌&&◌, ◌||◌, not, if◌then◌else◌}
+use Rattle.std.proofs.lemmas.Bool.{and_parts, or_cases}
 use Rattle.kr_base.specs.declared.place.Place.{Place}
 use Rattle.kr_ast.specs.Tree as trees
 use Rattle.kr_ast.specs.Tree.{Tree}
@@ -9,7 +10,7 @@ use Rattle.kr_classes_table.specs.Table.{is_subtype, are_related}
 use Rattle.kr_types_meaning.specs.Scopes.{Scope, value, in_old, written}
 use Rattle.kr_types_meaning.specs.Rules as rules
 use Rattle.kr_types_meaning.specs.Promotion.{are_numbers}
-use Rattle.kr_types_meaning.specs.Rules.{Typed, Untyped, Judgement, Fits, Breaks, ask, gives, both_boolean, related_references, is_ensuring, choice_rule, cast_rule, instance_rule, array_creation_rule, result_value_rule, old_rule}
+use Rattle.kr_types_meaning.specs.Rules.{Fits, gives, both_boolean, related_references, is_ensuring, choice_rule, cast_rule, instance_rule, array_creation_rule, result_value_rule, old_rule}
 use Rattle.kr_types_meaning.specs.Typing.{on_one, on_two, judged, type_in}
 use Rattle.kr_mean.specs.Program.{Program}
 use Rattle.kr_mean.specs.Steps.{give, ◌>>=◌, class_or_null}
@@ -24,30 +25,31 @@ use Rattle.kr_laws_types.specs.Expressions.{plain}
 use Rattle.kr_laws_types.proofs.Expressions.{written_variable}
 use Rattle.kr_laws_safety.specs.Typed.{IsTypedProgram}
 use Rattle.kr_laws_safety.specs.Claims.{this_of, types_of, is_target, IsScope, Coded, PartsSafe}
-use Rattle.kr_laws_safety.proofs.Targets.{and_true, or_true, not_true, default_is, assignable_through, used}
+use Rattle.kr_laws_safety.proofs.Targets.{not_true, default_is, assignable_through, used}
 use Rattle.kr_laws_safety.proofs.Promoted.{numbers_are}
-use Rattle.kr_laws_safety.proofs.Glue.{front_none, back_none, below_none, ruled, ruled_as, ruled_two, ruled_ask, ruled_value, ruled_gives, on_type, int_is, boolean_is, safe_next, safe_as, settled, typed_at}
+use Rattle.kr_laws_safety.proofs.Glue.{ruled, ruled_as, ruled_two, ruled_ask, ruled_value, ruled_gives, on_type, int_is, boolean_is, safe_next, safe_as, settled, typed_at}
 use Rattle.kr_laws_safety.proofs.Scoping.{type_plain}
 use Rattle.kr_laws_safety.proofs.Classes.{safe_cast, safe_instance}
 use Rattle.kr_laws_safety.proofs.Operands.{written_is, written_reference, primitive_plain, Goal, part_as, part_used}
+use Rattle.kr_laws_types.proofs.Typed.{front_none, back_none, below_none}
 
 module _ (program : Program) (fixed : Fixed) (facts : IsTypedProgram program) (p : Parts) (q : PartsSafe program fixed p) where
   -- ---- casts
 
   -- between primitive types a cast changes nothing
   primitive_is : (s : Scope) (to from : JavaType) → (are_numbers to from || both_boolean to from) ≡ true → (from ≡ to) × (is_target to ≡ true) × (is_void to ≡ false)
-  primitive_is s to from e = go (or_true (are_numbers to from) (both_boolean to from) e)
+  primitive_is s to from e = go (or_cases (are_numbers to from) (both_boolean to from) e)
     where
       go : (are_numbers to from ≡ true) ⊎ (both_boolean to from ≡ true) → (from ≡ to) × (is_target to ≡ true) × (is_void to ≡ false)
       go (inl i) = let h = numbers_are to from i in (h.1 ∙ sym h.0, ap is_target h.0, ap is_void h.0)
-      go (inr i) = let h = and_true (rules.is_boolean to) (rules.is_boolean from) i in (boolean_is from h.1 ∙ sym (boolean_is to h.0), ap is_target (boolean_is to h.0), ap is_void (boolean_is to h.0))
+      go (inr i) = let h = and_parts (rules.is_boolean to) (rules.is_boolean from) i in (boolean_is from h.1 ∙ sym (boolean_is to h.0), ap is_target (boolean_is to h.0), ap is_void (boolean_is to h.0))
 
   references_are : (s : Scope) (to from : JavaType) → (related_references s from to && not (is_collection to) && not (is_collection from)) ≡ true → (is_reference from ≡ true) × (is_reference to ≡ true)
   references_are s to from e =
-      let h = and_true (related_references s from to && not (is_collection to)) (not (is_collection from)) e in
-      let i = and_true (related_references s from to) (not (is_collection to)) h.0 in
-      let j = and_true (is_reference from && is_reference to) (are_related s.table from to) i.0 in
-      and_true (is_reference from) (is_reference to) j.0
+      let h = and_parts (related_references s from to && not (is_collection to)) (not (is_collection from)) e in
+      let i = and_parts (related_references s from to) (not (is_collection to)) h.0 in
+      let j = and_parts (is_reference from && is_reference to) (are_related s.table from to) i.0 in
+      and_parts (is_reference from) (is_reference to) j.0
 
   pub conversion : (s : Scope) (pl : Place) (w e : Tree) → IsScope program fixed s → IsWritten w → Coded program fixed (Expression false) s e → (judged s (trees.Cast pl w e)).faults ≡ [] → Goal program fixed facts p q s (trees.Cast pl w e)
   unfolding judged
@@ -59,7 +61,7 @@ module _ (program : Program) (fixed : Fixed) (facts : IsTypedProgram program) (p
       let rule = ruled_two pl (cast_rule s) (judged s w) (judged (value s) e) to.0 x.type t to.1 x.known f r in
       let asked = ruled_ask ((are_numbers to.0 x.type || both_boolean to.0 x.type) || (related_references s x.type to.0 && not (is_collection to.0) && not (is_collection x.type))) 20 (Fits (rules.Value to.0)) t rule in
       let is = ruled_value to.0 t asked.1 in
-      safe_as program fixed facts.below types (this_of s) (types_of s.locals) _ t u a (go to.0 (written_is s w to.0 i to.1) x.type x.known x.kind back is (or_true (are_numbers to.0 x.type || both_boolean to.0 x.type) _ asked.0) (is_primitive w) refl)
+      safe_as program fixed facts.below types (this_of s) (types_of s.locals) _ t u a (go to.0 (written_is s w to.0 i to.1) x.type x.known x.kind back is (or_cases (are_numbers to.0 x.type || both_boolean to.0 x.type) _ asked.0) (is_primitive w) refl)
     where
       Cast : Bool → Type 0
       Cast b = Safe program fixed types (this_of s) (types_of s.locals) (if b then p.value (plain s) e else (p.value (plain s) e >>= (λ v. class_or_null v >>= cast program (written s w) v))) (Gives program (types_of s.locals) t)
@@ -92,13 +94,13 @@ module _ (program : Program) (fixed : Fixed) (facts : IsTypedProgram program) (p
       let to = written_variable s w i (back_none (judged (value s) e).faults (judged s w).faults below) in
       let rule = ruled_two pl (instance_rule s) (judged (value s) e) (judged s w) x.type to.0 t x.known to.1 f r in
       let asked = ruled_ask (is_element to.0 && related_references s x.type to.0) 21 (Fits (rules.Value BooleanType)) t rule in
-      let related = (and_true (is_element to.0) (related_references s x.type to.0) asked.0).1 in
-      let both = (and_true (is_reference x.type && is_reference to.0) (are_related s.table x.type to.0) related).0 in
+      let related = (and_parts (is_element to.0) (related_references s x.type to.0) asked.0).1 in
+      let both = (and_parts (is_reference x.type && is_reference to.0) (are_related s.table x.type to.0) related).0 in
       let ux = used program.table x.type x.kind in
       safe_as program fixed facts.below types (this_of s) (types_of s.locals) _ t u a
       (subst (λ (n : JavaType). Safe program fixed types (this_of s) (types_of s.locals) (p.value (plain s) e >>= (λ v. class_or_null v >>= (λ class. give (instance program (written s w) class)))) (Gives program (types_of s.locals) n)) (ruled_value BooleanType t asked.1)
       (safe_next program fixed types (this_of s) (types_of s.locals) (p.value (plain s) e) _ _ _ (part_used program fixed facts p q (value s) e k h front types x.type x.known ux)
-      (λ more v m j. safe_instance program fixed more (this_of s) (types_of s.locals) ux.type (written s w) v (ux.reference (and_true (is_reference x.type) (is_reference to.0) both).0) j)))
+      (λ more v m j. safe_instance program fixed more (this_of s) (types_of s.locals) ux.type (written s w) v (ux.reference (and_parts (is_reference x.type) (is_reference to.0) both).0) j)))
 
   -- ---- choices
 
@@ -121,7 +123,7 @@ module _ (program : Program) (fixed : Fixed) (facts : IsTypedProgram program) (p
       let z = typed_at program fixed facts (value S) d k hd fd in
       let rule = ruled_as v (choice_rule S x.type y.type z.type) t (on_type (λ n. on_two (choice_rule S n) jb.typed jd.typed) jc.typed x.type x.known ∙ (on_type (λ n. on_one (choice_rule S x.type n) jd.typed) jb.typed y.type y.known ∙ on_type (choice_rule S x.type y.type) jd.typed z.type z.known)) (ruled pl v (jc.faults ++ jb.faults ++ jd.faults) t f r) in
       let asked = ruled_ask (rules.is_boolean x.type && are_related program.table y.type z.type) 15 (Fits (rules.Value (if is_subtype program.table y.type z.type then z.type else y.type))) t rule in
-      let both = and_true (rules.is_boolean x.type) (are_related program.table y.type z.type) asked.0 in
+      let both = and_parts (rules.is_boolean x.type) (are_related program.table y.type z.type) asked.0 in
       let arms = go y.type z.type (is_subtype program.table y.type z.type) refl (ruled_value (if is_subtype program.table y.type z.type then z.type else y.type) t asked.1) both.1 in
       safe_next program fixed types (this_of s) (types_of s.locals) (p.value (plain S) c) _ _ _ (part_as program fixed facts p q (value S) c k hc fc types BooleanType (x.known ∙ ap (λ (n : JavaType). Some n) (boolean_is x.type both.0)) refl refl)
       (λ more v m i. safe_choose program fixed more (this_of s) (types_of s.locals) v (p.value (plain S) b) (p.value (plain S) d) _ i (q.value (value S) b k hb fb more y.type u y.known g arms.0) (q.value (value S) d k hd fd more z.type u z.known g arms.1))
@@ -154,8 +156,8 @@ module _ (program : Program) (fixed : Fixed) (facts : IsTypedProgram program) (p
   unfolding judged
   result s pl k f types t u r g a =
       let asked = ruled_ask (is_ensuring s.part && not (is_void s.result) && not s.is_in_old) 38 (gives s.result) t (ruled pl (result_value_rule s) [] t f r) in
-      let both = and_true (is_ensuring s.part && not (is_void s.result)) (not s.is_in_old) asked.0 in
-      let each = and_true (is_ensuring s.part) (not (is_void s.result)) both.0 in
+      let both = and_parts (is_ensuring s.part && not (is_void s.result)) (not s.is_in_old) asked.0 in
+      let each = and_parts (is_ensuring s.part) (not (is_void s.result)) both.0 in
       safe_as program fixed facts.below types (this_of s) (types_of s.locals) _ t u a (safe_result program fixed types (this_of s) (types_of s.locals) t (k.4 each.0 (not_true s.is_in_old both.1) (not_true (is_void s.result) each.1) ∙ ap (λ (n : JavaType). Some n) (ruled_gives s.result t asked.1)))
 
   pub before : (s : Scope) (pl : Place) (e : Tree) → (is_ensuring s.part ≡ true → type_of_old fixed.olds pl ≡ type_in (judged (in_old (plain s)) e).typed) → IsScope program fixed s → Coded program fixed (Expression false) (in_old s) e → (judged s (trees.Old pl e)).faults ≡ [] → Goal program fixed facts p q s (trees.Old pl e)
@@ -167,4 +169,4 @@ module _ (program : Program) (fixed : Fixed) (facts : IsTypedProgram program) (p
       let asked = ruled_ask (is_ensuring s.part && not s.is_in_old) 38 (Fits (rules.Value x.type)) t rule in
       let is = ruled_value x.type t asked.1 in
       safe_as program fixed facts.below types (this_of s) (types_of s.locals) _ t u a
-      (safe_old program fixed types (this_of s) (types_of s.locals) pl t (old (and_true (is_ensuring s.part) (not s.is_in_old) asked.0).0 ∙ (type_plain (in_old s) e ∙ (x.known ∙ ap (λ (n : JavaType). Some n) is))))
+      (safe_old program fixed types (this_of s) (types_of s.locals) pl t (old (and_parts (is_ensuring s.part) (not s.is_in_old) asked.0).0 ∙ (type_plain (in_old s) e ∙ (x.known ∙ ap (λ (n : JavaType). Some n) is))))

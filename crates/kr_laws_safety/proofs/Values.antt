@@ -1,6 +1,7 @@
 -- Calls and creations as expressions, and every expression.
 use Rattle.std.proofs.Common.{◌≡◌, ℕ, ◌⊎◌, inl, inr, Bool, true, false, List, [], ◌∷◌, ◌++◌, Option, Some, None, refl, sym, ap, ◌∙◌, subst}
-use Rattle.std.specs.Prelude.{◌&&◌, ◌||◌, not, bytes_eq, codes, if◌then◌else◌, option_and_then}
+use Rattle.std.specs.Prelude.{◌||◌, not, if◌then◌else◌, option_and_then}
+use Rattle.std.proofs.lemmas.Bool.{or_cases}
 use Rattle.kr_base.specs.declared.place.Place.{Place}
 use Rattle.kr_ast.specs.Tree as trees
 use Rattle.kr_ast.specs.Tree.{Tree}
@@ -8,7 +9,7 @@ use Rattle.kr_value.specs.declared.value.Value.{Value}
 use Rattle.kr_value.specs.declared.value.Value.TheVariants.{Null, Ref as Reference}
 use Rattle.kr_value.specs.declared.object.Class.TheVariants.{Set, List as ListClass}
 use Rattle.kr_classes_table.specs.Types.{JavaType, ClassType, ArrayType, SetType, ListType, InferredType, AppliedType, is_void, is_element}
-use Rattle.kr_classes_table.specs.Table.{Table, Method, applied, items, line_of, ancestors, super_of, constructor_parameters, method_named, is_below, is_subtype}
+use Rattle.kr_classes_table.specs.Table.{Table, Method, applied, items, ancestors, super_of, constructor_parameters, method_named, is_below, is_subtype}
 use Rattle.kr_types_meaning.specs.Scopes.{Scope, value, written, class_before, static_only, method_meant, super_class}
 use Rattle.kr_types_meaning.specs.Rules as rules
 use Rattle.kr_types_meaning.specs.Rules.{Typed, Values, Untyped, Judgement, Fits, Breaks, ask, gives, arguments_fit, is_none_of, is_statement, result_rule, arguments_rule, call_rule, static_rule, above_rule, super_rule, method_rule, object_call_rule, collection_rule, creation_fits, creation_rule, diamond_rule}
@@ -21,8 +22,8 @@ use Rattle.kr_laws_safety.specs.Triples.{Fixed, IsThis, Safe, type_of_old}
 use Rattle.kr_laws_safety.specs.Steps.{Collection, Sets, Lists, type_with}
 use Rattle.kr_laws_safety.proofs.Heaps.{value_more, values_more}
 use Rattle.kr_laws_safety.proofs.Vectors.{type_same}
-use Rattle.kr_laws_safety.proofs.Steps.{below_itself, safe_give, safe_map, safe_then, safe_make}
-use Rattle.kr_laws_types.specs.Types.{is_variable_type, is_value_type, is_inferred}
+use Rattle.kr_laws_safety.proofs.Steps.{safe_map, safe_make}
+use Rattle.kr_laws_types.specs.Types.{is_value_type}
 use Rattle.kr_laws_types.specs.Shapes.{Expression, Expressions}
 use Rattle.kr_laws_shapes.specs.Expressions.{IsCreated}
 use Rattle.kr_laws_types.specs.Expressions.{plain}
@@ -30,8 +31,8 @@ use Rattle.kr_laws_types.proofs.Given.{AreValues}
 use Rattle.kr_laws_types.proofs.Expressions.{AllGood, good}
 use Rattle.kr_laws_safety.specs.Typed.{AreAllVariables, types_in, IsTypedProgram}
 use Rattle.kr_laws_safety.specs.Claims.{this_of, types_of, is_target, GivesAs, IsScope, Coded, ValuesSafe, PartsSafe}
-use Rattle.kr_laws_safety.proofs.Targets.{or_true, not_true, widened}
-use Rattle.kr_laws_safety.proofs.Glue.{Ruled, front_none, back_none, below_none, ruled, ruled_as, ruled_ask, same_types, ruled_value, ruled_gives, on_type, fits_inside, safe_next, safe_as, safe_as_result, settled, settle, typed_at, has_variables}
+use Rattle.kr_laws_safety.proofs.Targets.{not_true, widened}
+use Rattle.kr_laws_safety.proofs.Glue.{Ruled, ruled, ruled_as, ruled_ask, same_types, ruled_value, ruled_gives, on_type, safe_next, safe_as, safe_as_result, settled, settle, typed_at, has_variables}
 use Rattle.kr_laws_safety.proofs.Scoping.{method_found, class_plain, type_plain}
 use Rattle.kr_laws_safety.proofs.Classes.{safe_class}
 use Rattle.kr_laws_safety.proofs.Operands.{written_is, Goal, part_as, number, truth, null, safe_here, this_object, variable, field_access, array_access, unary, operation}
@@ -40,15 +41,16 @@ use Rattle.kr_laws_safety.proofs.Writes.{assignment, compound_assignment, step}
 use Rattle.kr_laws_safety.proofs.Calls.{ruled_list, Fit, variables_used, arguments_are, Given, arguments, method_run, static_run, overridden_run, chosen_run}
 use Rattle.kr_laws_safety.proofs.Creations.{taken_variables, object_created}
 use Rattle.kr_laws_safety.proofs.Members.{is_list, members, collection_call}
+use Rattle.kr_laws_types.proofs.Typed.{fits_same, front_none, back_none, below_none}
 
 -- a part whose type the rule needs has one
 pub ruled_part : (f : JavaType → Judgement) (x : Typed) (t : JavaType) → Ruled (on_one f x) t → (a : JavaType) × (type_in x ≡ Some a) × Ruled (f a) t
 ruled_part f (rules.Value a) t r = (a, refl, r)
 ruled_part f (rules.Variable a) t r = (a, refl, r)
-ruled_part f (Values ts) t r = absurd (cc (r.2, ap type_in (fits_inside Untyped r.0 r.1)))
-ruled_part f Untyped t r = absurd (cc (r.2, ap type_in (fits_inside Untyped r.0 r.1)))
+ruled_part f (Values ts) t r = absurd (cc (r.2, ap type_in (fits_same Untyped r.0 r.1)))
+ruled_part f Untyped t r = absurd (cc (r.2, ap type_in (fits_same Untyped r.0 r.1)))
 
--- the type behind `new`
+-- the type after `new`
 diamond_is : (p : Place) (h a : JavaType) → type_in (judge p (diamond_rule h) []).typed ≡ Some a → a ≡ h
 diamond_is p (SetType t) a e = same_types (Some (SetType t)) a (SetType t) e refl
 diamond_is p (ListType t) a e = same_types (Some (ListType t)) a (ListType t) e refl
@@ -67,7 +69,7 @@ made_is s (trees.ArrayType p b) a i e = written_is s (trees.ArrayType p b) a i e
 made_is s _ a i e = absurd i
 
 module _ (program : Program) (fixed : Fixed) (facts : IsTypedProgram program) (p : Parts) (q : PartsSafe program fixed p) where
-  -- ---- what the rules say of calls
+  -- ---- the rules of calls
 
   result_ruled : (s : Scope) (m : Method) (ts : List JavaType) (t : JavaType) → Ruled (arguments_rule s ts m) t → (arguments_fit s ts m.parameters ≡ true) × (m.result ≡ t)
   result_ruled s m ts t r =
@@ -102,7 +104,7 @@ module _ (program : Program) (fixed : Fixed) (facts : IsTypedProgram program) (p
           let asked = ruled_ask (m.is_static || not s.is_static) 5 (arguments_rule (settled program fixed s) ts m) t r in
           let fit = result_ruled (settled program fixed s) m ts t asked.1 in
           safe_next program fixed types (this_of s) (types_of s.locals) (values_of p (plain (settled program fixed s)) (items es)) _ _ _ (given (settled program fixed s) es m ts k h b j refl is.0.parameters fit.0 types)
-          (λ more vs x i. as_used more (this_of s) (types_of s.locals) _ m.result t u fit.1 a (run m.is_static refl (or_true m.is_static (not s.is_static) asked.0) more vs i))
+          (λ more vs x i. as_used more (this_of s) (types_of s.locals) _ m.result t u fit.1 a (run m.is_static refl (or_cases m.is_static (not s.is_static) asked.0) more vs i))
         where
           run : (b : Bool) → m.is_static ≡ b → (m.is_static ≡ true) ⊎ (not s.is_static ≡ true) → (more : List JavaType) (vs : List Value) → AreOf program.table more (types_in m.parameters) vs
               → Safe program fixed more (this_of s) (types_of s.locals) (if b then run_method program p Null vs (Some m) else (get_this >>= (λ o. class_of o >>= (λ class. run_method program p o vs (overriding program m class))))) (GivesAs program (types_of s.locals) m.result)
@@ -177,7 +179,7 @@ module _ (program : Program) (fixed : Fixed) (facts : IsTypedProgram program) (p
       go None e ts j b static r = absurd (cc (r.1))
       go (Some d) e ts j b static r = subst (λ (c : Option ℕ). Super (option_and_then (λ d. method_named program.table d n) c)) (sym e) (run d e (method_named program.table d n) refl ts j b static r)
 
-  -- ---- calls with an object, or behind a class's name
+  -- ---- calls on an object, or after a class's name
 
   abbrev Called : Scope → Tree → List ℕ → Tree → List JavaType → JavaType → Option ℕ → Type 0
   Called s e n es types u c = Safe program fixed types (this_of s) (types_of s.locals) (method_call program p (plain (settled program fixed s)) e n (items es) c) (GivesAs program (types_of s.locals) u)

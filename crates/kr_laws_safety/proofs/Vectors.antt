@@ -1,4 +1,4 @@
--- What a vector spells is of its types.
+-- The heap, `this` and parameters that a vector spells are of its types.
 use Rattle.std.proofs.Common.{◌≡◌, ℕ, zero, suc, ◌+◌, ◌<◌, ◌≤◌, Bool, true, List, [], ◌∷◌, length, get_or, refl, sym, ap, ◌∙◌, arith, subst}
 use Rattle.std.specs.Prelude.{map, ◌||◌, ◌&&◌, nat_eq, bytes_eq}
 use Rattle.std.specs.List.{range_with_len}
@@ -208,7 +208,7 @@ module _ (problem : Problem) (w : IsWellFormed problem) (h : HaveDomainsTypes pr
       let t = object_typed problem.root (get_or v 0 0) w.root r.number_in in
       (heap_number problem (object problem.root (get_or v 0 0)), ap (λ (c : Choice). c.value) r.choice, (t.0, ap (λ (u : JavaType). is_subtype problem.program.table u (ClassType (root_class problem))) (t.1 ∙ ap (class_type problem.program) h.root) ∙ below_itself (root_class problem)))
 
-  -- the parameters' slots stand behind that of `this`
+  -- the parameters' slots follow that of `this`
   parameters_typed : (ts : List JavaType) (ds : List Domain) (a : ℕ) → AreDomainsOf problem ts ds → HaveSlots (a + 1) ds → AreOf problem.program.table (object_types problem) ts (map (λ i. value_at problem v (i + 1)) (range_with_len a (length ds)))
   parameters_typed [] [] a i f = tt
   parameters_typed (t ∷ ts) (d ∷ ds) a i f = (nearest (a + 1) t d ds f i.0, parameters_typed ts ds (a + 1) i.1 (later (a + 1) d ds f))

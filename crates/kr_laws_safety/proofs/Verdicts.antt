@@ -1,4 +1,4 @@
--- No part of a test is stuck: the values of `\old`s, the body, the predicate behind it, the postconditions.
+-- No part of a test is stuck: the values of `\old`s, the body, the predicate after it, the postconditions.
 use Rattle.std.proofs.Common.{◌≡◌, ℕ, Bool, true, false, List, [], ◌∷◌, ◌++◌, length, Result, Ok, Option, Some, None, refl, sym, ap, ◌∙◌, arith, subst}
 use Rattle.std.specs.Prelude.{map, flat_map, if◌then◌else◌}
 use Rattle.kr_base.specs.declared.place.Place.{Place}
@@ -16,7 +16,7 @@ use Rattle.kr_mean.specs.Program.{Program, class_scope, method_scope}
 use Rattle.kr_mean.specs.Problem.{Problem}
 use Rattle.kr_mean.specs.Heaps.{value_at}
 use Rattle.kr_mean.specs.Steps.{Old, State, Outcome, plain_local}
-use Rattle.kr_mean.specs.Meaning.{value, run_method, parts_within, body_of}
+use Rattle.kr_mean.specs.Meaning.{value, parts_within, body_of}
 use Rattle.kr_mean.specs.Code.{Node, code}
 use Rattle.kr_laws_runs.proofs.Respects.{AllOf, all_both}
 use Rattle.kr_mean.specs.Runs.{rep_ok, root_class, ensures_of, ensured_in, parameter_values, tested_method}
@@ -47,7 +47,7 @@ olds_keep : (program : Program) (os : List OldNode) → KeepsThis (olds_valued p
 olds_keep program [] s = refl
 olds_keep program (o ∷ os) s = keeps_then (value program o.scope o.tree) _ (value_keeps program o.scope o.tree) (λ v. keeps_then (olds_valued program os) _ (olds_keep program os) (λ vs s. refl)) s
 
--- what a run ended with, where it gave something
+-- the end of a run that gave a value
 fine_ok : (program : Program) (fixed : Fixed) (types : List JavaType) (this : Option ℕ) (ls : List JavaType) {A : Type 0} (Q : List JavaType → List JavaType → A → Type 0) (r : Result A Stop) (t : State) (a : A) → Fine program fixed types this ls Q r t → r ≡ Ok a → Fine program fixed types this ls Q (Ok a) t
 fine_ok program fixed types this ls Q r t a h e = subst (λ (x : Result _ Stop). Fine program fixed types this ls Q x t) e h
 
@@ -98,7 +98,7 @@ module _ (program : Program) (fixed : Fixed) (facts : IsTypedProgram program) wh
       next : (v : Value) → Fine program fixed types this ls (Boolean program fixed facts ls) (Ok v) (value program n.scope n.tree s).after → ((more : List JavaType) (t : State) → IsStateOf program fixed more this ls t → AreNotStuck program ns t) → AreNotStuck program ns (value program n.scope n.tree s).after
       next v f rest = rest f.0 (value program n.scope n.tree s).after (subst (λ (z : List JavaType). IsStateOf program fixed f.0 this z (value program n.scope n.tree s).after) f.4.0 f.3)
 
--- ---- the nodes of a contract stand in its scope
+-- ---- the nodes of a contract are in its scope
 
 abbrev Within : Scope → Node → Type 0
 Within s n = in_old n.scope ≡ in_old s
@@ -171,7 +171,7 @@ module _ (program : Program) where
 
 -- ---- tests of candidates
 
--- what no run of a test changes: before the body, and behind it
+-- parts of the state that no run of a test changes: before the body, and after it
 abbrev before_body : Fixed
 before_body = record { candidates = 0; result = None; olds = [] }
 
@@ -181,7 +181,7 @@ result_of m = if is_void m.result then None else Some m.result
 abbrev behind_body : Program → Method → Fixed
 behind_body program m = record { candidates = 0; result = result_of m; olds = old_types (olds_of program m) }
 
-values_plain : (vs : List Value) → values_in (map plain_local vs) ≡ vs
+pub values_plain : (vs : List Value) → values_in (map plain_local vs) ≡ vs
 values_plain [] = refl
 values_plain (v ∷ vs) = ap (λ (ws : List Value). v ∷ ws) (values_plain vs)
 
@@ -229,7 +229,7 @@ module _ (problem : Problem) (facts : IsTypedProgram problem.program) (contracts
       subst (λ (z : List JavaType). Safe problem.program before_body types own z (olds_valued problem.program (olds_of problem.program m)) (λ more after vs. (after ≡ z) × AreOlds problem.program.table more (old_types (olds_of problem.program m)) vs)) (parameter_types m.parameters)
       (all_olds problem.program before_body facts contract (olds_of problem.program m) (refl, refl, parameter_variables m.parameters method.parameters, method.result, λ e o. absurd (cc (o))) refl inside (contracts.olds m tested) types)
 
-  -- the state behind them, and behind the body
+  -- the state after them, and after the body
   abbrev first : State
   first = test_start problem vector fuel
 
@@ -261,7 +261,7 @@ module _ (problem : Problem) (facts : IsTypedProgram problem.program) (contracts
   valued_as : (os : List Old) → valued_on.said ≡ Ok os → ValuedAs os
   valued_as os e = fine_ok problem.program before_body types own ls _ valued_on.said valued_on.after os (olds_run.by first started) e
 
-  -- the state behind the `\old`s
+  -- the state after the `\old`s
   second : (os : List Old) (f : ValuedAs os) → IsStateOf problem.program before_body f.0 own ls valued_on.after
   second os f = subst (λ (z : List JavaType). IsStateOf problem.program before_body f.0 own z valued_on.after) f.4.0 f.3
 
@@ -274,7 +274,7 @@ module _ (problem : Problem) (facts : IsTypedProgram problem.program) (contracts
       let k = second os f in
       (method_run problem.program before_body facts (parts_within problem.program valued_on.after.fuel) (parts_safe problem.program before_body facts valued_on.after.fuel) f.0 own ls m valued_on.after.this_value (map (λ l. l.value) valued_on.after.locals) method k.this_is k.locals_are).by valued_on.after k
 
-  -- the state behind the body, where `this` is known to be the root
+  -- the state after the body, where `this` is known to be the root
   third : (os : List Old) (f : ValuedAs os) (r : Value) (b : BodyFine f.0 (Ok r) body_then.after) → IsStateOf problem.program before_body b.0 (Some root) ls body_then.after
   third os f r b =
       let k = subst (λ (z : List JavaType). IsStateOf problem.program before_body b.0 own z body_then.after) b.4.0 b.3 in

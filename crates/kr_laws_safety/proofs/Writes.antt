@@ -1,6 +1,7 @@
 -- Assignments, compound assignments, `++` and `--`.
 use Rattle.std.proofs.Common.{◌≡◌, ℕ, inl, inr, Bool, true, false, List, [], ◌++◌, Option, Some, None, refl, sym, ap, ◌∙◌, arith, subst}
-use Rattle.std.specs.Prelude.{pos, ◌||◌, not, bytes_eq, codes, if◌then◌else◌, option_and_then}
+use Rattle.std.specs.Prelude.{pos, not, bytes_eq, codes, if◌then◌else◌, option_and_then}
+use Rattle.std.proofs.lemmas.Bool.{and_parts}
 use Rattle.kr_base.specs.declared.place.Place.{Place}
 use Rattle.kr_ast.specs.declared.node.BinaryOperator.{BinaryOperator}
 use Rattle.kr_ast.specs.declared.node.BinaryOperator.TheVariants as operators
@@ -16,7 +17,7 @@ use Rattle.kr_classes_table.specs.Constants.{field_meant}
 use Rattle.kr_types_meaning.specs.Scopes.{Scope, Meant, LocalName, FieldName, NoName, value, meant, class_before}
 use Rattle.kr_types_meaning.specs.Rules as rules
 use Rattle.kr_types_meaning.specs.Promotion.{promoted, promoted_alone, is_number}
-use Rattle.kr_types_meaning.specs.Rules.{Typed, Untyped, Judgement, Fits, Breaks, ask, gives, both_boolean, is_variable, is_broken, name_rule, operator_rule, assignment_rule, compound_rule, step_rule, written_rule, field_rule, access_rule, constant_rule, element_rule, of_promoted, shift_rule, bit_rule}
+use Rattle.kr_types_meaning.specs.Rules.{Typed, Untyped, Judgement, Fits, ask, gives, both_boolean, is_variable, is_broken, name_rule, operator_rule, assignment_rule, compound_rule, step_rule, written_rule, access_rule, constant_rule, element_rule, of_promoted, shift_rule, bit_rule}
 use Rattle.kr_types_meaning.specs.Typing.{judge, on_one, on_two, field_of, judged, type_in, type_of}
 use Rattle.kr_mean.specs.Program.{Program}
 use Rattle.kr_mean.specs.Steps.{Run, say, get_this, read_local, assign, load_field, element, store, store_element}
@@ -34,11 +35,12 @@ use Rattle.kr_laws_shapes.specs.Expressions.{is_compound}
 use Rattle.kr_laws_types.specs.Expressions.{plain, is_place}
 use Rattle.kr_laws_safety.specs.Typed.{IsTypedProgram}
 use Rattle.kr_laws_safety.specs.Claims.{this_of, types_of, is_target, IsScope, Coded, PartsSafe}
-use Rattle.kr_laws_safety.proofs.Targets.{and_true, not_true, variable_target, variable_not_void}
+use Rattle.kr_laws_safety.proofs.Targets.{not_true, variable_target, variable_not_void}
 use Rattle.kr_laws_safety.proofs.Promoted.{alone_is}
-use Rattle.kr_laws_safety.proofs.Glue.{Ruled, front_none, back_none, below_none, ruled, ruled_one, ruled_two, ruled_ask, ruled_value, ruled_variable, ruled_varies, on_type, int_is, boolean_is, safe_next, safe_keep, safe_as, settled, typed_at}
+use Rattle.kr_laws_safety.proofs.Glue.{Ruled, ruled, ruled_one, ruled_two, ruled_ask, ruled_value, ruled_variable, ruled_varies, on_type, int_is, boolean_is, safe_next, safe_keep, safe_as, settled, typed_at}
 use Rattle.kr_laws_safety.proofs.Scoping.{IsMeant, meant_is, field_found, type_plain}
 use Rattle.kr_laws_safety.proofs.Operands.{Goal, part_as, safe_here, field_ruled}
+use Rattle.kr_laws_types.proofs.Typed.{front_none, back_none, below_none}
 
 -- ---- operators that give what they are assigned to
 
@@ -66,7 +68,7 @@ bits_kept a b e = go (both_boolean a b) refl e
   where
     go : (n : Bool) → both_boolean a b ≡ n → not (is_broken (if n then Fits (rules.Value BooleanType) else of_promoted (promoted a b) 11)) ≡ true
         → (if n then Fits (rules.Value BooleanType) else of_promoted (promoted a b) 11) ≡ Fits (rules.Value a)
-    go true i e = ap (λ (t : JavaType). Fits (rules.Value t)) (sym (boolean_is a (and_true (rules.is_boolean a) (rules.is_boolean b) i).0))
+    go true i e = ap (λ (t : JavaType). Fits (rules.Value t)) (sym (boolean_is a (and_parts (rules.is_boolean a) (rules.is_boolean b) i).0))
     go false i e = numbers_kept a b 11 e
 
 compound_gives : (s : Scope) (o : BinaryOperator) (a b : JavaType) → is_compound o ≡ true → not (is_broken (operator_rule s o a b)) ≡ true → operator_rule s o a b ≡ Fits (rules.Value a)
@@ -109,7 +111,7 @@ step_gives s steps.DecrementBefore = refl
 step_gives s steps.DecrementBehind = refl
 
 module _ (program : Program) (fixed : Fixed) (facts : IsTypedProgram program) (p : Parts) (q : PartsSafe program fixed p) where
-  -- ---- what may be written
+  -- ---- targets
 
   -- a part of a target without broken nodes
   record Part (s : Scope) (e : Tree) (t : JavaType) : Type 0 where
@@ -198,7 +200,7 @@ module _ (program : Program) (fixed : Fixed) (facts : IsTypedProgram program) (p
           (at b i (record { coded = h; unbroken = front; typed = x ∙ ap (λ (n : JavaType). Some (ArrayType n)) is }) (record { coded = l; unbroken = back; typed = y ∙ ap (λ (n : JavaType). Some n) (int_is d asked.0) }) (subst (λ (n : JavaType). is_variable_type n ≡ true) is v))
       go _ d x y v front back type r = absurd (cc (r.1))
 
-  -- what is a variable by its type may be written
+  -- a variable by its type may be written
   target_writes : (s : Scope) (b : Tree) (t : JavaType) → IsScope program fixed (settled program fixed s) → Coded program fixed (Expression false) (settled program fixed s) b → (judged (value (settled program fixed s)) b).faults ≡ [] → type_in (judged (value (settled program fixed s)) b).typed ≡ Some t
       → is_variable (judged (value (settled program fixed s)) b).typed ≡ true → is_place b ≡ true → Writes (settled program fixed s) t (target_of (plain (settled program fixed s)) b)
   unfolding judged
@@ -274,7 +276,7 @@ module _ (program : Program) (fixed : Fixed) (facts : IsTypedProgram program) (p
 
   -- ---- the expressions
 
-  -- what the rule of a write says: a variable is written
+  -- by the rule of a write, a variable is written
   written_is : (s : Scope) (x : Typed) (u t : JavaType) → Ruled (written_rule s x u) t → (is_variable x ≡ true) × (u ≡ t)
   written_is s x u t r =
       let a = ruled_ask (is_variable x) 19 (ask (rules.is_code s.part) 39 (Fits (rules.Value u))) t r in

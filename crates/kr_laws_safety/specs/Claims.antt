@@ -46,8 +46,8 @@ IsScope program fixed s =
 abbrev pub Coded : Program → Fixed → Sort → Scope → Tree → Type 0
 Coded program fixed sort s t = IsCode program.arrays (type_of_old fixed.olds) sort (plain s) t
 
--- Where a statement leads that stands in a loop or not, in a method with a result: to the next one with such locals; else the
--- locals are as before.
+-- The end of a statement, in a loop or not, in a method with a result: the next one runs with such locals; otherwise the locals
+-- are as before.
 abbrev pub Leads : Table → JavaType → Bool → List JavaType → List JavaType → List JavaType → List JavaType → Flow → Type 0
 Leads table result loops before locals more after Next = after ≡ locals
 Leads table result loops before locals more after Broke = (after ≡ before) × (loops ≡ true)
@@ -55,7 +55,7 @@ Leads table result loops before locals more after Continued = (after ≡ before)
 Leads table result loops before locals more after Left = (after ≡ before) × (is_void result ≡ true)
 Leads table result loops before locals more after (Gave v) = (after ≡ before) × (is_void result ≡ false) × IsOf table more result v
 
--- where statements in order lead: behind some of them there may be more locals
+-- the end of statements in order: after some of them there may be more locals
 abbrev pub LeadsOn : Table → JavaType → Bool → List JavaType → List JavaType → List JavaType → List JavaType → Flow → Type 0
 LeadsOn table result loops before locals more after Next = after ≡ locals
 LeadsOn table result loops before locals more after Broke = Extends before after × (loops ≡ true)

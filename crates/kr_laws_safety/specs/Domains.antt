@@ -43,12 +43,12 @@ abbrev pub AreAllDomainsOf : Problem → JavaType → List Spotted → Type 0
 AreAllDomainsOf problem t [] = Unit {0}
 AreAllDomainsOf problem t (s ∷ ss) = IsDomainOf problem t s.domain × AreAllDomainsOf problem t ss
 
--- of an array type the elements behind the length, no more than an int counts; the array type has this number
+-- of an array type the elements after the length, no more than an int counts; the array type has this number
 abbrev pub AreElementsOf : Problem → JavaType → List Spotted → Type 0
 AreElementsOf problem (ArrayType t) (s ∷ ss) = AreAllDomainsOf problem t ss × IsLength (length ss)
 AreElementsOf problem t ss = ⊥
 
--- what the objects of a class domain have: of a class its fields
+-- the spots of a class domain's objects: of a class its fields
 abbrev pub AreSpotsOf : Problem → Class → List Spotted → Type 0
 AreSpotsOf problem (Object c) ss = AreDomainsOf problem (map (λ f. f.type) (fields_of problem.program.table c)) (domains_of ss)
 AreSpotsOf problem (Array k) ss = AreElementsOf problem (class_type problem.program (Array k)) ss

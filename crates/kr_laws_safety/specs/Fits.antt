@@ -1,5 +1,5 @@
 -- Between crates: when values, objects and heaps are of their types (the Java Language Specification, 4.3, 4.10, 4.12.2). Each
--- object of a heap has a type that it keeps. A collection's type has that of its members, which its class doesn't tell.
+-- object of a heap has a type that it keeps. A collection's type has that of its members, which its class doesn't determine.
 use Rattle.std.specs.Prelude.{◌≡◌, ℕ, ◌<◌, ◌≤◌, ℤ, pos, negsuc, true, List, [], ◌∷◌, length, map}
 use Rattle.std.proofs.Common.{get_or}
 use Rattle.kr_value.specs.declared.value.Value.{Value}
@@ -43,7 +43,7 @@ AreAll table types t (v ∷ vs) = IsOf table types t v × AreAll table types t v
 
 -- ---- objects
 
--- what a length may be: an int
+-- a possible length: an int
 abbrev pub IsLength : ℕ → Type 0
 IsLength n = n < 2147483648
 
@@ -53,7 +53,7 @@ IsUnnumbered program (Array k) = length program.arrays ≤ k
 IsUnnumbered program class = ⊥
 
 -- An object's fields, inherited ones first; an array's elements; a collection's members. An array whose type the program
--- doesn't number stands with `void`, so that no variable holds it; nothing more is asked of it.
+-- doesn't number has `void` elements, so that no variable holds it; nothing more is required of it.
 abbrev pub IsObjectOf : Program → List JavaType → JavaType → HeapObject → Type 0
 IsObjectOf program types (ClassType c) o = (o.class ≡ Object c) × AreOf program.table types (map (λ f. f.type) (fields_of program.table c)) o.values
 IsObjectOf program types (ArrayType t) o = (is_array_of program t o.class ≡ true) × AreAll program.table types t o.values × IsLength (length o.values)

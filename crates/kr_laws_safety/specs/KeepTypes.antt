@@ -29,7 +29,7 @@ pub record KeepTypes (program : Program) (fixed : Fixed) : Type 0 where
   pub reads_local : (types : List JavaType) (this : Option ℕ) (ls : List JavaType) (k : ℕ) (t : JavaType) → type_of_local ls k ≡ Some t → Safe program fixed types this ls (read_local k) (Gives program ls t)
   pub declares : (types : List JavaType) (this : Option ℕ) (ls : List JavaType) (t : JavaType) (v : Value) → IsOf program.table types t v → Safe program fixed types this ls (declare v) (λ more after u. after ≡ ls ++ t ∷ [])
   pub assigns : (types : List JavaType) (this : Option ℕ) (ls : List JavaType) (k : ℕ) (t : JavaType) (v : Value) → type_of_local ls k ≡ Some t → IsOf program.table types t v → Safe program fixed types this ls (assign k v) (Keeps ls)
-  -- what a contract sees
+  -- the values that a contract sees
   pub gets_result : (types : List JavaType) (this : Option ℕ) (ls : List JavaType) (t : JavaType) → fixed.result ≡ Some t → Safe program fixed types this ls get_result (Gives program ls t)
   pub gets_old : (types : List JavaType) (this : Option ℕ) (ls : List JavaType) (p : Place) (t : JavaType) → type_of_old fixed.olds p ≡ Some t → Safe program fixed types this ls (get_old p) (Gives program ls t)
   -- a body in a frame of its own, and a block: `this` and the locals are as they were
@@ -54,7 +54,7 @@ pub record KeepTypes (program : Program) (fixed : Fixed) : Type 0 where
   pub gives_size : (types : List JavaType) (this : Option ℕ) (ls : List JavaType) (k : Collection) (t : JavaType) (v : Value) → IsOf program.table types (type_with k t) v → Safe program fixed types this ls (collect (codes "size") v []) (Gives program ls IntType)
   pub gives_is_empty : (types : List JavaType) (this : Option ℕ) (ls : List JavaType) (k : Collection) (t : JavaType) (v : Value) → IsOf program.table types (type_with k t) v → Safe program fixed types this ls (collect (codes "isEmpty") v []) (Gives program ls BooleanType)
   pub removes_first : (types : List JavaType) (this : Option ℕ) (ls : List JavaType) (t : JavaType) (v : Value) → IsOf program.table types (ListType t) v → Safe program fixed types this ls (collect (codes "removeFirst") v []) (Gives program ls t)
-  -- operators on operands as the typing rules ask them, and new arrays
+  -- operators on operands as the typing rules require them, and new arrays
   pub operates : (types : List JavaType) (this : Option ℕ) (ls : List JavaType) (s : Scope) (o : BinaryOperator) (a b t : JavaType) (v w : Value) → is_junction o ≡ false → operator_rule s o a b ≡ Fits (Typed t) → IsOf program.table types a v → IsOf program.table types b w
       → Safe program fixed types this ls (say (operated o v w)) (Gives program ls t)
   pub operates_alone : (types : List JavaType) (this : Option ℕ) (ls : List JavaType) (o : UnaryOperator) (a t : JavaType) (v : Value) → unary_rule o a ≡ Fits (Typed t) → IsOf program.table types a v → Safe program fixed types this ls (say (operated_alone o v)) (Gives program ls t)

@@ -1,4 +1,4 @@
--- Between crates: what the classes of a program have, as far as types speak of it; and what a class says of an object's type.
+-- Between crates: what the classes of a program have, as far as types need it; and an object's type, from its class.
 use Rattle.std.specs.Prelude.{Bool, false, ◌≡◌, ℕ, ◌<◌, true, List, length, map, Option, Some, None}
 use Rattle.std.proofs.Common.{get_or}
 use Rattle.kr_ast.specs.declared.node.BinaryOperator.{BinaryOperator}
@@ -32,7 +32,7 @@ IsClassOf program (SetType t) class = class ≡ Set
 IsClassOf program (ListType t) class = class ≡ ListClass
 IsClassOf program t class = ⊥
 
--- what is seen of a reference: nothing of null, else the object's class
+-- the class of a reference's object; null has none
 abbrev pub IsSeen : Program → List JavaType → Value → Option Class → Type 0
 IsSeen program types Null seen = seen ≡ None
 IsSeen program types (Reference o) seen = (class : Class) × (seen ≡ Some class) × IsClassOf program (type_at types o) class

@@ -27,7 +27,8 @@ CodeLaw = (program : Program) (fixed : Fixed) → IsTypedProgram program → IsS
 abbrev pub CandidatesLaw : Type 0
 CandidatesLaw = (problem : Problem) → IsTypedProgram problem.program → HasContracts problem → IsWellFormed problem → HaveDomainsTypes problem → (vector : List ℕ) → IsVector (space_of problem) vector → IsStuck problem vector → ⊥
 
--- On no candidate is a test of a method stuck, whatever its fuel: neither an `\old`, nor the body, nor the predicate behind it, nor a postcondition.
+-- On no candidate is a test of a method stuck, whatever its fuel: neither an `\old`, nor the body, nor the predicate after it,
+-- nor a postcondition.
 abbrev pub TestsLaw : Type 0
 TestsLaw = (problem : Problem) → IsTypedProgram problem.program → HasContracts problem → IsWellFormed problem → HaveDomainsTypes problem → (vector : List ℕ) → IsVector (space_of problem) vector
     → (m : Method) → tested_method problem problem.mode ≡ Some m → (fuel : ℕ) → IsTestable problem m (test_start problem vector fuel)

@@ -47,7 +47,7 @@ old_type o = type_or_none (type_in (judged o.scope o.tree).typed)
 abbrev pub old_types : List OldNode → List (Place × JavaType)
 old_types os = map (λ o. (o.place, old_type o)) os
 
--- what an `\old` holds: an expression without broken nodes, of a type that values are used as
+-- the operand of an `\old`: an expression without broken nodes, of a type of values
 pub record IsOld (program : Program) (o : OldNode) : Type 0 where
   pub code : (olds : Olds) → IsCode program.arrays olds (Expression false) (plain o.scope) o.tree
   pub unbroken : (judged o.scope o.tree).faults ≡ []

@@ -1,5 +1,5 @@
--- Between crates: what runs do with values, locals and heaps of known types: they don't get stuck, objects keep their types, new
--- ones get types behind those that were there, and what is given is of a type.
+-- Between crates: runs on values, locals and heaps of known types: they don't get stuck, objects keep their types, new ones get
+-- types after those that were there, and the result is of a type.
 use Rattle.std.specs.Prelude.{◌≡◌, ℕ, zero, suc, ◌≤◌, if◌then◌else◌, List, [], ◌∷◌, ◌++◌, length, map, Option, Some, None, Result, Ok, Err}
 use Rattle.kr_base.specs.declared.place.Place.{Place}
 use Rattle.kr_value.specs.declared.value.Value.{Value}
@@ -13,8 +13,8 @@ use Rattle.kr_mean.specs.Program.{Program}
 use Rattle.kr_mean.specs.Steps.{Local, Old, State, Run}
 use Rattle.kr_laws_safety.specs.Fits.{IsOf, AreOf, IsHeapOf}
 
--- what no run changes: how many objects are candidates, and the types of the result of the method under test and of the
--- values of `\old`s by their places, where it has run
+-- parts of the state that no run changes: how many objects are candidates, and the types of the result of the method under test
+-- and of the values of `\old`s by their places, where it has run
 pub record Fixed : Type 0 where
   pub candidates : ℕ
   pub result : Option JavaType
@@ -52,8 +52,9 @@ pub record IsStateOf (program : Program) (fixed : Fixed) (types : List JavaType)
 abbrev pub Extends : List JavaType → List JavaType → Type 0
 Extends types more = (new : List JavaType) × (more ≡ types ++ new)
 
--- What a run ends with: what it gives is as said, of the types of the objects and of the locals after it. Where it traps, too, objects
--- keep their types, `this` is as it was, and the locals that were there keep theirs: code may go on behind a trap. Want of fuel is fine.
+-- The end of a run: its result is as stated, of the types of the objects and of the locals after it. Where it traps, too,
+-- objects keep their types, `this` is unchanged, and the locals that were there keep theirs: code may go on after a trap.
+-- Running out of fuel is fine.
 abbrev pub Fine : Program → Fixed → List JavaType → Option ℕ → List JavaType → {A : Type 0} → (List JavaType → List JavaType → A → Type 0) → Result A Stop → State → Type 0
 Fine program fixed types this before Q (Ok a) s = (more : List JavaType) × (locals : List JavaType) × Extends types more × IsStateOf program fixed more this locals s × Q more locals a × Extends before locals
 Fine program fixed types this before Q (Err (Trapped kind)) s = (more : List JavaType) × (locals : List JavaType) × Extends types more × IsStateOf program fixed more this locals s × Extends before locals

@@ -101,7 +101,7 @@ pub record IsClass (program : Program) (c : ℕ) : Type 0 where
   pub constructed : IsConstructed program c (constructor_of program c)
   pub initialised : AreInitialised program c (declared_fields program c)
 
--- What runs rely on of a program. Typing gives it: rule by rule, of every class.
+-- The properties of a program that runs rely on. Typing gives them: rule by rule, of every class.
 pub record IsTypedProgram (program : Program) : Type 0 where
   pub below : (c d e : ℕ) → is_below program.table c d ≡ true → is_below program.table d e ≡ true → is_below program.table c e ≡ true
   pub fields : (c : ℕ) (n : List ℕ) (f : Field) → field_named program.table c n ≡ Some f → IsField program c n f

@@ -1,4 +1,4 @@
-// What holds of the heaps of candidates.
+// Laws of the heaps of candidates.
 ghost use Rattle.kr_laws_safety.specs.KeepTypes.{StepsLaw};
 ghost use Rattle.kr_laws_safety.specs.Vectors.{VectorsLaw};
 

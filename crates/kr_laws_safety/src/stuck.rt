@@ -13,7 +13,7 @@ pub fn candidates_law()
     ensures { CandidatesLaw }
 {}
 
-/// Nor is a test of a method on a candidate stuck: the values of its `\old`s, its body, the predicate behind it, its
+/// No test of a method on a candidate is stuck either: the values of its `\old`s, its body, the predicate after it, its
 /// postconditions.
 pub fn tests_law()
     ensures { TestsLaw }

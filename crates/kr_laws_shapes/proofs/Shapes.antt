@@ -1,4 +1,4 @@
--- What the grammar derives has the shape of its place.
+-- Trees that the grammar derives have the shapes of their positions.
 use Rattle.std.proofs.Common.{◌≡◌, ◌⊎◌, inl, inr, true, false, List, Option, Some, None, refl, sym, subst}
 use Rattle.kr_lex.specs.Lexemes.{Lexeme}
 use Rattle.kr_lex.specs.declared.kind.Kind.{Kind}

@@ -22,7 +22,7 @@ IsWritten (trees.GenericType p h a) = IsClassName h × IsWritten a
 IsWritten (trees.ArrayType p e) = IsWritten e
 IsWritten t = ⊥
 
--- what stands behind `new`: a type, or a collection's with `<>`
+-- the operand of `new`: a type, or a collection's with `<>`
 abbrev pub IsCreated : Tree → Type 0
 IsCreated (trees.DiamondType p h) = IsClassName h
 IsCreated t = IsWritten t

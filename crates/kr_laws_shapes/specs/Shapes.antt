@@ -1,4 +1,4 @@
--- Between crates: the shapes of trees: what may stand where (Java Language Specification 4, 7, 8, 14, 15, for this language).
+-- Between crates: the shapes of trees, by position (Java Language Specification 4, 7, 8, 14, 15, for this language).
 use Rattle.std.specs.Prelude.{◌≡◌, ◌⊎◌, Bool, true, false, List}
 use Rattle.kr_lex.specs.Lexemes.{Lexeme}
 use Rattle.kr_ast.specs.Tree as trees
@@ -122,7 +122,7 @@ AreClasses trees.Nil = Unit {0}
 AreClasses (trees.Cons a b) = IsClass a × AreClasses b
 AreClasses t = ⊥
 
--- ---- what the grammar derives
+-- ---- derived trees
 
 abbrev pub ShapeLaw : Type 0
 ShapeLaw = (i : List Lexeme) (t : Tree) → Derives i t → AreClasses t

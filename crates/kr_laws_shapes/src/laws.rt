@@ -1,4 +1,4 @@
-// What the trees of files are like.
+// The shapes of the trees of files.
 ghost use Rattle.kr_laws_shapes.specs.Shapes.{ShapeLaw};
 
 /// The tree of a file that can be parsed is a list of classes, each part of which is of its place's shape.

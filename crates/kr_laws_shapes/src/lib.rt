@@ -1,5 +1,5 @@
-//! The trees that the grammar derives, by their shapes: what stands where, whatever the tokens. What is said of all programs is
-//! said of trees of these shapes.
+//! The shapes of the trees that the grammar derives, whatever the tokens. Statements about all programs are made of trees of
+//! these shapes.
 #![tactic(auto)]
 
 mod laws;

@@ -1,7 +1,7 @@
 -- Two runs on two candidates go the same way, up to names, as long as the candidates agree on what is read; and they
 -- read only what is known to be reachable.
 use Rattle.std.proofs.Common.{◌≡◌, ℕ, zero, suc, ◌-◌, ◌<◌, ◌≤◌, ◌≢◌, ◌⊎◌, inl, inr, Bool, true, false, List, [], ◌∷◌, ◌++◌, length, get_or, Result, Ok, Err, Option, Some, None, refl, sym, ap, ◌∙◌, arith, subst}
-use Rattle.std.specs.Prelude.{ℤ, pos, negsuc, not, ◌||◌, map, take, replicate, min, slice_set, nat_eq, nat_lt, bytes_eq, codes, if◌then◌else◌}
+use Rattle.std.specs.Prelude.{ℤ, pos, negsuc, ◌||◌, map, take, replicate, min, slice_set, nat_eq, nat_lt, bytes_eq, codes, if◌then◌else◌}
 use Rattle.std.proofs.lemmas.List.{append-nil, get_or-set_same, get_or-set_other, get_or-append_right, set_past, length-set, get_or_append_left, length-append}
 use Rattle.std.proofs.lemmas.Bool.{ltb-true, lt-ltb, le-ltb, eq-eqb, eqb-true, cases_lt, cases_eq}
 use Rattle.kr_base.specs.declared.place.Place.{Place}
@@ -130,9 +130,9 @@ KnownPlace n parameters Known heap (At o (Field f)) = (o < n) × Known o
 KnownPlace n parameters Known heap (At o Length) = (o < n) × Known o
 KnownPlace n parameters Known heap (At o (Element k)) = (o < n) × Known o × (k < length (object_in heap o).values)
 
--- Two heaps, of which the first objects are the candidates, the second under other names as far as they agree. Other
--- objects keep their names; those behind all that are there at first are made by a run. What is known of the first heap
--- holds what is known.
+-- Two heaps, of which the first objects are the candidates, the second under other names as far as they agree. Other objects
+-- keep their names; those after all that are there at first are made by a run. The known places of the first heap hold known
+-- values.
 pub record Setting : Type 1 where
   pub candidates : ℕ
   pub total : ℕ
@@ -209,7 +209,7 @@ module _ (program : Program) (st : Setting) where
 
   -- ---- one run after another
 
-  -- what is read after what was given
+  -- reads after earlier ones
   abbrev then_reads : {A B : Type 0} → Result A Stop → State → (A → Run B) → List SlotPlace
   then_reads (Ok a) s f = (f a s).reads
   then_reads (Err e) s f = []
@@ -895,7 +895,7 @@ module _ (program : Program) (st : Setting) where
     scopes = scopes;
   }
 
-  -- a whole expression: where the two candidates agree on what is read, the two runs say the same
+  -- a whole expression: where the two candidates agree on the places read, the two runs agree
   pub value_goes : (Q : Node → Type 0) → IsCode program MayStore MayPut Q → (scope : Scope) (e : Tree) → AllOf Q (code scope e) → Goes Related (value program scope e) (value program scope e)
   unfolding value
   value_goes Q closed scope e h = record { by = λ s s' l. subst (λ (n : ℕ). Meets Related (eval program s.fuel scope e s) (eval program n scope e s')) (sym l.fuel) ((evals program MayStore MayPut Q closed goes_logic s.fuel scope e h).by s s' l) }

@@ -1,4 +1,4 @@
--- Which object has which number in the heap, and whose slots stand where.
+-- The numbers of objects in the heap, and the positions of their slots.
 use Rattle.std.proofs.Common.{◌≡◌, ℕ, zero, suc, ◌+◌, ◌-◌, ◌*◌, ◌<◌, ◌≤◌, ◌⊎◌, inl, inr, List, [], ◌∷◌, ◌++◌, length, get_or, Some, None, refl, sym, ap, ◌∙◌, arith, subst}
 use Rattle.std.specs.Prelude.{map, flat_map}
 use Rattle.std.specs.List.{range_with_len}
@@ -281,7 +281,7 @@ module _ (problem : Problem) where
             ∙ (ap (λ (n : ℕ). get_or (object_slots 0 problem.domains) n no_slot) q ∙ (r.is ∙ ap (λ (n : ℕ). slot_of problem n k (spotted_at problem d j)) (omega arith)))),
       )
 
-  -- what a slot is: `this`, a parameter, or a spot of an object
+  -- a slot: `this`, a parameter, or a spot of an object
   pub data SlotCase (s : ℕ) : Type 0 where
     is_this : s ≡ 0 → SlotCase s
     is_parameter : (i : ℕ) → i < parameters → s ≡ i + 1 → SlotCase s

@@ -1,12 +1,13 @@
--- Numbers that stand in a list, and lists of different numbers.
+-- Numbers in a list, and lists of different numbers.
 use Rattle.std.proofs.Common.{◌≡◌, ℕ, zero, suc, ◌+◌, ◌<◌, ◌≤◌, ◌⊎◌, inl, inr, List, [], ◌∷◌, refl, sym, ◌∙◌, ap, subst, arith, get_or, length, true, false}
 use Rattle.std.specs.Prelude.{map}
 use Rattle.std.specs.List.{range_with_len}
 use Rattle.std.proofs.lemmas.Bool.Decides.{nat_tests}
+use Rattle.std.proofs.lemmas.Bool.{cases_Bool}
 use Rattle.kr_mean.specs.Readings.{Lacks}
 use Rattle.kr_mean.specs.Runs.{contains_number}
 use Rattle.kr_mean.specs.Entries.{are_apart}
-use Rattle.kr_laws_slots.proofs.Membership.{Has, bool_cases, has_map_from, range_has}
+use Rattle.kr_laws_slots.proofs.Membership.{Has, has_map_from, range_has}
 
 pub has_number : (xs : List ℕ) (x : ℕ) → Has x xs → contains_number xs x ≡ true
 has_number [] x h = absurd h
@@ -57,7 +58,7 @@ apart_ranges f a (suc n) apart =
 -- different places of a list of different numbers have different numbers
 pub apart_at : (xs : List ℕ) → are_apart xs ≡ true → (j k : ℕ) → j < length xs → k < length xs → get_or xs j j ≡ get_or xs k k → j ≡ k
 apart_at [] t j k hj hk e = absurd (omega arith)
-apart_at (x ∷ xs) t j k hj hk e = go (bool_cases (contains_number xs x)) (bool_cases (are_apart xs)) (apart_at xs) j k hj hk e
+apart_at (x ∷ xs) t j k hj hk e = go (cases_Bool (contains_number xs x)) (cases_Bool (are_apart xs)) (apart_at xs) j k hj hk e
   where
     clash : contains_number xs x ≡ false → (i : ℕ) → i < length xs → x ≡ get_or xs i (suc i) → ⊥
     clash f i h q = let y : contains_number xs x ≡ true = has_number xs x (subst (λ (z : ℕ). Has z xs) (sym q) (get_has xs i (suc i) h)) in cc

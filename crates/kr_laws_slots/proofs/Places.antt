@@ -1,10 +1,10 @@
 -- The slots of an object and of a place, and what the heap of a vector has there.
 use Rattle.std.proofs.Common.{◌≡◌, ℕ, zero, suc, ◌+◌, ◌-◌, ◌<◌, ◌≤◌, ◌⊎◌, inl, inr, Bool, true, false, List, [], ◌∷◌, length, get_or, Some, refl, sym, ap, ◌∙◌, arith, subst}
-use Rattle.std.specs.Prelude.{map, filter, take, pos, negsuc, ◌==◌, ◌&&◌}
+use Rattle.std.specs.Prelude.{map, filter, take, pos, negsuc, ◌==◌}
 use Rattle.std.specs.List.{range_with_len}
 use Rattle.std.proofs.lemmas.List.{length-map, get_or_past}
 use Rattle.std.proofs.lemmas.List.FromFn.{get_or-map-range_with_len, length-map-range_with_len}
-use Rattle.std.proofs.lemmas.Bool.{cases_lt, eq-eqb, eqb-true}
+use Rattle.std.proofs.lemmas.Bool.{cases_lt, eq-eqb, eqb-true, and_parts, false_from_ne_true}
 use Rattle.kr_mean.specs.Problem.{Problem, Domain, Plain, Objects, choices_in, DomainObject, Spotted, Slot, slots, slot_at, all_objects, heap_number, domain_at, upto}
 use Rattle.kr_mean.specs.Places.{SlotPlace, This, Parameter, At}
 use Rattle.kr_mean.specs.Heaps.{heap_of, heap_object, value_at, is_same_object, is_owner, length_in, slots_owned, slots_there, slots_in, values_there}
@@ -23,7 +23,7 @@ use Rattle.kr_laws_slots.proofs.Numbering.{object, nobody, no_spot, count_at, wi
 
 -- ---- one stretch of a range
 
-filter_none : (p : ℕ → Bool) (lo n : ℕ) → ((s : ℕ) → lo ≤ s → s < lo + n → p s ≡ false) → filter p (range_with_len lo n) ≡ []
+pub filter_none : (p : ℕ → Bool) (lo n : ℕ) → ((s : ℕ) → lo ≤ s → s < lo + n → p s ≡ false) → filter p (range_with_len lo n) ≡ []
 filter_none p lo zero miss = refl
 filter_none p lo (suc n) miss = rw (miss lo (omega arith) (omega arith)) (filter_none p (lo + 1) n (λ s a b. miss s (omega (arith, a)) (omega (arith, b))))
 
@@ -46,17 +46,9 @@ filter_stretch p lo (suc n) a (suc w) l h hit miss = go (cases_lt lo a) (λ lt. 
         let e : a ≡ lo = omega (arith, l, le) in
         rw (hit lo le (omega (arith, e))) (ap (λ (x : List ℕ). lo ∷ x) (g e) ∙ ap (λ (x : ℕ). x ∷ range_with_len (a + 1) w) (sym e))
 
-false_unless : (b : Bool) → (b ≡ true → ⊥) → b ≡ false
-false_unless true n = absurd (n refl)
-false_unless false n = refl
-
-both_true : (a b : Bool) → (a && b) ≡ true → (a ≡ true) × (b ≡ true)
-both_true true b e = (refl, e)
-both_true false b e = absurd (cc (e))
-
 pub same_objects : (a b : DomainObject) → is_same_object a b ≡ true → a ≡ b
 same_objects a b e =
-    let r = both_true (a.domain == b.domain) (a.number == b.number) e in
+    let r = and_parts (a.domain == b.domain) (a.number == b.number) e in
     ap (λ (d : ℕ). object d a.number) (eqb-true a.domain b.domain r.0) ∙ ap (λ (k : ℕ). object b.domain k) (eqb-true a.number b.number r.1)
 
 pub same_object : (o : DomainObject) → is_same_object o o ≡ true
@@ -102,7 +94,7 @@ same_spot (Field f) = eq-eqb f f refl
 same_spot Length = refl
 same_spot (Element k) = eq-eqb k k refl
 
-same_spots : (s t : Spot) → is_same_spot s t ≡ true → s ≡ t
+pub same_spots : (s t : Spot) → is_same_spot s t ≡ true → s ≡ t
 same_spots (Field f) (Field g) e = ap (λ (n : ℕ). Field n) (eqb-true f g e)
 same_spots (Element f) (Element g) e = ap (λ (n : ℕ). Element n) (eqb-true f g e)
 same_spots Length Length e = refl
@@ -177,7 +169,7 @@ module _ (problem : Problem) (w : IsWellFormed problem) where
       go (is_parameter i l z) = rw (z, (parameter_slot problem i l).1) refl
       go (is_spot e l j x y c z) =
           let o : (slot_at problem s).owner ≡ Some (object e l) = ap (λ (x : ℕ). (slot_at problem x).owner) z ∙ owner_of e l j x y c in
-          rw o (false_unless (is_same_object (object d k) (object e l)) (λ t.
+          rw o (false_from_ne_true (is_same_object (object d k) (object e l)) (λ t.
           let q : object d k ≡ object e l = same_objects (object d k) (object e l) t in
           let qd : d ≡ e = ap (λ (o : DomainObject). o.domain) q in
           let qk : k ≡ l = ap (λ (o : DomainObject). o.number) q in
@@ -269,20 +261,20 @@ module _ (problem : Problem) (w : IsWellFormed problem) where
       go (is_spot e l j x y c' z) =
           let p : (slot_at problem s).place ≡ At (heap_number problem (object e l)) (kind (class_at e) j) = ap (λ (x : ℕ). (slot_at problem x).place) z ∙ (ap (λ (x : Slot). x.place) (object_slot problem e l j x y c').1 ∙ ap (λ (x : Spot). At (heap_number problem (object e l)) x) (spot_is e j x c')) in
           let t' : is_same_place (At (heap_number problem (object e l)) (kind (class_at e) j)) place ≡ true = sym (ap (λ (x : SlotPlace). is_same_place x place) p) ∙ t in
-          let r = both_true (heap_number problem (object e l) == number) (is_same_spot (kind (class_at e) j) spot) t' in
+          let r = and_parts (heap_number problem (object e l) == number) (is_same_spot (kind (class_at e) j) spot) t' in
           let q : object e l ≡ object d k = one_object e l d k x y a b (eqb-true (heap_number problem (object e l)) number r.0) in
           (j, z ∙ ap (λ (o : DomainObject). first_slot problem o.domain o.number + j) q, subst (λ (o : DomainObject). j < width_at problem o.domain) q c', ap (λ (o : DomainObject). kind (class_at o.domain) j) (sym q) ∙ same_spots (kind (class_at e) j) spot r.1)
 
   -- a spot that an object doesn't have has no slot
   pub spot_none : (d k : ℕ) (spot : Spot) → d < length problem.domains → k < count_at problem d → ((j : ℕ) → j < width_at problem d → kind (class_at d) j ≡ spot → ⊥) → slots_for problem (At (heap_number problem (object d k)) spot) ≡ []
-  spot_none d k spot a b never = filter_none (λ s. is_same_place (slot_at problem s).place (At (heap_number problem (object d k)) spot)) 0 (length (slots problem)) (λ s l h. false_unless (is_same_place (slot_at problem s).place (At (heap_number problem (object d k)) spot)) (λ t. let r = place_is d k spot a b s (omega (arith, h)) t in never r.0 r.2 r.3))
+  spot_none d k spot a b never = filter_none (λ s. is_same_place (slot_at problem s).place (At (heap_number problem (object d k)) spot)) 0 (length (slots problem)) (λ s l h. false_from_ne_true (is_same_place (slot_at problem s).place (At (heap_number problem (object d k)) spot)) (λ t. let r = place_is d k spot a b s (omega (arith, h)) t in never r.0 r.2 r.3))
 
   pub spot_slots : (d k j : ℕ) → d < length problem.domains → k < count_at problem d → j < width_at problem d → slots_for problem (At (heap_number problem (object d k)) (kind (class_at d) j)) ≡ (first_slot problem d k + j) ∷ []
   spot_slots d k j a b c =
       let r = object_slot problem d k j a b c in
       filter_stretch (λ s. is_same_place (slot_at problem s).place place) 0 (length (slots problem)) at 1 (omega arith) (omega (arith, r.0))
       (λ s l h. let e : at ≡ s = omega (arith, l, h) in rw (sym e, r.1, spot_is d j a c, eq-eqb number number refl, same_spot (kind (class_at d) j)) refl)
-      (λ s l h out. false_unless (is_same_place (slot_at problem s).place place) (λ t. let q = place_is d k (kind (class_at d) j) a b s (omega (arith, h)) t in off s out (q.1 ∙ ap (λ (n : ℕ). first_slot problem d k + n) (kind_apart (class_at d) q.0 j q.3))))
+      (λ s l h out. false_from_ne_true (is_same_place (slot_at problem s).place place) (λ t. let q = place_is d k (kind (class_at d) j) a b s (omega (arith, h)) t in off s out (q.1 ∙ ap (λ (n : ℕ). first_slot problem d k + n) (kind_apart (class_at d) q.0 j q.3))))
     where
       number : ℕ
       number = heap_number problem (object d k)
@@ -300,7 +292,7 @@ module _ (problem : Problem) (w : IsWellFormed problem) where
   pub this_slots : slots_for problem This ≡ 0 ∷ []
   this_slots = filter_stretch (λ s. is_same_place (slot_at problem s).place This) 0 (length (slots problem)) 0 1 (omega arith) (omega arith)
       (λ s l h. let e : 0 ≡ s = omega (arith, l, h) in rw (sym e) refl)
-      (λ s l h out. false_unless (is_same_place (slot_at problem s).place This) (λ t. go s t out (slot_case problem s (omega (arith, h)))))
+      (λ s l h out. false_from_ne_true (is_same_place (slot_at problem s).place This) (λ t. go s t out (slot_case problem s (omega (arith, h)))))
     where
       go : (s : ℕ) → is_same_place (slot_at problem s).place This ≡ true → (s < 0) ⊎ (0 + 1 ≤ s) → SlotCase problem s → ⊥
       go s t (inl lt) c = absurd (omega (arith, lt))
@@ -313,7 +305,7 @@ module _ (problem : Problem) (w : IsWellFormed problem) where
       let r = parameter_slot problem i h in
       filter_stretch (λ s. is_same_place (slot_at problem s).place (Parameter i)) 0 (length (slots problem)) (i + 1) 1 (omega arith) (omega (arith, r.0))
       (λ s l h. let e : i + 1 ≡ s = omega (arith, l, h) in rw (sym e, r.1) (eq-eqb i i refl))
-      (λ s l h out. false_unless (is_same_place (slot_at problem s).place (Parameter i)) (λ t. go s t out (slot_case problem s (omega (arith, h)))))
+      (λ s l h out. false_from_ne_true (is_same_place (slot_at problem s).place (Parameter i)) (λ t. go s t out (slot_case problem s (omega (arith, h)))))
     where
       off : (s : ℕ) → (s < i + 1) ⊎ (i + 1 + 1 ≤ s) → s ≡ i + 1 → ⊥
       off s (inl lt) q = absurd (omega (arith, lt, q))
@@ -339,7 +331,7 @@ module _ (problem : Problem) (w : IsWellFormed problem) where
   pub heap_class : (v : List ℕ) (d k : ℕ) → d < length problem.domains → k < count_at problem d → (object_in (heap_of problem v) (heap_number problem (object d k))).class ≡ (domain_at problem d).class
   heap_class v d k a b = ap (λ (x : HeapObject). x.class) (heap_get v d k a b)
 
-  -- what an object has, by its class
+  -- the places of an object, by its class
   abbrev pub values_of_class : List ℕ → ℕ → ℕ → Class → List Value
   values_of_class v d k c = values_there c (map (value_at problem v) (range_with_len (first_slot problem d k) (extent_of c (width_at problem d) (value_at problem v (first_slot problem d k)))))
 
@@ -357,7 +349,7 @@ module _ (problem : Problem) (w : IsWellFormed problem) where
   pub heap_past : (v : List ℕ) (d k c f : ℕ) → d < length problem.domains → k < count_at problem d → class_at d ≡ Object c → width_at problem d ≤ f → value_of_spot (object_in (heap_of problem v) (heap_number problem (object d k))) (Field f) ≡ Null
   heap_past v d k c f a b e l = ap (λ (x : List Value). get_or x f Null) (heap_values v d k (Object c) a b e) ∙ get_or_past (map (value_at problem v) (range_with_len (first_slot problem d k) (width_at problem d))) f Null (omega (arith, l, length-map-range_with_len (value_at problem v) (first_slot problem d k) (width_at problem d)))
 
-  -- an array is as long as its first slot says, and an element has the value of its slot
+  -- an array's length is the value of its first slot, and an element has the value of its slot
   pub heap_length : (v : List ℕ) (d k t : ℕ) → d < length problem.domains → k < count_at problem d → class_at d ≡ Array t → length (object_in (heap_of problem v) (heap_number problem (object d k))).values ≡ length_in (value_at problem v (first_slot problem d k))
   heap_length v d k t a b e = ap (λ (x : List Value). length x) (heap_values v d k (Array t) a b e) ∙ length-map-range_with_len (value_at problem v) (first_slot problem d k + 1) (length_in (value_at problem v (first_slot problem d k)))
 

@@ -2,7 +2,7 @@
 use Rattle.std.proofs.Common.{◌≡◌, ℕ, zero, suc, ◌+◌, ◌-◌, ◌<◌, ◌≤◌, ◌⊎◌, inl, inr, Bool, true, false, List, [], ◌∷◌, ◌++◌, length, get_or, Option, Some, None, refl, sym, ap, ◌∙◌, arith, subst}
 use Rattle.std.specs.Prelude.{map, filter, flat_map, not, ◌==◌, if◌then◌else◌}
 use Rattle.std.proofs.lemmas.List.{append-nil, length-append, length-map}
-use Rattle.std.proofs.lemmas.Bool.{eq-eqb, eqb-true}
+use Rattle.std.proofs.lemmas.Bool.{eq-eqb, eqb-true, cases_Bool}
 use Rattle.kr_mean.specs.Problem.{Problem, DomainObject, Choice, slots, slot_at, all_objects, heap_number, object_choice, choices_in}
 use Rattle.kr_mean.specs.Space.{no_choice}
 use Rattle.kr_mean.specs.Heaps.{distinct, value_at, choice_at, is_same_object, slots_in, objects_of, objects_at, root_slots, met_within}
@@ -10,7 +10,7 @@ use Rattle.kr_mean.specs.Readings.{Differ}
 use Rattle.kr_mean.specs.WellFormed.{IsPlain, IsWellFormed}
 use Rattle.kr_value.specs.declared.value.Value.{Value}
 use Rattle.kr_value.specs.declared.value.Value.TheVariants.{Int, Bool as Truth, Null, Ref as Reference}
-use Rattle.kr_laws_slots.proofs.Membership.{Has, bool_cases, has_append_left, has_append_right, has_map_from, has_filter, has_filter_from, has_range}
+use Rattle.kr_laws_slots.proofs.Membership.{Has, has_append_left, has_append_right, has_map_from, has_filter, has_filter_from, has_range}
 use Rattle.kr_laws_slots.proofs.Numbers.{no_lacks}
 use Rattle.kr_laws_slots.proofs.Numbering.{object, nobody, count_at, parameters, first_slot, parameter_slot, object_slot, object_at_number}
 use Rattle.kr_laws_slots.proofs.Spaces.{block_of, plain_choice}
@@ -42,7 +42,7 @@ apart_distinct same one (x ∷ xs) =
 pub has_distinct : {X : Type 0} (same : X → X → Bool) → ((x y : X) → same x y ≡ true → x ≡ y) → (x : X) (xs : List X) → Has x xs → Has x (distinct same xs)
 has_distinct same eq x [] h = absurd h
 has_distinct same eq x (y ∷ ys) (inl e) = inl e
-has_distinct {X} same eq x (y ∷ ys) (inr h) = go (bool_cases (same y x)) (has_distinct same eq x ys h)
+has_distinct {X} same eq x (y ∷ ys) (inr h) = go (cases_Bool (same y x)) (has_distinct same eq x ys h)
   where
     go : (same y x ≡ true) ⊎ (same y x ≡ false) → Has x (distinct same ys) → Has x (distinct same (y ∷ ys))
     go (inl e) r = inl (eq y x e)
@@ -61,7 +61,7 @@ has_flat f y x (z ∷ xs) (inr h) k = has_append_right y (f z) (flat_map f xs) (
 
 keeps_all : (n : ℕ) (xs : List ℕ) → (Has n xs → ⊥) → length (filter (λ y. not (n == y)) xs) ≡ length xs
 keeps_all n [] h = refl
-keeps_all n (x ∷ xs) h = go (bool_cases (n == x)) (keeps_all n xs (λ i. h (inr i)))
+keeps_all n (x ∷ xs) h = go (cases_Bool (n == x)) (keeps_all n xs (λ i. h (inr i)))
   where
     go : ((n == x) ≡ true) ⊎ ((n == x) ≡ false) → length (filter (λ y. not (n == y)) xs) ≡ length xs → length (filter (λ y. not (n == y)) (x ∷ xs)) ≡ length (x ∷ xs)
     go (inl e) r = absurd (h (inl (sym (eqb-true n x e))))
@@ -69,7 +69,7 @@ keeps_all n (x ∷ xs) h = go (bool_cases (n == x)) (keeps_all n xs (λ i. h (in
 
 drops_one : (n : ℕ) (xs : List ℕ) → Apart xs → length xs ≤ suc (length (filter (λ y. not (n == y)) xs))
 drops_one n [] h = omega arith
-drops_one n (x ∷ xs) h = go (bool_cases (n == x)) (drops_one n xs h.1)
+drops_one n (x ∷ xs) h = go (cases_Bool (n == x)) (drops_one n xs h.1)
   where
     go : ((n == x) ≡ true) ⊎ ((n == x) ≡ false) → length xs ≤ suc (length (filter (λ y. not (n == y)) xs)) → length (x ∷ xs) ≤ suc (length (filter (λ y. not (n == y)) (x ∷ xs)))
     go (inl e) r =
@@ -89,13 +89,13 @@ at_most (suc n) xs h b =
     omega (arith, r, drops_one n xs h)
   where
     small : (n y : ℕ) → y < suc n → not (n == y) ≡ true → y < n
-    small n y l e = go (bool_cases (n == y))
+    small n y l e = go (cases_Bool (n == y))
       where
         go : ((n == y) ≡ true) ⊎ ((n == y) ≡ false) → y < n
         go (inl q) = absurd (cc (e, q))
         go (inr q) = let d : n ≡ y → ⊥ = λ z. absurd (cc (q, eq-eqb n y z)) in omega (arith, l, d)
 
--- ---- what the walk meets
+-- ---- objects that the walk meets
 
 module _ (problem : Problem) (w : IsWellFormed problem) (v : List ℕ) where
   abbrev N : ℕ

@@ -3,7 +3,7 @@ use Rattle.std.proofs.Common.{◌≡◌, ℕ, zero, suc, ◌+◌, ◌-◌, ◌*�
 use Rattle.std.specs.Prelude.{◌==◌, ◌&&◌}
 use Rattle.std.specs.List.{range_with_len}
 use Rattle.std.proofs.lemmas.List.FromFn.{length-map-range_with_len, get_or-map-range_with_len}
-use Rattle.std.proofs.lemmas.Bool.{eq-eqb, eqb-true}
+use Rattle.std.proofs.lemmas.Bool.{eq-eqb, eqb-true, and_parts, cases_Bool}
 use Rattle.kr_value.specs.declared.object.Spot.{Spot}
 use Rattle.kr_value.specs.declared.object.Spot.TheVariants.{Field, Length, Element}
 use Rattle.kr_mean.specs.Places.{SlotPlace, This, Parameter, At}
@@ -15,14 +15,9 @@ use Rattle.kr_mean.specs.Runs.{is_same_spot}
 use Rattle.kr_mean.specs.Entries.{are_same_objects, is_at_same_spot, is_renamed_slot, is_renamed_index, first_that, renamed_from, renamed_at, renamed}
 use Rattle.kr_iso.proofs.Least.{renamed_along}
 use Rattle.kr_iso.proofs.Moves.{lands, turns, one_source, one_target}
-use Rattle.kr_laws_slots.proofs.Membership.{bool_cases}
 use Rattle.kr_laws_slots.proofs.Places.{same_objects, same_object}
 
--- ---- the tests say what they test
-
-both : (a b : Bool) → (a && b) ≡ true → (a ≡ true) × (b ≡ true)
-both true b e = (refl, e)
-both false b e = absurd (cc (e))
+-- ---- tests and the relations that they decide
 
 objects_are : (x y : Option DomainObject) → are_same_objects x y ≡ true → x ≡ y
 objects_are None None e = refl
@@ -77,7 +72,7 @@ place_passes (At o x) (At p y) h = subst (λ (z : Spot). is_same_spot x z ≡ tr
 
 slot_is : (space : Space) (name : ℕ → ℕ → ℕ) (s t : ℕ) → is_renamed_slot space name s t ≡ true → IsRenamedSlot space name s t
 slot_is space name s t e =
-    let r = both (are_same_objects (space.owner t) (renamed_owner name (space.owner s))) (is_at_same_spot (space.place s) (space.place t)) e in
+    let r = and_parts (are_same_objects (space.owner t) (renamed_owner name (space.owner s))) (is_at_same_spot (space.place s) (space.place t)) e in
     record { owner = objects_are (space.owner t) (renamed_owner name (space.owner s)) r.0; spot = place_is (space.place s) (space.place t) r.1 }
 
 slot_passes : (space : Space) (name : ℕ → ℕ → ℕ) (s t : ℕ) → IsRenamedSlot space name s t → is_renamed_slot space name s t ≡ true
@@ -87,7 +82,7 @@ slot_passes space name s t a =
 index_is : (space : Space) (name : ℕ → ℕ → ℕ) (x : Option DomainObject) (s i t j : ℕ) → is_renamed_index space name x s i t j ≡ true → IsRenamedIndex space name x s i t j
 index_is space name None s i t j e = eqb-true j i e
 index_is space name (Some o) s i t j e =
-    let r = both (are_same_objects (space.object_at t j) (Some (renamed_object name o))) (space.item t j == space.item s i) e in
+    let r = and_parts (are_same_objects (space.object_at t j) (Some (renamed_object name o))) (space.item t j == space.item s i) e in
     (objects_are (space.object_at t j) (Some (renamed_object name o)) r.0, eqb-true (space.item t j) (space.item s i) r.1)
 
 index_passes : (space : Space) (name : ℕ → ℕ → ℕ) (x : Option DomainObject) (s i t j : ℕ) → IsRenamedIndex space name x s i t j → is_renamed_index space name x s i t j ≡ true
@@ -103,7 +98,7 @@ record Found (p : ℕ → Bool) (a m : ℕ) : Type 0 where
 
 found : (p : ℕ → Bool) (a m x : ℕ) → a ≤ x → x < a + m → p x ≡ true → Found p a m
 found p a zero x l h e = absurd (omega (arith, l, h))
-found p a (suc m) x l h e = go (bool_cases (p a)) (λ lt. found p (a + 1) m x (omega (arith, lt)) (omega (arith, h)) e)
+found p a (suc m) x l h e = go (cases_Bool (p a)) (λ lt. found p (a + 1) m x (omega (arith, lt)) (omega (arith, h)) e)
   where
     go : (p a ≡ true) ⊎ (p a ≡ false) → (a < x → Found p (a + 1) m) → Found p a (suc m)
     go (inl t) f = record { passes = rw t t; within = rw t (omega arith) }
@@ -117,7 +112,7 @@ found p a (suc m) x l h e = go (bool_cases (p a)) (λ lt. found p (a + 1) m x (o
 
 first_within : (p : ℕ → Bool) (a m n : ℕ) → a + m ≤ n → 0 < n → first_that p (range_with_len a m) < n
 first_within p a zero n l h = h
-first_within p a (suc m) n l h = go (bool_cases (p a)) (first_within p (a + 1) m n (omega (arith, l)) h)
+first_within p a (suc m) n l h = go (cases_Bool (p a)) (first_within p (a + 1) m n (omega (arith, l)) h)
   where
     go : (p a ≡ true) ⊎ (p a ≡ false) → first_that p (range_with_len (a + 1) m) < n → first_that p (range_with_len a (suc m)) < n
     go (inl t) r = rw t (omega (arith, l))

@@ -2,9 +2,9 @@
 use Rattle.std.proofs.Common.{◌≡◌, ℕ, ◌⊎◌, inl, inr, Bool, true, false, List, [], ◌∷◌, ◌++◌, refl, sym, ap, ◌∙◌, subst}
 use Rattle.std.specs.Prelude.{map, filter, not, ◌==◌, if◌then◌else◌}
 use Rattle.std.proofs.lemmas.List.Elements.{filter-append}
-use Rattle.std.proofs.lemmas.Bool.{eq-eqb, eqb-true}
+use Rattle.std.proofs.lemmas.Bool.{eq-eqb, eqb-true, cases_Bool}
 use Rattle.kr_mean.specs.Heaps.{distinct}
-use Rattle.kr_laws_slots.proofs.Membership.{Has, bool_cases}
+use Rattle.kr_laws_slots.proofs.Membership.{Has}
 use Rattle.kr_laws_runs.proofs.Respects.{AllOf}
 
 -- The next slot is the same, up to names, and known, as long as the two agree on those before; where they agree to the
@@ -97,7 +97,7 @@ module _ (on : ℕ → ℕ) (A : ℕ → Type 0) where
     slots_without X x [] [] k a f = f
     slots_without X x [] (t ∷ ts) k a f = absurd f
     slots_without X x (s ∷ ss) [] k a f = absurd f
-    slots_without X x (s ∷ ss) (t ∷ ts) k a f = go (bool_cases (x == s)) (λ b. slots_without X x ss ts k a (f.2 b))
+    slots_without X x (s ∷ ss) (t ∷ ts) k a f = go (cases_Bool (x == s)) (λ b. slots_without X x ss ts k a (f.2 b))
       where
         go : ((x == s) ≡ true) ⊎ ((x == s) ≡ false) → (A s → SlotForks on K A X (filter (λ y. not (x == y)) ss) (filter (λ y. not (on x == y)) ts)) → SlotForks on K A X (filter (λ y. not (x == y)) (s ∷ ss)) (filter (λ y. not (on x == y)) (t ∷ ts))
         go (inl e) r =
@@ -105,7 +105,7 @@ module _ (on : ℕ → ℕ) (A : ℕ → Type 0) where
             let d : (on x == t) ≡ true = eq-eqb (on x) t (ap on q ∙ sym f.0) in
             rw (e, d) (r (subst A q a))
         go (inr e) r =
-            let d : (on x == t) ≡ false = off (bool_cases (on x == t)) in
+            let d : (on x == t) ≡ false = off (cases_Bool (on x == t)) in
             rw (e, d) (f.0, f.1, r)
           where
             off : ((on x == t) ≡ true) ⊎ ((on x == t) ≡ false) → (on x == t) ≡ false
@@ -122,7 +122,7 @@ module _ (on : ℕ → ℕ) (A : ℕ → Type 0) where
 -- ---- each once
 
 module _ {X : Type 0} (same : X → X → Bool) where
-  -- what a second list adds to a first
+  -- the elements that a second list adds to a first
   abbrev pub added : List X → List X → List X
   added [] ys = distinct same ys
   added (x ∷ xs) ys = filter (λ y. not (same x y)) (added xs ys)

@@ -16,7 +16,7 @@ some_is a b e = cc
 
 -- ---- blocks
 
--- an object's block among the choices of a domain: where one stands, all of its class domain do, in order
+-- an object's block among the choices of a domain: with one object there are all of its class domain, in order
 pub record InBlock (problem : Problem) (domain : Domain) (i : ℕ) (o : DomainObject) : Type 0 where
   pub in_domain : o.domain < length problem.domains
   pub in_number : o.number < count_at problem o.domain

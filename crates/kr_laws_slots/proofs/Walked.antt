@@ -4,6 +4,7 @@ use Rattle.std.specs.Prelude.{map, flat_map, pos, negsuc}
 use Rattle.std.specs.List.{range_with_len}
 use Rattle.std.proofs.lemmas.List.{map-append, append_cancel_left}
 use Rattle.std.proofs.lemmas.List.Concat.{flat_map-append}
+use Rattle.std.proofs.lemmas.Bool.{cases_Bool}
 use Rattle.kr_mean.specs.Problem.{Problem, DomainObject, slots, slot_at, all_objects}
 use Rattle.kr_mean.specs.Space.{space_of, IsRenaming, renamed_object}
 use Rattle.kr_mean.specs.Heaps.{distinct, length_in, value_at, choice_at, is_same_object, slots_in, objects_of, objects_at, root_slots, met_within, walk}
@@ -12,7 +13,6 @@ use Rattle.kr_value.specs.declared.object.Class.{Class}
 use Rattle.kr_value.specs.declared.object.Class.TheVariants.{Object, Array, Set, List as ListClass}
 use Rattle.kr_value.specs.declared.value.Value.{Value}
 use Rattle.kr_value.specs.declared.value.Value.TheVariants.{Int, Bool as Truth, Null, Ref as Reference}
-use Rattle.kr_laws_slots.proofs.Membership.{bool_cases}
 use Rattle.kr_laws_slots.proofs.Numbering.{object, count_at, width_at, parameters, first_slot, object_slot, slots_long}
 use Rattle.kr_laws_slots.proofs.Spaces.{block_of}
 use Rattle.kr_laws_slots.proofs.Places.{class_at, extent_of, extent, extent_within, slots_in_are, same_objects, same_object}
@@ -115,7 +115,7 @@ module _ (problem : Problem) (w : IsWellFormed problem) (name : ℕ → ℕ → 
   go_on s = on problem w name n s
 
   one_same : (x y : DomainObject) → Valid problem x → Valid problem y → is_same_object (ren x) (ren y) ≡ is_same_object x y
-  one_same x y hx hy = go (bool_cases (is_same_object x y)) (bool_cases (is_same_object (ren x) (ren y)))
+  one_same x y hx hy = go (cases_Bool (is_same_object x y)) (cases_Bool (is_same_object (ren x) (ren y)))
     where
       go : (is_same_object x y ≡ true) ⊎ (is_same_object x y ≡ false) → (is_same_object (ren x) (ren y) ≡ true) ⊎ (is_same_object (ren x) (ren y) ≡ false) → is_same_object (ren x) (ren y) ≡ is_same_object x y
       go (inl a) (inl b) = b ∙ sym a
@@ -181,7 +181,7 @@ module _ (problem : Problem) (w : IsWellFormed problem) (name : ℕ → ℕ → 
     abbrev Both : ℕ → Type 0
     Both k = met_within problem u k ≡ map ren (met_within problem v k)
 
-    -- an object's slots: of an array the length says how many there are
+    -- an object's slots: of an array as many as its length
     object_fork : (o : DomainObject) → Valid problem o → SlotForks go_on (Below problem) A (Unit {0}) (slots_in problem v o) (slots_in problem u (ren o))
     object_fork o h =
         let here = slots_in_are problem w v o.domain o.number h.0 h.1 in

@@ -1,2 +1,2 @@
-//! What holds of slots, walks and reads of every problem: lemmas that crates which run stand on. Nothing here runs.
+//! Lemmas on slots, walks and reads of every problem, which crates that run use. Nothing here runs.
 #![tactic(auto)]

@@ -1,6 +1,7 @@
--- Each expression without broken nodes has a type that expressions have where it stands.
+-- Each expression without broken nodes has a type that expressions have at its position.
 use Rattle.std.proofs.Common.{◌≡◌, ℕ, Bool, true, false, List, [], ◌∷◌, ◌++◌, Option, Some, None, refl, sym, ap, ◌∙◌, subst}
 use Rattle.std.specs.Prelude.{◌&&◌, bytes_eq, codes, if◌then◌else◌}
+use Rattle.std.proofs.lemmas.Bool.{and_parts}
 use Rattle.kr_base.specs.declared.place.Place.{Place}
 use Rattle.kr_ast.specs.declared.node.Primitive.TheVariants as primitives
 use Rattle.kr_ast.specs.declared.node.UnaryOperator.{UnaryOperator}
@@ -59,16 +60,12 @@ joined_good here (Variable t) Untyped h k = refl
 
 -- ---- types that are written
 
--- what a type's node is known as
+-- the type of a type's node
 abbrev IsVariables : Typed → Type 0
 IsVariables (Value t) = is_variable_type t ≡ true
 IsVariables (Variable t) = ⊥
 IsVariables (Values ts) = ⊥
 IsVariables Untyped = Unit {0}
-
-both_true : (a b : Bool) → (a && b) ≡ true → (a ≡ true) × (b ≡ true)
-both_true true b e = (refl, e)
-both_true false b e = absurd (cc (e))
 
 type_variables : (p : Place) (t : JavaType) (below : List Fault) → (is_known t ≡ true → is_variable_type t ≡ true) → IsVariables (judge p (type_rule t) below).typed
 type_variables p t below h = go (is_known t) refl
@@ -83,8 +80,8 @@ class_variables None o n e = absurd (cc (e))
 
 collection_variables : (b c : Bool) (n : List ℕ) (t : JavaType) → is_variable_type t ≡ true → is_known (if b then SetType t else if c then ListType t else AppliedType (UnknownType [] n) t) ≡ true
     → is_variable_type (if b then SetType t else if c then ListType t else AppliedType (UnknownType [] n) t) ≡ true
-collection_variables true c n t h e = ap (λ (x : Bool). x && is_variable_type t) (both_true (is_known t) (is_element t) e).1 ∙ h
-collection_variables false true n t h e = ap (λ (x : Bool). x && is_variable_type t) (both_true (is_known t) (is_element t) e).1 ∙ h
+collection_variables true c n t h e = ap (λ (x : Bool). x && is_variable_type t) (and_parts (is_known t) (is_element t) e).1 ∙ h
+collection_variables false true n t h e = ap (λ (x : Bool). x && is_variable_type t) (and_parts (is_known t) (is_element t) e).1 ∙ h
 collection_variables false false n t h e = absurd (cc (e))
 
 applied_variables : (h t : JavaType) → is_variable_type t ≡ true → is_known (applied h t) ≡ true → is_variable_type (applied h t) ≡ true
@@ -133,7 +130,7 @@ written_variable s t h f = let r = written_type s t h f in (r.0, r.1, kind (judg
     kind (Values ts) u e g = absurd g
     kind Untyped u e g = absurd (cc (e))
 
--- the types behind `new`: those of which objects can be made are types of values
+-- the types after `new`: those of which objects can be made are types of values
 abbrev IsMadeOf : Typed → Type 0
 IsMadeOf (Value t) = (s : Scope) (ts : List JavaType) → creation_fits s t ts ≡ true → is_value_type t ≡ true
 IsMadeOf (Variable t) = ⊥

@@ -1,10 +1,11 @@
 -- The kinds of types that the typing rules give.
 use Rattle.std.proofs.Common.{◌≡◌, ℕ, Bool, true, false, List, [], ◌∷◌, length, Option, Some, None, refl, ap, ◌∙◌}
 use Rattle.std.specs.Prelude.{◌&&◌, ◌||◌, not, bytes_eq, codes, option_and_then, if◌then◌else◌}
+use Rattle.std.proofs.lemmas.Bool.{and_parts, or_right}
 use Rattle.kr_ast.specs.declared.node.UnaryOperator.{UnaryOperator}
 use Rattle.kr_ast.specs.declared.node.UnaryOperator.TheVariants as unaries
 use Rattle.kr_ast.specs.declared.node.BinaryOperator.{BinaryOperator}
-use Rattle.kr_classes_table.specs.Types.{JavaType, IntType, BooleanType, NullType, VoidType, ClassType, ArrayType, SetType, ListType, InferredType, UnknownType, AppliedType, is_known, is_element, is_void}
+use Rattle.kr_classes_table.specs.Types.{JavaType, IntType, BooleanType, VoidType, ClassType, ArrayType, SetType, ListType, is_known, is_element, is_void}
 use Rattle.kr_classes_table.specs.Table.{Field, Method, field_named, method_named, is_assignable, are_related}
 use Rattle.kr_classes_table.specs.Constants.{constant_only, or_else, outer_class, field_meant}
 use Rattle.kr_types_meaning.specs.declared.operators.OperatorKind.{OperatorKind}
@@ -12,16 +13,16 @@ use Rattle.kr_types_meaning.specs.declared.operators.OperatorKind.TheVariants.{A
 use Rattle.kr_types_meaning.specs.Scopes.{Scope, Local, LocalName, meant_by, meant, static_only, method_meant, super_class}
 use Rattle.kr_types_meaning.specs.Rules as rules
 use Rattle.kr_types_meaning.specs.Promotion.{promoted, promoted_alone, is_number}
-use Rattle.kr_types_meaning.specs.Rules.{Typed, Value, Variable, Values, Untyped, Judgement, Fits, Breaks, ask, gives, typed_as, variable_of, number_rule, this_rule, name_rule, unary_rule, operator_rule, choice_rule, cast_rule, instance_rule, written_rule, is_broken, assignment_rule, compound_rule, step_rule, field_rule, access_rule, constant_rule, element_rule, result_rule, arguments_rule, call_rule, static_rule, above_rule, super_rule, plain_call_rule, member_call_rule, collection_rule, method_rule, object_call_rule, creation_fits, creation_rule, array_creation_rule, result_value_rule, old_rule, is_statement, of_promoted, both_boolean, kind_of, kind_rule}
+use Rattle.kr_types_meaning.specs.Rules.{Typed, Value, Variable, Values, Untyped, Judgement, Fits, Breaks, ask, gives, variable_of, number_rule, this_rule, name_rule, unary_rule, operator_rule, choice_rule, cast_rule, instance_rule, written_rule, is_broken, assignment_rule, compound_rule, step_rule, field_rule, access_rule, constant_rule, element_rule, result_rule, arguments_rule, call_rule, static_rule, above_rule, super_rule, collection_rule, method_rule, object_call_rule, creation_fits, creation_rule, array_creation_rule, result_value_rule, old_rule, is_statement, of_promoted, both_boolean, kind_of, kind_rule}
 use Rattle.kr_laws_types.specs.Types.{is_variable_type, is_result_type, is_inferred, is_value_type, is_expression_type, AreVariables, HasVariables}
 
--- ---- what is known of a node
+-- ---- a node's type
 
 abbrev pub AreValues : List JavaType → Type 0
 AreValues [] = Unit {0}
 AreValues (t ∷ ts) = (is_value_type t ≡ true) × AreValues ts
 
--- of an expression that may be written or not, and that stands as a statement or not
+-- of an expression that may be written or not, and that is a statement or not
 abbrev pub Good : Bool → Bool → Typed → Type 0
 Good place statement Untyped = Unit {0}
 Good place statement (Value t) = is_expression_type statement t ≡ true
@@ -42,21 +43,13 @@ fine_if place statement false v w h k = k
 
 -- ---- kinds of types
 
-both_true : (a b : Bool) → (a && b) ≡ true → (a ≡ true) × (b ≡ true)
-both_true true b e = (refl, e)
-both_true false b e = absurd (cc (e))
-
-or_second : (a b : Bool) → b ≡ true → (a || b) ≡ true
-or_second true b e = refl
-or_second false b e = e
-
 pub variable_value : (t : JavaType) → is_variable_type t ≡ true → is_value_type t ≡ true
 variable_value IntType e = refl
 variable_value BooleanType e = refl
 variable_value (ClassType c) e = refl
 variable_value (ArrayType t) e = e
-variable_value (SetType t) e = or_second (is_inferred t) _ e
-variable_value (ListType t) e = or_second (is_inferred t) _ e
+variable_value (SetType t) e = or_right (is_inferred t) _ e
+variable_value (ListType t) e = or_right (is_inferred t) _ e
 variable_value _ e = absurd (cc (e))
 
 pub variable_known : (t : JavaType) → is_variable_type t ≡ true → is_known t ≡ true
@@ -64,12 +57,12 @@ variable_known IntType e = refl
 variable_known BooleanType e = refl
 variable_known (ClassType c) e = refl
 variable_known (ArrayType t) e = variable_known t e
-variable_known (SetType t) e = let r = both_true (is_element t) (is_variable_type t) e in ap (λ (b : Bool). b && is_element t) (variable_known t r.1) ∙ r.0
-variable_known (ListType t) e = let r = both_true (is_element t) (is_variable_type t) e in ap (λ (b : Bool). b && is_element t) (variable_known t r.1) ∙ r.0
+variable_known (SetType t) e = let r = and_parts (is_element t) (is_variable_type t) e in ap (λ (b : Bool). b && is_element t) (variable_known t r.1) ∙ r.0
+variable_known (ListType t) e = let r = and_parts (is_element t) (is_variable_type t) e in ap (λ (b : Bool). b && is_element t) (variable_known t r.1) ∙ r.0
 variable_known _ e = absurd (cc (e))
 
 pub value_expression : (b : Bool) (t : JavaType) → is_value_type t ≡ true → is_expression_type b t ≡ true
-value_expression true t e = or_second (is_void t) (is_value_type t) e
+value_expression true t e = or_right (is_void t) (is_value_type t) e
 value_expression false t e = e
 
 pub result_known : (t : JavaType) → is_result_type t ≡ true → is_known t ≡ true
@@ -265,7 +258,7 @@ module _ (s : Scope) (has : HasVariables s.table) where
   collection_fine is_list t n [] h =
       fine_if false (is_statement s.role) (bytes_eq n (codes "size")) (Fits (Value IntType)) _ (good_int false (is_statement s.role))
       (fine_if false (is_statement s.role) (bytes_eq n (codes "isEmpty")) (Fits (Value BooleanType)) _ (good_boolean false (is_statement s.role))
-      (fine_ask false (is_statement s.role) (bytes_eq n (codes "removeFirst") && is_list && is_element t) 25 (Fits (Value t)) (λ q. good_value false (is_statement s.role) t (member_good t h (both_true (bytes_eq n (codes "removeFirst") && is_list) (is_element t) q).1))))
+      (fine_ask false (is_statement s.role) (bytes_eq n (codes "removeFirst") && is_list && is_element t) 25 (Fits (Value t)) (λ q. good_value false (is_statement s.role) t (member_good t h (and_parts (bytes_eq n (codes "removeFirst") && is_list) (is_element t) q).1))))
   collection_fine is_list t n (x ∷ []) h =
       fine_if false (is_statement s.role) (bytes_eq n (codes "add")) _ _ (fine_ask false (is_statement s.role) (is_assignable s.table x t) 25 (Fits (Value BooleanType)) (λ q. good_boolean false (is_statement s.role)))
       (fine_ask false (is_statement s.role) ((bytes_eq n (codes "contains") || bytes_eq n (codes "remove")) && Rattle.kr_classes_table.specs.Types.is_reference x && not (Rattle.kr_classes_table.specs.Types.is_collection x)) 25 (Fits (Value BooleanType)) (λ q. good_boolean false (is_statement s.role)))
@@ -334,7 +327,7 @@ module _ (s : Scope) (has : HasVariables s.table) where
   this_fine = fine_ask false (is_statement s.role) _ 5 (Fits (Value (ClassType s.class))) (λ q. good_value false (is_statement s.role) (ClassType s.class) refl)
 
   pub result_fine : is_result_type s.result ≡ true → FineHere false (result_value_rule s)
-  result_fine h = fine_ask false (is_statement s.role) _ 38 (gives s.result) (λ q. good_known false (is_statement s.role) s.result (result_expression (is_statement s.role) s.result h (kept (not (is_void s.result)) (both_true _ (not (is_void s.result)) (both_true _ (not s.is_in_old) q).0).1)))
+  result_fine h = fine_ask false (is_statement s.role) _ 38 (gives s.result) (λ q. good_known false (is_statement s.role) s.result (result_expression (is_statement s.role) s.result h (kept (not (is_void s.result)) (and_parts _ (not (is_void s.result)) (and_parts _ (not s.is_in_old) q).0).1)))
     where
       kept : (b : Bool) → b ≡ true → (b || is_statement s.role) ≡ true
       kept true e = refl

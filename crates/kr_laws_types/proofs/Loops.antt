@@ -1,4 +1,4 @@
--- Whether a node stands in a loop, and what fields are declared around it, is nothing to its type.
+-- A node's type doesn't depend on whether it is in a loop, nor on the fields declared around it.
 use Rattle.std.proofs.Common.{◌≡◌, ℕ, Bool, true, false, List, [], ◌∷◌, ◌++◌, Option, Some, None, refl, sym, ap, ◌∙◌}
 use Rattle.std.specs.Prelude.{◌&&◌, ◌||◌, not, option_and_then, is_some, if◌then◌else◌}
 use Rattle.kr_base.specs.declared.place.Place.{Place}
@@ -7,14 +7,14 @@ use Rattle.kr_ast.specs.declared.node.UnaryOperator.TheVariants as unaries
 use Rattle.kr_ast.specs.declared.node.BinaryOperator.{BinaryOperator}
 use Rattle.kr_ast.specs.Tree as trees
 use Rattle.kr_ast.specs.Tree.{Tree}
-use Rattle.kr_classes_table.specs.Types.{JavaType, IntType, BooleanType, NullType, VoidType, ClassType, ArrayType, SetType, ListType, InferredType, UnknownType, AppliedType, is_known}
+use Rattle.kr_classes_table.specs.Types.{JavaType, ClassType, ArrayType, SetType, ListType, is_known}
 use Rattle.kr_classes_table.specs.Rules.{Fault}
 use Rattle.kr_classes_table.specs.Table.{Parameter, Method, applied, method_named, constructor_parameters}
 use Rattle.kr_classes_table.specs.Constants.{value_at}
 use Rattle.kr_types_meaning.specs.declared.operators.OperatorKind.{OperatorKind}
-use Rattle.kr_types_meaning.specs.declared.operators.OperatorKind.TheVariants.{Arithmetic, Shift, Comparison, Equality, Bitwise, Logical}
-use Rattle.kr_types_meaning.specs.Scopes.{Scope, Declaring, Locals, Fields, Constants, Role, AsValue, in_class, in_old, in_contract, Requiring, Ensuring, bind_local, bind_as, declaring, static_if, field_kind, after, value, statement, under_minus, in_loop, written, class_before, meant, method_meant, super_class}
-use Rattle.kr_types_meaning.specs.Rules.{Typed, Value, Variable, Values, Untyped, Judgement, Fits, Breaks, fine, ask, takes, arguments_fit, type_rule, array_rule, element_rule, result_rule, arguments_rule, call_rule, static_rule, above_rule, super_rule, method_rule, object_call_rule, creation_fits, creation_rule, array_creation_rule, unary_rule, operator_rule, choice_rule, cast_rule, instance_rule, is_broken, written_rule, assignment_rule, compound_rule, step_rule, access_rule, constant_rule, old_rule, contract_rule, condition_rule, return_rule, jump_rule, declaration_rule, initial_fits, is_new, is_simple, parameter_rule, super_constructor_rule, implied_rule, kind_of, kind_rule}
+use Rattle.kr_types_meaning.specs.declared.operators.OperatorKind.TheVariants.{Equality}
+use Rattle.kr_types_meaning.specs.Scopes.{Scope, Declaring, Locals, Fields, Constants, in_old, in_contract, Requiring, Ensuring, bind_local, bind_as, declaring, after, value, statement, in_loop, written, class_before, meant, method_meant, super_class}
+use Rattle.kr_types_meaning.specs.Rules.{Typed, Value, Variable, Values, Untyped, Judgement, Fits, Breaks, fine, ask, takes, arguments_fit, type_rule, array_rule, element_rule, result_rule, arguments_rule, call_rule, static_rule, above_rule, super_rule, method_rule, object_call_rule, creation_fits, creation_rule, array_creation_rule, unary_rule, operator_rule, choice_rule, cast_rule, instance_rule, is_broken, written_rule, assignment_rule, compound_rule, step_rule, access_rule, old_rule, contract_rule, condition_rule, return_rule, jump_rule, declaration_rule, initial_fits, is_new, is_simple, parameter_rule, super_constructor_rule, implied_rule, kind_of, kind_rule}
 use Rattle.kr_types_meaning.specs.Typing.{Judged, judge, on_one, on_two, on_list, on_maybe, leaf, joined, field_of, method_of, operand, judged, type_in}
 use Rattle.kr_types_meaning.specs.Running.{locals_only, local_type, elsewhere, running}
 use Rattle.kr_laws_types.specs.Running.{AreSame, IsSameRunning}

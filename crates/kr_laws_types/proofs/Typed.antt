@@ -6,18 +6,19 @@ use Rattle.kr_ast.specs.declared.node.UnaryOperator.{UnaryOperator}
 use Rattle.kr_ast.specs.declared.node.UnaryOperator.TheVariants as unaries
 use Rattle.kr_ast.specs.Tree as trees
 use Rattle.kr_ast.specs.Tree.{Tree}
-use Rattle.kr_classes_table.specs.Types.{JavaType, IntType, BooleanType, NullType, VoidType, ClassType, ArrayType, SetType, ListType, InferredType, UnknownType, AppliedType, is_known, is_element, is_void}
+use Rattle.kr_classes_table.specs.Types.{JavaType, IntType, BooleanType, NullType, ClassType, ArrayType, SetType, ListType, InferredType, AppliedType, is_known, is_element, is_void}
 use Rattle.kr_classes_table.specs.Rules.{Fault}
 use Rattle.kr_classes_table.specs.Table.{Table, Field, Method, applied, field_named, method_named, is_assignable}
 use Rattle.kr_classes_table.specs.Constants.{constant_only, or_else, outer_class, field_meant}
 use Rattle.kr_types_meaning.specs.declared.operators.OperatorKind.{OperatorKind}
 use Rattle.kr_types_meaning.specs.declared.operators.OperatorKind.TheVariants.{Arithmetic, Shift, Comparison, Equality, Bitwise, Logical}
-use Rattle.kr_types_meaning.specs.Scopes.{Scope, Local, Meant, LocalName, FieldName, NoName, written, value, in_old, under_minus, meant_by, field_or_none, meant, class_before, static_only, method_meant, super_class}
+use Rattle.kr_types_meaning.specs.Scopes.{Scope, Local, LocalName, written, value, in_old, meant_by, meant, class_before, static_only, method_meant, super_class}
 use Rattle.kr_types_meaning.specs.Promotion.{promoted, promoted_alone, is_number}
-use Rattle.kr_types_meaning.specs.Rules.{Typed, Value, Variable, Values, Untyped, Judgement, Fits, Breaks, ask, gives, typed_as, variable_of, type_rule, diamond_rule, array_rule, number_rule, this_rule, name_rule, unary_rule, operator_rule, choice_rule, cast_rule, instance_rule, written_rule, is_broken, assignment_rule, compound_rule, step_rule, field_rule, access_rule, constant_rule, element_rule, result_rule, arguments_rule, call_rule, static_rule, above_rule, super_rule, plain_call_rule, member_call_rule, collection_rule, method_rule, object_call_rule, creation_rule, array_creation_rule, result_value_rule, old_rule, of_promoted, both_boolean, kind_of, kind_rule}
+use Rattle.kr_types_meaning.specs.Rules.{Typed, Value, Variable, Values, Untyped, Judgement, Fits, Breaks, ask, gives, typed_as, variable_of, type_rule, diamond_rule, array_rule, number_rule, this_rule, name_rule, unary_rule, operator_rule, choice_rule, cast_rule, instance_rule, written_rule, is_broken, assignment_rule, compound_rule, step_rule, field_rule, access_rule, constant_rule, element_rule, result_rule, arguments_rule, call_rule, static_rule, above_rule, super_rule, collection_rule, method_rule, object_call_rule, creation_rule, array_creation_rule, result_value_rule, old_rule, of_promoted, both_boolean, kind_of, kind_rule}
 use Rattle.kr_types_meaning.specs.Typing.{Judged, judge, on_one, on_two, on_list, joined, field_of, method_of, operand, judged, type_in}
 use Rattle.kr_laws_shapes.specs.Expressions.{IsWritten, IsCreated, Shaped}
 use Rattle.kr_laws_types.specs.Typed.{AreKnown, AreTypesKnown}
+use Rattle.kr_base.proofs.ListLemmas.{push_is_some}
 
 abbrev pub HasType : Typed → Type 0
 HasType x = (t : JavaType) × (type_in x ≡ Some t)
@@ -26,7 +27,7 @@ HasType x = (t : JavaType) × (type_in x ≡ Some t)
 record Gives (v : Judgement) : Type 0 where
   type : (x : Typed) → v ≡ Fits x → HasType x
 
-fits_same : (x y : Typed) → Fits x ≡ Fits y → x ≡ y
+pub fits_same : (x y : Typed) → Fits x ≡ Fits y → x ≡ y
 fits_same x y e = ap inside e
   where
     inside : Judgement → Typed
@@ -62,23 +63,19 @@ varies_known t e = subst (λ (b : Bool). Gives (Fits (if b then Variable t else 
 
 -- ---- parts
 
-none_behind : {A : Type 0} (xs : List A) (y : A) → xs ++ y ∷ [] ≡ [] → ⊥
-none_behind [] y e = cc (e)
-none_behind (x ∷ xs) y e = cc (e)
-
-below_none : (p : Place) (v : Judgement) (below : List Fault) → (judge p v below).faults ≡ [] → below ≡ []
+pub below_none : (p : Place) (v : Judgement) (below : List Fault) → (judge p v below).faults ≡ [] → below ≡ []
 below_none p (Fits x) below e = e
-below_none p (Breaks r) below e = absurd (none_behind below (record { place = p; rule = r }) e)
+below_none p (Breaks r) below e = absurd (push_is_some below (record { place = p; rule = r }) e)
 
 judge_type : (p : Place) (v : Judgement) (below : List Fault) → Gives v → (judge p v below).faults ≡ [] → HasType (judge p v below).typed
 judge_type p (Fits x) below h e = h.type x refl
-judge_type p (Breaks r) below h e = absurd (none_behind below (record { place = p; rule = r }) e)
+judge_type p (Breaks r) below h e = absurd (push_is_some below (record { place = p; rule = r }) e)
 
-front_none : {A : Type 0} (xs ys : List A) → xs ++ ys ≡ [] → xs ≡ []
+pub front_none : {A : Type 0} (xs ys : List A) → xs ++ ys ≡ [] → xs ≡ []
 front_none [] ys e = refl
 front_none (x ∷ xs) ys e = absurd (cc (e))
 
-back_none : {A : Type 0} (xs ys : List A) → xs ++ ys ≡ [] → ys ≡ []
+pub back_none : {A : Type 0} (xs ys : List A) → xs ++ ys ≡ [] → ys ≡ []
 back_none [] ys e = e
 back_none (x ∷ xs) ys e = absurd (cc (e))
 

@@ -14,14 +14,14 @@ use Rattle.kr_laws_types.specs.Shapes.{Expression, IsCode}
 abbrev pub plain : Scope → Scope
 plain s = record s { is_in_loop = false; role = AsValue }
 
--- what may be written: a name, a field, an element
+-- an expression that may be written: a name, a field, an element
 abbrev pub is_place : Tree → Bool
 is_place (trees.Variable p n) = true
 is_place (trees.FieldAccess p e n) = true
 is_place (trees.ArrayAccess p a i) = true
 is_place t = false
 
--- The type of an expression: one that expressions have where it stands. What is written is a place, of a variable's type.
+-- The type of an expression: one that expressions have at its position. A written expression is a place, of a variable's type.
 pub record IsTyped (s : Scope) (e : Tree) : Type 0 where
   pub type : JavaType
   pub known : type_in (judged s e).typed ≡ Some type

@@ -1,11 +1,11 @@
--- Between crates: what is nothing to types: whether code stands in a loop, and which field its value is the initial one of.
+-- Between crates: types don't depend on whether code is in a loop, nor on which field's initial value it is.
 use Rattle.std.specs.Prelude.{◌≡◌, Bool}
 use Rattle.kr_ast.specs.Tree.{Tree}
 use Rattle.kr_types_meaning.specs.Scopes.{Scope, after}
 use Rattle.kr_types_meaning.specs.Running.{elsewhere, running}
 use Rattle.kr_types_meaning.specs.Typing.{judged, type_of}
 
--- the type of a tree, the type of an expression as a value, and the scope behind a tree
+-- the type of a tree, the type of an expression as a value, and the scope after a tree
 pub record AreSame (b : Bool) (s : Scope) (t : Tree) : Type 0 where
   pub typed : (judged (elsewhere b s) t).typed ≡ (judged s t).typed
   pub type : type_of (elsewhere b s) t ≡ type_of s t

@@ -1,4 +1,4 @@
--- Between crates: code as the grammar derives it: where expressions stand and where statements do.
+-- Between crates: code as the grammar derives it: the positions of expressions and of statements.
 use Rattle.std.specs.Prelude.{◌≡◌, ℕ, Bool, true, false, Option, Some, List}
 use Rattle.kr_base.specs.declared.place.Place.{Place}
 use Rattle.kr_ast.specs.Tree as trees
@@ -24,8 +24,8 @@ pub data Sort : Type 0 where
 abbrev pub HasNumber : List JavaType → JavaType → Type 0
 HasNumber arrays t = (k : ℕ) × (array_number arrays (ArrayType t) ≡ Some k)
 
--- Code of a sort, in the scope where it stands. The array types that it creates have numbers among these; in a postcondition
--- the type of each `\old` is known by its place.
+-- Code of a sort, in its scope. The array types that it creates have numbers among these; in a postcondition the type of each
+-- `\old` is known by its place.
 abbrev pub IsCode : List JavaType → (Place → Option JavaType) → Sort → Scope → Tree → Type 0
 IsCode arrays olds (Expression absent) s trees.Nil = absent ≡ true
 IsCode arrays olds (Expression absent) s (trees.Number p n) = Unit {0}

@@ -14,11 +14,11 @@ is_variable_type (SetType t) = is_element t && is_variable_type t
 is_variable_type (ListType t) = is_element t && is_variable_type t
 is_variable_type t = false
 
--- what a method gives: a value of such a type, or none
+-- the result of a method: a value of such a type, or none
 abbrev pub is_result_type : JavaType → Bool
 is_result_type t = is_void t || is_variable_type t
 
--- what an expression may be of that gives a value: null's type too, and that of `new HashSet<>()`, whose members' type is open
+-- the types of an expression that gives a value: null's type too, and that of `new HashSet<>()`, whose members' type is open
 abbrev pub is_inferred : JavaType → Bool
 is_inferred InferredType = true
 is_inferred t = false
@@ -29,7 +29,7 @@ is_value_type (SetType t) = is_inferred t || (is_element t && is_variable_type t
 is_value_type (ListType t) = is_inferred t || (is_element t && is_variable_type t)
 is_value_type t = is_variable_type t
 
--- only a call that stands as a statement gives none
+-- only a call that is a statement gives none
 abbrev pub is_expression_type : Bool → JavaType → Bool
 is_expression_type true t = is_void t || is_value_type t
 is_expression_type false t = is_value_type t

@@ -1,4 +1,4 @@
-// What expressions without broken nodes have.
+// Expressions without broken nodes have types.
 ghost use Rattle.kr_laws_types.specs.Typed.{TypedLaw};
 
 /// An expression without broken nodes has a type.

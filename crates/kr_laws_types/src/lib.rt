@@ -1,5 +1,5 @@
-//! What typing gives: an expression without broken nodes, of names with known types, has a type, and which; and whether code stands
-//! in a loop, or in a field's initial value, is nothing to its types, so that they are those by which the code runs.
+//! The types of expressions: one without broken nodes, of names with known types, has a type, and which; they don't depend on
+//! whether code is in a loop, or in a field's initial value, so that they are those by which the code runs.
 #![tactic(auto)]
 
 mod having_types;

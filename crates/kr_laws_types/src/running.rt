@@ -1,4 +1,4 @@
-// What loops are to types.
+// Types don't depend on loops.
 ghost use Rattle.kr_laws_types.specs.Running.{LoopsLaw, RunningLaw};
 
 /// In a loop or not, and in a field's initial value or not, a tree has the same type and leaves the same scope.

@@ -11,7 +11,7 @@ pub two_front : (text : List ℕ) (a b : ℕ) → 1 < length text → slice_inde
 two_front text a b l p q =
     drop_more text 0 0 (omega arith) ∙ (ap (λ x. x ∷ drop 1 text) p ∙ ap (λ t. a ∷ t) (drop_more text 1 0 l ∙ ap (λ x. x ∷ drop 2 text) q))
 
--- a comment up to the first star and slash behind its own
+-- a comment up to the first `*/` after its own `/*`
 pub block_gap : (text : List ℕ) (n : ℕ) → 1 < length text → slice_index text 0 ≡ 47 → slice_index text 1 ≡ 42 → IsBodyLength (drop 2 text) n
     → (n + 4 ≤ length text) × IsGap (take (n + 4) text) (drop (n + 4) text)
 block_gap text n l p q h =

@@ -52,7 +52,7 @@ white_low b t = grind (arith, nat_tests)
 line_end_low : (b : ℕ) → is_line_end b ≡ true → b < 128
 line_end_low b t = grind (arith, nat_tests)
 
--- cut behind an ASCII byte, or before one
+-- a cut before or after an ASCII byte
 module _ (bytes : List ℕ) (valid : ℕ) (v : IsValidLength bytes valid) where
   cut_behind : (front rest : List ℕ) (b : ℕ) → bytes ≡ (front ++ b ∷ []) ++ rest → b < 128 → length (front ++ b ∷ []) ≤ valid → IsUtf8 (front ++ b ∷ [])
   cut_behind front rest b e low l =
@@ -102,7 +102,7 @@ module _ (bytes : List ℕ) (valid : ℕ) (v : IsValidLength bytes valid) where
       let long : length ((front ++ inner) ++ 47 ∷ []) ≤ valid = omega (arith, ap length z, l) in
       rw z (cut_behind (front ++ inner) rest 47 (e ∙ ap (λ t. t ++ rest) z) low long)
 
-  -- what was reached is UTF-8, as far as the bytes are
+  -- the text reached is UTF-8 as far as the bytes are
   pub reached_utf8 : {file : ℕ} {inside last : Bool} {front text end left : List ℕ} {list : List Lexeme} → Reaches file inside front text list last end left → bytes ≡ front ++ text → IsUtf8 front
       → length end ≤ valid → IsUtf8 end
   reached_utf8 here e u l = u

@@ -26,7 +26,7 @@ no_char_in_nothing c more e = omega (arith, char_some [] more c e)
 pub ends_nothing : EndsWord []
 ends_nothing c more s e = absurd (no_char_in_nothing c more e)
 
--- what `decoded` finds is the one character at the front
+-- `decoded` finds the character at the front
 pub decoded_char : (text more : List ℕ) (c d : ℕ) → (decoded text).char ≡ Some d → IsScalar c → text ≡ encode_utf8 c ++ more → c ≡ d
 decoded_char text more c d found s e =
     let z : (decoded (encode_utf8 c ++ more)).char ≡ Some c = ap (λ r. r.char) (decoded-encode c more s) in

@@ -123,7 +123,7 @@ old_second : (rest : List ℕ) → slice_index (contract_spelling kinds.Old ++ r
 unfolding contract_spelling
 old_second rest = refl
 
--- they are told apart by their second byte
+-- their second bytes differ
 same_spelled : (a b : Kind) (r q : List ℕ) → (a ≡ kinds.Result) ⊎ (a ≡ kinds.Old) → (b ≡ kinds.Result) ⊎ (b ≡ kinds.Old) → contract_spelling a ++ r ≡ contract_spelling b ++ q → a ≡ b
 same_spelled a b r q (inl e) (inl f) z = e ∙ sym f
 same_spelled a b r q (inr e) (inr f) z = e ∙ sym f

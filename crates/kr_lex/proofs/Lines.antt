@@ -41,7 +41,7 @@ no_part text n h w = go (cases_eq n 0)
         absurd (both_ways (is_part p.char) (w p.char (drop n text) p.scalar p.spelled) p.part)
 
 module _ (text : List ℕ) (n : ℕ) (l : IsBlankLength (drop 3 text) n) where
-  -- the blanks and the rest behind them are the only ones
+  -- the blanks and the rest are unique
   parts : (kind : Kind) (blank rest : List ℕ) → IsContract text kind blank rest → (take n (drop 3 text) ≡ blank) × (drop n (drop 3 text) ≡ contract_spelling kind ++ rest)
   parts kind blank rest c =
       let tail : drop 3 text ≡ blank ++ (contract_spelling kind ++ rest) = ap (drop 3) c.spelled ∙ append_assoc blank (contract_spelling kind) rest in

@@ -1,5 +1,4 @@
--- The table of the tokens of one spelling: each stands in it under its first byte, and longer ones stand before shorter
--- ones.
+-- The table of tokens with one spelling: each is listed under its first byte, longer ones first.
 use Rattle.std.proofs.Common.{◌≡◌, ℕ, zero, suc, ◌<◌, ◌≤◌, ◌⊎◌, inl, inr, Bool, true, not, ◌&&◌, ◌||◌, cond, ◌==◌, nat_lt, List, [], ◌∷◌, Option, Some, None, length, slice_index, get_or, refl, arith}
 use lib.Dec.{leb}
 use Rattle.std.specs.Char.{is_ascii_lowercase, is_ascii_alphabetic, is_ascii_digit}
@@ -38,7 +37,7 @@ pub record IsSingle (b : ℕ) : Type 0 where
   pub kind : Kind
   pub spelled : spelling kind ≡ b ∷ []
 
--- A kind of one spelling stands in the table, and is found there; it is a word of small letters, or begins with a symbol.
+-- A kind with one spelling is in the table, and is found there; it is a word of small letters, or begins with a symbol.
 pub record IsListed (kind : Kind) : Type 0 where
   pub index : ℕ
   pub within : index < length (peers kind)
@@ -247,7 +246,7 @@ some_at (o ∷ os) (suc k) kind f l e = some_at os k kind (and_parts _ _ f).1 (o
 pub some_in_table : (first k : ℕ) (kind : Kind) → k < length (beginning_with first) → kind ≡ get_or (beginning_with first) k kind → 0 < length (spelling kind)
 some_in_table first k kind l e = some_at (beginning_with first) k kind (falls_beginning first) l e
 
--- in a list that falls, what stands later is not longer
+-- in a descending list, later items are not longer
 not_longer : (os : List Kind) (i k : ℕ) (here later : Kind) → falls os ≡ true → i ≤ k → k < length os → here ≡ get_or os i here → later ≡ get_or os k later
     → length (spelling later) ≤ length (spelling here)
 not_longer [] i k here later f h l e g = absurd (omega arith)

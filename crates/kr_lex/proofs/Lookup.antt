@@ -1,4 +1,4 @@
--- What a search of the table finds.
+-- The result of a search of the table.
 use Rattle.std.proofs.Common.{◌≡◌, ℕ, ◌+◌, ◌<◌, ◌≤◌, ◌⊎◌, inl, inr, List, ◌++◌, length, slice_index, get_or, drop, sym, ap, subst, ◌∙◌, arith}
 use Rattle.std.proofs.lemmas.List.{get_or_append_left, get_or_default}
 use Rattle.std.proofs.lemmas.Bool.{cases_lt, cases_eq}
@@ -12,7 +12,7 @@ use Rattle.kr_lex.proofs.Listing.{listed, not_longer_in_table, some_in_table}
 pub same_first : (text part more : List ℕ) → 0 < length part → text ≡ part ++ more → slice_index part 0 ≡ slice_index text 0
 same_first text part more l e = sym (ap (λ t. slice_index t 0) e ∙ get_or_append_left part more 0 0 l)
 
--- where a kind stands in the table of a byte
+-- the index of a kind in the table of a byte
 abbrev At : ℕ → ℕ → Kind → Type 0
 At first k kind = (k < length (beginning_with first)) × (kind ≡ get_or (beginning_with first) k kind)
 
@@ -46,7 +46,7 @@ found_none text i none l other more some y =
     let p = standing (slice_index text 0) other some (same_first text (spelling other) more some y) in
     none p.0 other more (omega (arith, p.1.0, l)) p.1.1 y
 
--- the same of a table that was looked up
+-- for a table that was looked up
 module _ (text : List ℕ) (table : List Kind) (is : table ≡ beginning_with (slice_index text 0)) where
   pub found_at : (i : ℕ) (d : Kind) (spelled : List ℕ) → NoneIn text table i → i < length table → spelled ≡ spelling (get_or table i d)
       → text ≡ spelled ++ drop (length spelled) text → IsLongestFixed text (get_or table i d)

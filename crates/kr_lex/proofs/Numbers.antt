@@ -19,7 +19,7 @@ digit_from_test b t = (grind (arith, nat_tests), grind (arith, nat_tests), grind
 pub digit_from_value : (b : ℕ) → digit_value b < 10 → is_ascii_digit b ≡ true
 digit_from_value b h = grind (arith, nat_tests)
 
--- what more digits make is not less
+-- more digits don't make the value less
 pub value_front : (word : List ℕ) (i : ℕ) → digits_value 10 (take i word) ≤ digits_value 10 word
 value_front word i =
     let whole : digits_value 10 word ≡ number_from_digits_after 10 0 (map digit_value (take i word ++ drop i word)) =

@@ -73,7 +73,7 @@ moved {file} {inside} {last} {end} {left} {list} front part rest part' rest' p r
     subst (λ (q : List ℕ). Reaches file inside (front ++ part) q list last end left) (sym r)
     (subst (λ (q : List ℕ). Reaches file inside (front ++ q) rest' list last end left) (sym p) d)
 
--- behind equal tokens
+-- after equal tokens
 behind : {file : ℕ} {last final : Bool} {end left stop rest : List ℕ} {list other : List Lexeme} (a b : Lexeme) → a ≡ b
     → Goes file list last end left other final stop rest ⊎ Goes file other final stop rest list last end left
     → Goes file (a ∷ list) last end left (b ∷ other) final stop rest ⊎ Goes file (b ∷ other) final stop rest (a ∷ list) last end left
@@ -109,7 +109,7 @@ one_way {file} (contract {front = front} {text = text} k b r g d) (contract j q 
     word : Kind → List ℕ → Lexeme
     word kind blank = token_behind file (front ++ 47 ∷ 47 ∷ 64 ∷ blank) kind (contract_spelling kind)
 
--- nothing stands in an empty text
+-- an empty text has no parts
 no_split : (part rest : List ℕ) → [] ≡ part ++ rest → 0 < length part → ⊥
 no_split part rest e l = omega (arith, ap length e, length-append part rest, l)
 

@@ -7,7 +7,7 @@ use Rattle.kr_lex.specs.Characters.{is_line_end, begins_character}
 use Rattle.kr_lex.specs.Places.{ends_line, line_ends, has_line_end, last_line, characters, line_after, column_after}
 use Rattle.kr_lex.specs.Cursors.{Stands, byte_before, one_if}
 
--- the last byte of a text, or what stands before it
+-- the last byte of a text, or the given one
 abbrev last : ℕ → List ℕ → ℕ
 last before [] = before
 last before (b ∷ bs) = last b bs
@@ -16,7 +16,7 @@ last_push : (before b : ℕ) (bs : List ℕ) → last before (bs ++ b ∷ []) �
 last_push before b [] = refl
 last_push before b (c ∷ bs) = last_push c b bs
 
--- the byte before an index is the last of what stands before it
+-- the byte before an index is the last one before it
 last_take : (bytes : List ℕ) (at : ℕ) → at < length bytes → last 0 (take at bytes) ≡ byte_before bytes at
 last_take bytes at l = go (cases_eq at 0)
   where
@@ -40,19 +40,19 @@ line_ends_le before (c ∷ bs) = omega (arith, line_ends_le c bs, at_most_one (e
     at_most_one true = omega arith
     at_most_one false = omega arith
 
-or_false : (x : Bool) → (x || false) ≡ x
+pub or_false : (x : Bool) → (x || false) ≡ x
 or_false true = refl
 or_false false = refl
 
-or_assoc : (x y z : Bool) → (x || (y || z)) ≡ ((x || y) || z)
+pub or_assoc : (x y z : Bool) → (x || (y || z)) ≡ ((x || y) || z)
 or_assoc true y z = refl
 or_assoc false y z = refl
 
-has_line_end_push : (b : ℕ) (bs : List ℕ) → has_line_end (bs ++ b ∷ []) ≡ (has_line_end bs || is_line_end b)
+pub has_line_end_push : (b : ℕ) (bs : List ℕ) → has_line_end (bs ++ b ∷ []) ≡ (has_line_end bs || is_line_end b)
 has_line_end_push b [] = or_false (is_line_end b)
 has_line_end_push b (c ∷ bs) = ap (λ t. is_line_end c || t) (has_line_end_push b bs) ∙ or_assoc (is_line_end c) (has_line_end bs) (is_line_end b)
 
-line_cases : (x y z : Bool) (l m : List ℕ) (b c : ℕ) → cond (x || (y || z)) (cond z [] (l ++ b ∷ [])) (c ∷ m ++ b ∷ []) ≡ cond z [] (cond (x || y) l (c ∷ m) ++ b ∷ [])
+pub line_cases : (x y z : Bool) (l m : List ℕ) (b c : ℕ) → cond (x || (y || z)) (cond z [] (l ++ b ∷ [])) (c ∷ m ++ b ∷ []) ≡ cond z [] (cond (x || y) l (c ∷ m) ++ b ∷ [])
 line_cases true true true l m b c = refl
 line_cases true true false l m b c = refl
 line_cases true false true l m b c = refl
@@ -62,14 +62,14 @@ line_cases false true false l m b c = refl
 line_cases false false true l m b c = refl
 line_cases false false false l m b c = refl
 
-last_line_push : (b : ℕ) (bs : List ℕ) → last_line (bs ++ b ∷ []) ≡ cond (is_line_end b) [] (last_line bs ++ b ∷ [])
+pub last_line_push : (b : ℕ) (bs : List ℕ) → last_line (bs ++ b ∷ []) ≡ cond (is_line_end b) [] (last_line bs ++ b ∷ [])
 last_line_push b [] = ap (λ t. cond t [] (b ∷ [])) (or_false (is_line_end b))
 last_line_push b (c ∷ bs) =
     ap (λ t. cond (is_line_end c || t) (last_line (bs ++ b ∷ [])) (c ∷ bs ++ b ∷ [])) (has_line_end_push b bs)
     ∙ (ap (λ l. cond (is_line_end c || (has_line_end bs || is_line_end b)) l (c ∷ bs ++ b ∷ [])) (last_line_push b bs)
     ∙ line_cases (is_line_end c) (has_line_end bs) (is_line_end b) (last_line bs) bs b c)
 
-characters_push : (b : ℕ) (bs : List ℕ) → characters (bs ++ b ∷ []) ≡ characters bs + cond (begins_character b) 1 0
+pub characters_push : (b : ℕ) (bs : List ℕ) → characters (bs ++ b ∷ []) ≡ characters bs + cond (begins_character b) 1 0
 characters_push b [] = omega arith
 characters_push b (c ∷ bs) = omega (arith, characters_push b bs)
 
@@ -86,7 +86,7 @@ line_in_line before b e =
     let h = or_parts (b == 10) (b == 13) e in
     or_from (b == 13) (b == 10 && not (before == 13)) h.1 (and_left (b == 10) (not (before == 13)) h.0)
 
--- where the cursor stands one byte on
+-- the cursor one byte further
 module _ (bytes : List ℕ) (cursor : Cursor) (h : Stands bytes cursor) (more : cursor.at < length bytes) where
   front : take (cursor.at + 1) bytes ≡ take cursor.at bytes ++ slice_index bytes cursor.at ∷ []
   front = take_more bytes cursor.at 0 more

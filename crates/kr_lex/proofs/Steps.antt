@@ -45,7 +45,7 @@ pub place_is : (file : ℕ) (bytes : List ℕ) (cursor : Cursor) (place : Place)
     → place ≡ record { file = file; line = cursor.line; col = cursor.at + 1 - cursor.origin } → place ≡ place_after file (take cursor.at bytes)
 place_is file bytes cursor place h e = e ∙ place_there file (cursor.at + 1 - cursor.origin) bytes cursor h (omega (arith, h.column))
 
--- what is read on from a cursor
+-- reading on from a cursor
 pub read_to : (file : ℕ) (bytes : List ℕ) (list : List Lexeme) (inside there : Bool) (at n next : ℕ) → next ≡ at + n → there ≡ inside
     → Reaches file false [] bytes list inside (take at bytes ++ take n (drop at bytes)) (drop n (drop at bytes)) → Reaches file false [] bytes list there (take next bytes) (drop next bytes)
 read_to file bytes list inside there at n next e i d =
@@ -55,11 +55,11 @@ read_to file bytes list inside there at n next e i d =
     (subst (λ (q : List ℕ). Reaches file false [] bytes list inside (take next bytes) q) rest
     (subst (λ (q : List ℕ). Reaches file false [] bytes list inside q (drop n (drop at bytes))) front d))
 
--- what was clear stays so further on
+-- a clear stretch stays clear further on
 clear_on : (bytes : List ℕ) (from next to there : ℕ) → IsClearBetween bytes from to → from ≤ next → there ≡ to → IsClearBetween bytes next there
 clear_on bytes from next to there c l e k m o = c k (omega (arith, l, m)) (omega (arith, o, e))
 
--- the progress behind a gap, but for its cursor
+-- the state after a gap, apart from its cursor
 pub record IsBehind (bytes : List ℕ) (progress behind : Progress) : Type 0 where
   pub cursor : behind.cursor ≡ progress.cursor
   pub inside : behind.inside ≡ stays progress.inside (drop progress.cursor.at bytes)
@@ -262,7 +262,7 @@ character_there file bytes valid items progress v h l =
     let long : length (take progress.cursor.at bytes) ≡ progress.cursor.at = length-take-le progress.cursor.at bytes h.stands.within in
     begins_character_at bytes valid progress.cursor.at v l (reached_utf8 bytes valid v h.reached refl IsUtf8-nil (omega (arith, long, l)))
 
--- what is broken at the cursor is broken first
+-- a rule broken at the cursor is the first one broken
 pub broken_there : (file : ℕ) (bytes : List ℕ) (valid : ℕ) (items : List Token) (progress : Progress) (rule : LexRule) (place : Place) → IsValidLength bytes valid
     → IsReading file bytes valid items progress → progress.cursor.at < valid → BreaksHere progress.inside rule (drop progress.cursor.at bytes)
     → place ≡ record { file = file; line = progress.cursor.line; col = progress.cursor.at + 1 - progress.cursor.origin } → IsFirstBroken file bytes place rule

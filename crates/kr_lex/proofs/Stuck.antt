@@ -1,4 +1,4 @@
--- Where a rule is broken no gap and no token stands, and only one rule is broken.
+-- Where a rule is broken there is neither a gap nor a token, and only one rule is broken.
 use Rattle.std.proofs.Common.{◌≡◌, ℕ, ◌<◌, ◌⊎◌, inl, inr, Bool, true, false, ◌&&◌, ◌==◌, cond, List, [], ◌∷◌, ◌++◌, length, slice_index, refl, sym, ap, ◌∙◌, arith, append_assoc}
 use Rattle.std.specs.Char.{encode_utf8, is_ascii_digit}
 use Rattle.std.specs.Str.{encode_utf8_all}
@@ -141,7 +141,7 @@ block_second text g r e h = ap (λ x. slice_index x 1) (e ∙ (ap (λ x. x ++ r)
 slash_no_white : (text : List ℕ) → slice_index text 0 ≡ 47 → is_white (slice_index text 0) ≡ false
 slash_no_white text z = ap is_white z ∙ refl
 
--- no gap stands where a contract line begins
+-- a contract line begins with no gap
 pub contract_no_gap : (text g r : List ℕ) → BeginsContract text → text ≡ g ++ r → IsGap g r → ⊥
 contract_no_gap text g r h e i = go (gap_cases g r i)
   where
@@ -177,7 +177,7 @@ stuck_gap inside rules.UnclosedComment text g r h e i = go (gap_cases g r i)
         h.unclosed c.body r t
 stuck_gap inside rules.ContractLine text g r h e i = contract_no_gap text g r h.begins e i
 
--- no token stands there
+-- a stray character begins no token
 stray_no_token : (text part rest : List ℕ) (kind : Kind) → IsStray text → text ≡ part ++ rest → IsToken kind part rest → ⊥
 stray_no_token text part rest kind h e t = go (token_shape kind part rest t)
   where

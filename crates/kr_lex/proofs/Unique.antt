@@ -1,4 +1,4 @@
--- At most one gap or token stands at a place.
+-- A text begins with at most one gap or token.
 use Rattle.std.proofs.Common.{◌≡◌, ℕ, ◌<◌, ◌≤◌, ◌⊎◌, inl, inr, Bool, true, false, List, [], ◌∷◌, ◌++◌, length, slice_index, refl, sym, ap, ◌∙◌, arith, length-append, append_assoc}
 use Rattle.std.specs.Char.{is_ascii_digit}
 use Rattle.std.specs.Str.{encode_utf8_all}
@@ -167,7 +167,7 @@ gap_no_token g s r q kind e i t = go (gap_cases g r i)
         sym (first_byte s q (token_some kind s q t.token)) ∙ (ap (λ x. slice_index x 0) (sym e) ∙ ap (λ x. slice_index (x ++ r) 0) w.1) in
         token_no_white kind s q t.token (ap is_white first ∙ w.2)
 
--- the first byte where a token or a gap stands
+-- the first byte of a token or a gap
 pub gap_first : (text g r : List ℕ) → text ≡ g ++ r → IsGap g r → (is_white (slice_index text 0) ≡ true) ⊎ BeginsComment text
 gap_first text g r e i = go (gap_cases g r i)
   where
@@ -182,7 +182,7 @@ comment_bytes [] h = absurd h
 comment_bytes (a ∷ []) h = absurd h
 comment_bytes (a ∷ b ∷ more) h = h
 
--- no gap stands there
+-- no gap begins there
 pub plain_no_gap : (text g r : List ℕ) → text ≡ g ++ r → IsGap g r → is_white (slice_index text 0) ≡ false → (slice_index text 0 ≡ 47 → ⊥) → ⊥
 plain_no_gap text g r e i w s = go (gap_first text g r e i)
   where
@@ -190,7 +190,7 @@ plain_no_gap text g r e i w s = go (gap_first text g r e i)
     go (inl t) = both_ways (is_white (slice_index text 0)) w t
     go (inr c) = s (comment_bytes text c).0
 
--- the first byte of what stands there
+-- the first byte of a part
 pub first_of : (text part rest : List ℕ) → text ≡ part ++ rest → 0 < length part → slice_index text 0 ≡ slice_index part 0
 first_of text part rest e l = ap (λ x. slice_index x 0) e ∙ first_byte part rest l
 
@@ -214,7 +214,7 @@ escape_no_token text part rest kind z e (fixed l k) = go (shape kind (omega (ari
         both_ways (is_start (slice_index (spelling kind) 0)) f (small_starts (spelling kind) (omega (arith, l, ap length k)) s).1
     go (inr s) = (symbol_facts (slice_index (spelling kind) 0) s).4 byte
 
--- a contract line's own token, and any that may stand there
+-- a contract line's own token, and any other that begins there
 pub same_here : (inside : Bool) (a b : Kind) (s t r q : List ℕ) → s ++ r ≡ t ++ q → IsTokenHere inside a s r → IsTokenHere inside b t q → (a ≡ b) × (s ≡ t) × (r ≡ q)
 same_here inside a b s t r q e (anywhere g) (anywhere h) = same_token a b s t r q e g h
 same_here inside a b s t r q e (anywhere g) (within i h) = absurd (escape_no_token (t ++ q) s r a (here_first (t ++ q) t q b refl h).0 (sym e) g.token)

@@ -7,7 +7,7 @@ use Rattle.unicode_ident.specs.Ident.{is_xid_start, is_xid_continue}
 abbrev pub is_start : ℕ → Bool
 is_start c = is_xid_start c || (c == 95 || c == 36)
 
--- a name may go on with it: Unicode's XID_Continue or `$`
+-- a name may continue with this character: Unicode's XID_Continue or `$`
 abbrev pub is_part : ℕ → Bool
 is_part c = is_xid_continue c || c == 36
 
@@ -15,7 +15,7 @@ abbrev pub AllParts : List ℕ → Type 0
 AllParts [] = Unit {0}
 AllParts (c ∷ cs) = ((IsScalar c) × (is_part c ≡ true)) × AllParts cs
 
--- no character that a name may go on with stands at the front
+-- the text doesn't begin with a character that can continue a name
 abbrev pub EndsWord : List ℕ → Type 0
 EndsWord text = (c : ℕ) (more : List ℕ) → IsScalar c → text ≡ encode_utf8 c ++ more → is_part c ≡ false
 
@@ -27,6 +27,6 @@ is_line_end b = b == 10 || b == 13
 abbrev pub is_white : ℕ → Bool
 is_white b = (b == 32 || (b == 9 || b == 12)) || is_line_end b
 
--- a byte of UTF-8 begins a character: those from 128 to 191 go on with one
+-- a byte of UTF-8 begins a character: those from 128 to 191 continue one
 abbrev pub begins_character : ℕ → Bool
 begins_character b = nat_lt b 128 || not (nat_lt b 192)

@@ -6,7 +6,7 @@ use Rattle.kr_lex.specs.declared.kind.Kind.{Kind}
 use Rattle.kr_lex.specs.declared.kind.Kind.TheVariants as kinds
 use Rattle.kr_lex.specs.Characters.{is_line_end, is_white, EndsWord}
 
--- how the kinds are spelled that stand in contract lines alone
+-- the spelling of the kinds that occur only in contract lines
 unfoldable pub contract_spelling : Kind → List ℕ
 contract_spelling kinds.Contract = codes "//@"
 contract_spelling kinds.Requires = codes "requires"
@@ -15,7 +15,7 @@ contract_spelling kinds.Result = codes "\\result"
 contract_spelling kinds.Old = codes "\\old"
 contract_spelling _ = []
 
--- two slashes and `@`
+-- `//@`
 abbrev pub BeginsContract : List ℕ → Type 0
 BeginsContract (a ∷ b ∷ c ∷ more) = (a ≡ 47) × (b ≡ 47) × (c ≡ 64)
 BeginsContract _ = ⊥
@@ -24,26 +24,26 @@ BeginsContract _ = ⊥
 abbrev pub is_blank : ℕ → Bool
 is_blank b = is_white b && not (is_line_end b)
 
--- what a line has before its end, or before two slashes
+-- the text before the line's end or `//`
 abbrev pub code_of : List ℕ → List ℕ
 code_of [] = []
 code_of (b ∷ bs) = cond (is_line_end b || (b == 47 && slice_index bs 0 == 47)) [] (b ∷ code_of bs)
 
--- the last byte that is no white space, or the one given where there is none
+-- the last byte that is no white space, or the given one if there is none
 abbrev pub last_solid : ℕ → List ℕ → ℕ
 last_solid before [] = before
 last_solid before (b ∷ bs) = last_solid (cond (is_white b) before b) bs
 
--- a slash and a star stand side by side before the line's end
+-- the line has a `/*`
 abbrev pub has_block : List ℕ → Bool
 has_block [] = false
 has_block (b ∷ bs) = not (is_line_end b) && ((b == 47 && slice_index bs 0 == 42) || has_block bs)
 
--- what a contract line begins with: its mark, white space, and its word
+-- the start of a contract line: mark, white space, and word
 abbrev pub head_of : Kind → List ℕ → List ℕ
 head_of kind blank = 47 ∷ 47 ∷ 64 ∷ blank ++ contract_spelling kind
 
--- The text begins with a contract line that has this word, behind this white space.
+-- The text begins with a contract line that has this word, after this white space.
 pub record IsContract (text : List ℕ) (kind : Kind) (blank rest : List ℕ) : Type 0 where
   pub word : (kind ≡ kinds.Requires) ⊎ (kind ≡ kinds.Ensures)
   pub white : AllByRecursion (λ b. is_blank b ≡ true) blank
@@ -52,7 +52,7 @@ pub record IsContract (text : List ℕ) (kind : Kind) (blank rest : List ℕ) : 
   pub closed : last_solid 0 (code_of rest) ≡ 59
   pub no_block : has_block text ≡ false
 
--- a primary that contract lines alone have
+-- a primary that only contract lines have
 pub record IsContractToken (kind : Kind) (text : List ℕ) : Type 0 where
   pub one_of : (kind ≡ kinds.Result) ⊎ (kind ≡ kinds.Old)
   pub spelled : text ≡ contract_spelling kind

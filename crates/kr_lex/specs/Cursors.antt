@@ -1,4 +1,4 @@
--- Between crates: what a cursor says of the text before it.
+-- Between crates: the relation of a cursor to the text before it.
 use Rattle.std.specs.Prelude.{◌≡◌, ℕ, Bool, ◌+◌, ◌-◌, ◌≤◌, List, length, take, slice_index, cond, ◌==◌}
 use Rattle.kr_lex.specs.declared.cursor.Cursor.{Cursor}
 use Rattle.kr_lex.specs.Places.{line_after, column_after}
@@ -7,11 +7,11 @@ use Rattle.kr_lex.specs.Places.{line_after, column_after}
 abbrev pub byte_before : List ℕ → ℕ → ℕ
 byte_before bytes at = cond (at == 0) 0 (slice_index bytes (at - 1))
 
--- how much a test adds
+-- 0 or 1
 abbrev pub one_if : Bool → ℕ
 one_if test = cond test 1 0
 
--- The cursor stands in the bytes, in the line behind what is before it; its column is counted from its origin.
+-- The cursor is in the line after the text before it; its column is counted from its origin.
 pub record Stands (bytes : List ℕ) (cursor : Cursor) : Type 0 where
   pub within : cursor.at ≤ length bytes
   pub line : cursor.line ≡ line_after (take cursor.at bytes)

@@ -1,4 +1,4 @@
--- Between crates: the entries that keep a token list, and the tokens that they stand for.
+-- Between crates: the entries of a token list, and the tokens that they represent.
 use Rattle.std.specs.Prelude.{◌≡◌, ℕ, ◌≤◌, ◌-◌, List, length, take, drop, map}
 use Rattle.std.specs.List.{All}
 use Rattle.kr_base.specs.declared.place.Place.{Place}
@@ -18,7 +18,7 @@ lexeme_of file source t = record { kind = t.kind; text = text_of source t; place
 abbrev pub shown : Place → List ℕ → List Token → Lexemes
 shown end source ts = record { list = map (lexeme_of end.file source) ts; end = end }
 
--- an entry's bytes stand in the source, and are a number where its kind says so
+-- an entry's bytes are in the source, and are a number if its kind says so
 pub record IsEntry (source : List ℕ) (t : Token) : Type 0 where
   pub ordered : t.start ≤ t.end
   pub within : t.end ≤ length source

@@ -1,4 +1,4 @@
--- To be believed: what stands between tokens: white space and comments (Java Language Specification 3.6 and 3.7).
+-- To be believed: the gaps between tokens: white space and comments (Java Language Specification 3.6 and 3.7).
 use Rattle.std.specs.Prelude.{◌≡◌, ℕ, ◌≤◌, ◌≢◌, ◌⊎◌, true, false, List, [], ◌∷◌, ◌++◌, length, slice_index}
 use Rattle.std.specs.List.{AllByRecursion}
 use Rattle.kr_lex.specs.Characters.{is_line_end, is_white}
@@ -16,7 +16,7 @@ pub record IsLineComment (gap rest : List ℕ) : Type 0 where
   pub in_line : AllByRecursion (λ b. is_line_end b ≡ false) body
   pub through : EndsLine rest
 
--- a slash and a star, and all up to the first star and slash behind them
+-- `/*`, and all up to and including the first later `*/`
 pub record IsBlockComment (gap rest : List ℕ) : Type 0 where
   pub body : List ℕ
   pub spelled : gap ≡ 47 ∷ 42 ∷ body ++ 42 ∷ 47 ∷ []

@@ -11,7 +11,7 @@ pub record Lexeme : Type 0 where
   pub text : List ℕ
   pub place : Place
 
--- the tokens of a source, and the place just behind its last character
+-- the tokens of a source, and the place after its last character
 pub record Lexemes : Type 0 where
   pub list : List Lexeme
   pub end : Place

@@ -1,5 +1,5 @@
--- Between crates: what stands at the front of a text: the lengths of words and comments, the piece as a whole, and the parts of
--- a contract line.
+-- Between crates: the front of a text: the lengths of words and comments, the piece as a whole, and the parts of a
+-- contract line.
 use Rattle.std.specs.Prelude.{◌≡◌, ℕ, ◌+◌, ◌<◌, ◌≤◌, ◌⊎◌, Bool, true, false, List, ◌∷◌, ◌++◌, length, take, drop, slice_index}
 use Rattle.std.specs.Char.{IsScalar, is_ascii_digit, encode_utf8}
 use Rattle.std.specs.Str.{encode_utf8_all}
@@ -24,7 +24,7 @@ pub record IsPart (text : List ℕ) (n : ℕ) : Type 0 where
   pub spelled : text ≡ encode_utf8 char ++ drop n text
   pub within : n ≤ length text
 
--- the length of a character that a name may go on with, or 0 where none stands at the front
+-- the length of the character at the front if a name may continue with it, else 0
 pub record IsPartLength (text : List ℕ) (n : ℕ) : Type 0 where
   pub some : 0 < n → IsPart text n
   pub none : n ≡ 0 → EndsWord text
@@ -37,13 +37,13 @@ pub record IsWordLength (text : List ℕ) (n : ℕ) : Type 0 where
   pub longest : EndsWord (drop n text)
   pub within : n ≤ length text
 
--- the length of what stands before the line's end
+-- the length up to the line's end
 pub record IsLineLength (text : List ℕ) (n : ℕ) : Type 0 where
   pub in_line : AllByRecursion (λ b. is_line_end b ≡ false) (take n text)
   pub through : EndsLine (drop n text)
   pub within : n ≤ length text
 
--- the length of what stands before the first star and slash
+-- the length up to the first `*/`
 pub record IsBodyLength (text : List ℕ) (n : ℕ) : Type 0 where
   pub closed : text ≡ take n text ++ 42 ∷ 47 ∷ drop (n + 2) text
   pub within : n + 2 ≤ length text
@@ -87,14 +87,14 @@ pub record IsSymbolic (text : List ℕ) : Type 0 where
   pub no_name : StartsName text → ⊥
   pub no_comment : BeginsComment text → ⊥
 
--- What stands at the front, in a contract line or outside of them: a gap or a token of some length, or what breaks a
--- rule.
+-- The piece at the front, inside or outside a contract line: a gap or a token with its length, or the rule that it
+-- breaks.
 abbrev pub IsPiece : Bool → List ℕ → Piece → Type 0
 IsPiece inside text (pieces.Gap n) = (0 < n) × (n ≤ length text) × IsGap (take n text) (drop n text)
 IsPiece inside text (pieces.Token kind n) = (0 < n) × (n ≤ length text) × IsTokenHere inside kind (take n text) (drop n text)
 IsPiece inside text (pieces.Broken rule) = BreaksHere inside rule text
 
--- a token that contract lines alone have stands at the front
+-- the text begins with a token that only contract lines have
 pub record IsContractTokenAt (text : List ℕ) (kind : Kind) : Type 0 where
   pub one_of : (kind ≡ kinds.Result) ⊎ (kind ≡ kinds.Old)
   pub spelled : text ≡ contract_spelling kind ++ drop (length (contract_spelling kind)) text
@@ -105,7 +105,7 @@ pub record IsBlankLength (text : List ℕ) (n : ℕ) : Type 0 where
   pub longest : is_blank (slice_index (drop n text) 0) ≡ false
   pub within : n ≤ length text
 
--- this word stands at the front, and goes on no further
+-- the text begins with this word, as a whole word
 pub record IsWordOf (text : List ℕ) (kind : Kind) : Type 0 where
   pub spelled : text ≡ contract_spelling kind ++ drop (length (contract_spelling kind)) text
   pub whole : EndsWord (drop (length (contract_spelling kind)) text)
@@ -118,7 +118,7 @@ pub record IsWordAt (text : List ℕ) (kind : Kind) : Type 0 where
 abbrev pub BeginsNoWord : List ℕ → Type 0
 BeginsNoWord text = (kind : Kind) (rest : List ℕ) → (kind ≡ kinds.Requires) ⊎ (kind ≡ kinds.Ensures) → text ≡ contract_spelling kind ++ rest → EndsWord rest → ⊥
 
--- no slash and star stand side by side in a line from here, nor from any place up to that length
+-- no `/*` within a line from here, nor from any index up to that length
 abbrev pub IsClear : List ℕ → ℕ → Type 0
 IsClear text n = (k : ℕ) → k ≤ n → has_block (drop k text) ≡ false
 

@@ -17,7 +17,7 @@ abbrev pub has_line_end : List ℕ → Bool
 has_line_end [] = false
 has_line_end (b ∷ bs) = is_line_end b || has_line_end bs
 
--- what stands behind the last line end of a text
+-- the text after the last line end
 abbrev pub last_line : List ℕ → List ℕ
 last_line [] = []
 last_line (b ∷ bs) = cond (has_line_end (b ∷ bs)) (last_line bs) (b ∷ bs)
@@ -33,6 +33,6 @@ line_after front = 1 + line_ends 0 front
 abbrev pub column_after : List ℕ → ℕ
 column_after front = 1 + characters (last_line front)
 
--- the place in a file just behind a text
+-- the place in a file right after a text
 unfoldable pub place_after : ℕ → List ℕ → Place
 place_after file front = record { file = file; line = line_after front; col = column_after front }

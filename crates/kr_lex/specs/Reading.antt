@@ -21,11 +21,11 @@ use Rattle.kr_lex.specs.Spells.{Reaches}
 abbrev pub IsValidLength : List ℕ → ℕ → Type 0
 IsValidLength bytes n = ((n ≡ length bytes) × IsUtf8 bytes) ⊎ IsValidUpTo bytes n
 
--- no slash and star stand side by side in a line from any byte between two
+-- no `/*` within a line from any index between two
 abbrev pub IsClearBetween : List ℕ → ℕ → ℕ → Type 0
 IsClearBetween bytes from to = (k : ℕ) → from ≤ k → k < to → has_block (drop k bytes) ≡ false
 
--- The entries stand for the tokens up to the cursor, where a token or a gap may begin.
+-- The entries represent the tokens up to the cursor, where a token or a gap may begin.
 pub record IsReading (file : ℕ) (bytes : List ℕ) (valid : ℕ) (items : List Token) (progress : Progress) : Type 0 where
   pub stands : Stands bytes progress.cursor
   pub before : progress.cursor.at ≤ valid
@@ -33,7 +33,7 @@ pub record IsReading (file : ℕ) (bytes : List ℕ) (valid : ℕ) (items : List
   pub entries : AreEntries bytes items
   pub clear : IsClearBetween bytes progress.cursor.at progress.clear
 
--- a piece of that length behind it
+-- the state after a piece of that length
 pub record IsPassed (bytes : List ℕ) (valid : ℕ) (progress : Progress) (n : ℕ) (next : Progress) : Type 0 where
   pub at : next.cursor.at ≡ progress.cursor.at + n
   pub stands : Stands bytes next.cursor
@@ -46,7 +46,7 @@ pub record IsPast (file : ℕ) (bytes : List ℕ) (valid end : ℕ) (refusal : R
   pub at : refusal ≡ refusals.Broken (place_after file (take valid bytes)) rules.NotUtf8
   pub before : valid < end
 
--- what an entry keeps of a token of that length at a cursor
+-- the entry of a token of that length at a cursor
 pub record IsEntryAt (cursor : Cursor) (kind : Kind) (n : ℕ) (t : Token) : Type 0 where
   pub kind_is : t.kind ≡ kind
   pub line_is : t.line ≡ cursor.line
@@ -54,7 +54,7 @@ pub record IsEntryAt (cursor : Cursor) (kind : Kind) (n : ℕ) (t : Token) : Typ
   pub start_is : t.start ≡ cursor.at
   pub end_is : t.end ≡ cursor.at + n
 
--- the entries of a contract line's mark and its word behind those before
+-- the entries of a contract line's mark and its word, after the earlier ones
 pub record ArePushed (bytes : List ℕ) (cursor : Cursor) (head : Head) (before after : List Token) : Type 0 where
   pub mark : Token
   pub word : Token

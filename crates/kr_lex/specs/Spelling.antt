@@ -4,7 +4,7 @@ use Rattle.std.specs.Prelude.{List, ℕ, [], codes, Bool, true, false}
 use Rattle.kr_lex.specs.declared.kind.Kind.{Kind}
 use Rattle.kr_lex.specs.declared.kind.Kind.TheVariants as kinds
 
--- how it is spelled; empty for the two kinds that have many spellings, and for those that stand in contract lines alone
+-- its spelling; empty for the two kinds that have many spellings, and for those that occur only in contract lines
 unfoldable pub spelling : Kind → List ℕ
 spelling kinds.Identifier = []
 spelling kinds.Number = []

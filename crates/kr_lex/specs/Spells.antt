@@ -10,13 +10,13 @@ use Rattle.kr_lex.specs.Words.{IsToken}
 use Rattle.kr_lex.specs.Gaps.{IsGap, BeginsComment}
 use Rattle.kr_lex.specs.Places.{place_after}
 
--- The text, before the rest, is the token that stands there: no longer one begins at its place, and no comment does.
+-- The text, before the rest, is the longest token there, and no comment begins there.
 pub record IsLongest (kind : Kind) (text rest : List ℕ) : Type 0 where
   pub token : IsToken kind text rest
   pub longest : (other : Kind) (longer more : List ℕ) → text ++ rest ≡ longer ++ more → IsToken other longer more → length longer ≤ length text
   pub no_comment : BeginsComment (text ++ rest) → ⊥
 
--- The text, before the rest, is the token that stands there, in a contract line or outside of them.
+-- The text, before the rest, is the token there, inside or outside a contract line.
 pub data IsTokenHere (inside : Bool) (kind : Kind) (text rest : List ℕ) : Type 0 where
   anywhere : IsLongest kind text rest → IsTokenHere inside kind text rest
   within : inside ≡ true → IsContractToken kind text → IsTokenHere inside kind text rest
@@ -25,12 +25,12 @@ pub data IsTokenHere (inside : Bool) (kind : Kind) (text rest : List ℕ) : Type
 abbrev pub stays : Bool → List ℕ → Bool
 stays inside text = inside && not (is_line_end (slice_index text 0))
 
--- the token of a text behind a front
+-- the token of a text after a front
 abbrev pub token_behind : ℕ → List ℕ → Kind → List ℕ → Lexeme
 token_behind file front kind text = record { kind = kind; text = text; place = place_after file front }
 
--- Behind a front, in a contract line or outside of them, these tokens, with gaps before, between and after them, lead
--- from one text to what is left of it.
+-- After a front, inside or outside a contract line, these tokens, with gaps before, between and after them, lead from
+-- one text to a rest of it.
 pub data Reaches (file : ℕ) : Bool → List ℕ → List ℕ → List Lexeme → Bool → List ℕ → List ℕ → Type 0 where
   here : {inside : Bool} {front text : List ℕ} → Reaches file inside front text [] inside front text
   gap : {inside last : Bool} {front text end left : List ℕ} {list : List Lexeme} (part rest : List ℕ) → text ≡ part ++ rest → IsGap part rest
@@ -47,7 +47,7 @@ pub data Reaches (file : ℕ) : Bool → List ℕ → List ℕ → List Lexeme �
 abbrev pub Spells : ℕ → List ℕ → List Lexeme → Type 0
 Spells file bytes list = (inside : Bool) × Reaches file false [] bytes list inside bytes []
 
--- The tokens are those of a source of UTF-8, and the end is the place behind its last character.
+-- The tokens are those of a UTF-8 source, and the end is the place after its last character.
 pub record AreTokens (file : ℕ) (bytes : List ℕ) (tokens : Lexemes) : Type 0 where
   pub utf8 : IsUtf8 bytes
   pub spelled : Spells file bytes tokens.list

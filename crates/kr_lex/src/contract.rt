@@ -1,4 +1,4 @@
-// Contract lines: how they begin, and whether they are well formed.
+// Contract lines: the word they begin with, and whether they are well formed.
 ghost use Rattle.std.specs.Prelude.{◌≡◌, ◌↔◌, ◌≤◌, IsTrue, IfNone, IfSome, true, false, length};
 ghost use Rattle.kr_lex.specs.ContractLines.{contract_spelling, code_of, last_solid, has_block, BeginsContract};
 ghost use Rattle.kr_lex.specs.Pieces.{IsBlankLength, IsWordOf, IsWordAt, BeginsNoWord, IsClear, IsHead, IsNoContract, IsContractTokenAt};
@@ -8,7 +8,7 @@ use crate::Kind;
 use crate::characters::{is_line_end, is_white};
 use crate::words::part_len;
 
-/// How a contract line begins: its word, where that begins, and where it ends.
+/// The start of a contract line: its word, and where the word begins and ends.
 #[derive(Clone, Copy)]
 pub(crate) struct Head {
     pub(crate) kind: Kind,
@@ -16,15 +16,14 @@ pub(crate) struct Head {
     pub(crate) end: usize,
 }
 
-/// A contract line that is well formed: how it begins, and up to which byte of the source no slash and star stand side
-/// by side in a line from there.
+/// A well-formed contract line: its start, and the index up to which the source has no `/*` within a line.
 #[derive(Clone, Copy)]
 pub(crate) struct Line {
     pub(crate) head: Head,
     pub(crate) clear: usize,
 }
 
-/// How a kind is spelled that stands in contract lines alone; empty for all others.
+/// The spelling of a kind that occurs only in contract lines; empty for all others.
 #[tactic(auto, unfolding(crate::specs::ContractLines::contract_spelling))]
 pub(crate) fn contract_spelling(kind: Kind) -> &'static [u8]
     ensures { result.now ≡ contract_spelling kind }
@@ -39,7 +38,7 @@ pub(crate) fn contract_spelling(kind: Kind) -> &'static [u8]
     }
 }
 
-/// The contract line at two slashes and `@`, if it is well formed. No slash and star stand side by side in the line.
+/// The contract line at `//@`, if it is well formed and has no `/*`.
 pub(crate) fn contract_head(text: &[u8]) -> Option<Head>
     requires begins { BeginsContract text.now }
     requires clear { has_block text.now ≡ false }
@@ -60,7 +59,7 @@ pub(crate) fn contract_head(text: &[u8]) -> Option<Head>
     }
 }
 
-/// How many bytes of white space there are in the line.
+/// The length of the white space within the line.
 fn blank_len(text: &[u8]) -> usize
     ensures { IsBlankLength text.now result }
 {
@@ -74,7 +73,7 @@ fn blank_len(text: &[u8]) -> usize
     len
 }
 
-/// The word of a contract at the front.
+/// The contract word at the front.
 fn contract_word(text: &[u8]) -> Option<Kind>
     ensures found { IfSome result (IsWordAt text.now) }
     ensures none { IfNone result (BeginsNoWord text.now) }
@@ -88,7 +87,7 @@ fn contract_word(text: &[u8]) -> Option<Kind>
     }
 }
 
-/// Whether this word stands at the front, and goes on no further.
+/// Whether the text begins with this word, as a whole word.
 fn is_word(text: &[u8], kind: Kind) -> bool
     ensures { IsTrue result ↔ IsWordOf text.now kind }
 {
@@ -99,7 +98,7 @@ fn is_word(text: &[u8], kind: Kind) -> bool
     part_len(&text[word.len()..]) == 0
 }
 
-/// Whether a semicolon ends what the line has before its end, or before two slashes.
+/// Whether the line's last character before its end or `//` is a semicolon.
 fn is_closed(text: &[u8]) -> bool
     ensures { IsTrue result ↔ last_solid 0 (code_of text.now) ≡ 59 }
 {
@@ -115,7 +114,7 @@ fn is_closed(text: &[u8]) -> bool
     last == b';'
 }
 
-/// How many bytes there are up to the line's end, unless a slash and a star stand side by side before it.
+/// The length of the text up to the line's end, unless a `/*` comes before it.
 pub(crate) fn clear_len(text: &[u8]) -> Option<usize>
     ensures within { IfSome result (λ len. len ≤ length text.now) }
     ensures found { IfSome result (IsClear text.now) }
@@ -132,7 +131,7 @@ pub(crate) fn clear_len(text: &[u8]) -> Option<usize>
     Some(text.len())
 }
 
-/// The token at the front that contract lines alone have, in one.
+/// The token at the front, if it is one that only contract lines have, and this is one.
 pub(crate) fn contract_token(text: &[u8], inside: bool) -> Option<Kind>
     ensures inside { IfSome result (λ kind. inside ≡ true) }
     ensures found { IfSome result (IsContractTokenAt text.now) }

@@ -1,4 +1,4 @@
-// A place in a source while it is read: how far, in which line, and where the line's columns are counted from.
+// A position in a source during the scan, with its line and column.
 ghost use Rattle.std.specs.Prelude.{◌≡◌, ◌+◌, ◌-◌, ◌<◌, ◌≤◌, ◌^◌, length, slice_index};
 ghost use Rattle.kr_lex.specs.Places.{ends_line};
 ghost use Rattle.kr_lex.specs.Cursors.{Stands, byte_before, one_if};
@@ -6,8 +6,8 @@ ghost use Rattle.kr_lex.specs.Cursors.{Stands, byte_before, one_if};
 use crate::characters::{begins_character, is_line_end};
 use kr_base::Place;
 
-/// How many bytes were read, the line there, and what makes the column when it is taken from the next byte's number:
-/// the bytes before the line, and those in it that go on with a character.
+/// `origin` gives the column by subtraction from `at`: the bytes before the line, and those in it that continue a
+/// character.
 #[derive(Clone, Copy)]
 pub struct Cursor {
     pub at: usize,
@@ -16,7 +16,6 @@ pub struct Cursor {
 }
 
 impl Cursor {
-    /// The cursor at the first byte.
     pub fn start() -> Cursor
         ensures { result ≡ record { at = 0; line = 1; origin = 0 } }
     {
@@ -27,7 +26,6 @@ impl Cursor {
         }
     }
 
-    /// The cursor one byte further.
     pub fn step(self, bytes: &[u8]) -> Cursor
         requires room { length bytes.now < 2 ^ 30 }
         requires stands { Stands bytes.now self }
@@ -59,7 +57,6 @@ impl Cursor {
         }
     }
 
-    /// The cursor at an index further on.
     pub(crate) fn advance(self, bytes: &[u8], to: usize) -> Cursor
         requires room { length bytes.now < 2 ^ 30 }
         requires stands { Stands bytes.now self }
@@ -75,7 +72,6 @@ impl Cursor {
         cursor
     }
 
-    /// The place in a file.
     pub fn place(self, file: u32) -> Place
         requires column { self.origin ≤ self.at }
         requires room { self.at < 2 ^ 30 }
@@ -89,7 +85,7 @@ impl Cursor {
     }
 }
 
-/// How many lines end at a byte, none or one: a line feed behind a carriage return ends none of its own.
+/// The number of lines that end at a byte, 0 or 1: a line feed after a carriage return ends none.
 fn ended_lines(bytes: &[u8], at: usize) -> u32
     requires { at < length bytes.now }
     ensures { result ≡ one_if (ends_line (byte_before bytes.now at) (slice_index bytes.now at)) }

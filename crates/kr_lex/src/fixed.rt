@@ -1,4 +1,4 @@
-// Tokens of one spelling, looked up in the table.
+// Tokens with one spelling, looked up in a table.
 ghost use Rattle.std.specs.Prelude.{◌≡◌, ◌<◌, IfNone, IfSome, length};
 ghost use Rattle.kr_lex.specs.Pieces.{IsLongestFixed, BeginsNoFixed, IsNoFixed};
 ghost use Rattle.kr_lex.specs.Spelling.{spelling};
@@ -6,7 +6,7 @@ ghost use Rattle.kr_lex.specs.Spelling.{spelling};
 use crate::Kind;
 use crate::table::{beginning_with, spelling};
 
-/// The kind that has exactly this spelling.
+/// The kind with exactly this spelling.
 pub(crate) fn fixed_word(word: &[u8]) -> Option<Kind>
     requires { 0 < length word.now }
     ensures found { IfSome result (λ kind. word.now ≡ spelling kind) }
@@ -21,7 +21,7 @@ pub(crate) fn fixed_word(word: &[u8]) -> Option<Kind>
     None
 }
 
-/// The longest token of one spelling at the front.
+/// The longest token with a fixed spelling at the front.
 pub(crate) fn longest_fixed(text: &[u8]) -> Option<Kind>
     requires { 0 < length text.now }
     ensures found { IfSome result (IsLongestFixed text.now) }

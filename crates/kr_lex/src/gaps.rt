@@ -4,7 +4,7 @@ ghost use Rattle.kr_lex.specs.Pieces.{IsLineLength, IsBodyLength, IsNeverClosed}
 
 use crate::characters::is_line_end;
 
-/// How many bytes there are up to the line's end.
+/// The length up to the line's end.
 pub(crate) fn line_len(text: &[u8]) -> usize
     ensures { IsLineLength text.now result }
 {
@@ -18,7 +18,7 @@ pub(crate) fn line_len(text: &[u8]) -> usize
     len
 }
 
-/// How many bytes there are up to the first star and slash.
+/// The length up to the first `*/`.
 pub(crate) fn body_len(text: &[u8]) -> Option<usize>
     ensures found { IfSome result (IsBodyLength text.now) }
     ensures none { IfNone result (IsNeverClosed text.now) }

@@ -1,8 +1,8 @@
-// What kinds of token there are, and how those of one spelling are written.
+// The kinds of token, and the spelling of those that have only one.
 ghost use Rattle.std.specs.Prelude.{◌≡◌};
 ghost use Rattle.kr_lex.specs.Spelling.{is_outside_profile};
 
-/// What kind of token it is (Java Language Specification 3.8 to 3.12).
+/// The kind of a token (Java Language Specification 3.8 to 3.12).
 #[derive(Clone, Copy, PartialEq, Eq)]
 pub enum Kind {
     // names and literals
@@ -38,7 +38,7 @@ pub enum Kind {
     Void,
     While,
 
-    // keywords of Java that it doesn't use
+    // keywords of Java that are outside the language
     Abstract,
     Assert,
     Byte,
@@ -117,7 +117,7 @@ pub enum Kind {
     GreaterGreaterEqual,
     GreaterGreaterGreaterEqual,
 
-    // what stands in contract lines alone: `//@`, the word behind it, and two primaries
+    // in contract lines only: `//@`, the word after it, `\result` and `\old`
     Contract,
     Requires,
     Ensures,
@@ -126,7 +126,7 @@ pub enum Kind {
 }
 
 impl Kind {
-    /// Whether it is a keyword of Java that the language doesn't use.
+    /// Whether it is a keyword of Java that is outside the language.
     #[tactic(auto, unfolding(crate::specs::Spelling::is_outside_profile))]
     pub fn is_outside_profile(self) -> bool
         ensures { result ≡ is_outside_profile self }

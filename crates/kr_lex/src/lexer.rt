@@ -17,9 +17,9 @@ use kr_base::NoMemory;
 use std::alloc::Global;
 use std::str;
 
-/// Cuts a source, the bytes of the file of that number, into its tokens.
+/// Splits a source, the bytes of the file of that number, into tokens.
 ///
-/// It takes at most 21 bytes of memory for each byte of the source.
+/// Needs at most 21 bytes of memory for each byte of the source.
 pub fn lex(alloc: Global, file: u32, bytes: &[u8]) -> Result<Tokens, LexRefusal>
     requires file { file < 64 }
     requires room { length bytes.now < 2 ^ 30 }
@@ -33,21 +33,19 @@ pub fn lex(alloc: Global, file: u32, bytes: &[u8]) -> Result<Tokens, LexRefusal>
     Ok(Tokens::new(source, items, progress.cursor.place(file)))
 }
 
-/// No entries yet, and room for as many as the bytes may have.
+/// An empty list with room for one entry a byte.
 fn room_for(alloc: Global, bytes: &[u8]) -> Result<Vec<Token>, NoMemory>
     ensures { IfOk result (λ items. items.items ≡ []) }
 {
     Ok(Vec::with_capacity(alloc, bytes.len())?)
 }
 
-/// A copy of the bytes.
 fn copy_of(alloc: Global, bytes: &[u8]) -> Result<Vec<u8>, NoMemory>
     ensures { IfOk result (λ source. source.items ≡ bytes.now) }
 {
     Ok(Vec::from_slice(alloc, bytes)?)
 }
 
-/// Adds an entry.
 fn add(items: &mut Vec<Token>, token: Token) -> Result<(), NoMemory>
     ensures { IfOk result (λ _. items.new.items ≡ items.old.items ++ token ∷ []) }
 {
@@ -55,7 +53,7 @@ fn add(items: &mut Vec<Token>, token: Token) -> Result<(), NoMemory>
     Ok(())
 }
 
-/// The length of the longest front that is UTF-8.
+/// The length of the longest prefix that is UTF-8.
 fn valid_len(bytes: &[u8]) -> usize
     ensures { IsValidLength bytes.now result }
 {
@@ -65,7 +63,7 @@ fn valid_len(bytes: &[u8]) -> usize
     }
 }
 
-/// Reads all pieces, up to the end of what is UTF-8.
+/// Reads all pieces of the UTF-8 prefix.
 fn read_all(
     items: &mut Vec<Token>,
     file: u32,
@@ -92,7 +90,7 @@ fn read_all(
     Ok(progress)
 }
 
-/// Reads one piece, or how a contract line begins.
+/// Reads one piece, or the start of a contract line.
 fn read_piece(
     items: &mut Vec<Token>,
     file: u32,
@@ -149,7 +147,7 @@ fn read_plain(
     }
 }
 
-/// Reads how a contract line begins: its mark and its word.
+/// Reads the mark and the word of a contract line.
 fn read_contract(
     items: &mut Vec<Token>,
     file: u32,
@@ -186,7 +184,7 @@ fn read_contract(
     }
 }
 
-/// The contract line at two slashes and `@`, if it is well formed.
+/// The contract line at `//@`, if it is well formed.
 fn well_formed(bytes: &[u8], progress: Progress) -> Option<Line>
     requires stands { progress.cursor.at ≤ length bytes.now }
     requires room { length bytes.now < 2 ^ 30 }
@@ -205,7 +203,7 @@ fn well_formed(bytes: &[u8], progress: Progress) -> Option<Line>
     }
 }
 
-/// Up to which byte no slash and star stand side by side in a line from there, unless they do in this one.
+/// The index up to which the source has no `/*` within a line, unless this line has one.
 fn clear_from(bytes: &[u8], progress: Progress) -> Option<usize>
     requires stands { progress.cursor.at ≤ length bytes.now }
     requires room { length bytes.now < 2 ^ 30 }
@@ -242,7 +240,7 @@ fn push_head(
     Ok(())
 }
 
-/// Passes a piece, unless it goes on past what is UTF-8.
+/// Steps over a piece, unless it extends past the UTF-8 prefix.
 fn pass(
     file: u32,
     bytes: &[u8],

@@ -1,4 +1,4 @@
-//! Cuts a source into its tokens, each with its place, or names the first lexical rule that the source breaks.
+//! Splits a source into tokens, each with its place, or reports the first lexical rule that it breaks.
 #![tactic(auto)]
 
 mod characters;

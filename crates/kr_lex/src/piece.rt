@@ -1,4 +1,4 @@
-// What stands at the front of a text: a gap, a token, or what breaks a rule.
+// The piece at the front of a text: a gap, a token, or the rule that it breaks.
 ghost use Rattle.std.specs.Prelude.{◌≡◌, ◌<◌, ◌↔◌, IsTrue, true, false, length, slice_index};
 ghost use Rattle.std.specs.Char.{is_ascii_digit};
 ghost use Rattle.kr_lex.specs.Broken.{BeginsEscape};
@@ -13,7 +13,7 @@ use crate::table::spelling;
 use crate::words::{is_number, word_len};
 use crate::{Kind, LexRule};
 
-/// What stands at the front of a text.
+/// The piece at the front of a text.
 #[derive(Clone, Copy)]
 pub(crate) enum Piece {
     /// White space or a comment of this length.
@@ -23,14 +23,14 @@ pub(crate) enum Piece {
     Broken(LexRule),
 }
 
-/// Whether two slashes and `@` stand at the front.
+/// Whether the text begins with `//@`.
 pub(crate) fn begins_contract(text: &[u8]) -> bool
     ensures { IsTrue result ↔ BeginsContract text.now }
 {
     text.starts_with(b"//@")
 }
 
-/// What stands at the front of a text, in a contract line or outside of them, where none begins.
+/// The piece at the front, inside or outside a contract line, if no contract line begins there.
 pub(crate) fn first_piece(text: &[u8], inside: bool) -> Piece
     requires character { BeginsCharacter text.now }
     requires no_contract { BeginsContract text.now → ⊥ }
@@ -42,7 +42,7 @@ pub(crate) fn first_piece(text: &[u8], inside: bool) -> Piece
     }
 }
 
-/// What stands at the front of a text outside of contract lines, where none begins.
+/// The piece at the front outside contract lines, if none begins there.
 fn plain_piece(text: &[u8]) -> Piece
     requires character { BeginsCharacter text.now }
     requires no_contract { BeginsContract text.now → ⊥ }
@@ -62,7 +62,7 @@ fn plain_piece(text: &[u8]) -> Piece
     }
 }
 
-/// What stands at a slash: a comment or an operator.
+/// The comment or operator at a slash.
 fn slash(text: &[u8]) -> Piece
     requires some { 0 < length text.now }
     requires slash { slice_index text.now 0 ≡ 47 }
@@ -89,7 +89,7 @@ fn line_comment(text: &[u8]) -> Piece
     Piece::Gap(2 + line_len(&text[2..]))
 }
 
-/// A comment up to the first star and slash.
+/// A comment up to the first `*/`.
 fn block_comment(text: &[u8]) -> Piece
     requires some { 1 < length text.now }
     requires first { slice_index text.now 0 ≡ 47 }
@@ -102,7 +102,7 @@ fn block_comment(text: &[u8]) -> Piece
     }
 }
 
-/// The number at a digit, which goes on as far as a name would.
+/// The number at a digit, extended as far as a name would be.
 fn number(text: &[u8]) -> Piece
     requires { is_ascii_digit (slice_index text.now 0) ≡ true }
     ensures { IsPiece false text.now result }
@@ -159,7 +159,7 @@ fn symbol(text: &[u8]) -> Piece
     }
 }
 
-/// Whether a backslash and `u` stand at the front.
+/// Whether the text begins with a backslash and `u`.
 fn begins_escape(text: &[u8]) -> bool
     ensures { IsTrue result ↔ BeginsEscape text.now }
 {

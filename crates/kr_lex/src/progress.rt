@@ -1,12 +1,11 @@
-// How far a source has been read.
+// The state of the scan.
 ghost use Rattle.std.specs.Prelude.{◌≡◌, ◌&&◌, not, false};
 ghost use Rattle.kr_lex.specs.Characters.{is_line_end};
 
 use crate::characters::is_line_end;
 use crate::cursor::Cursor;
 
-/// The cursor, whether it stands in a contract line, and up to which byte no slash and star stand side by side in a line
-/// from there.
+/// The cursor, whether it is in a contract line, and the index up to which the source has no `/*` within a line.
 #[derive(Clone, Copy)]
 pub(crate) struct Progress {
     pub(crate) cursor: Cursor,
@@ -15,7 +14,6 @@ pub(crate) struct Progress {
 }
 
 impl Progress {
-    /// Nothing was read yet.
     pub(crate) fn start() -> Progress
         ensures { result ≡ record { cursor = record { at = 0; line = 1; origin = 0 }; inside = false; clear = 0 } }
     {
@@ -26,8 +24,7 @@ impl Progress {
         }
     }
 
-    /// The progress behind a gap that begins with this byte, but for the cursor: a line's end leads out of a contract
-    /// line.
+    /// The state after a gap that begins with this byte, apart from the cursor: a line's end leaves a contract line.
     pub(crate) fn behind_gap(self, first: u8) -> Progress
         ensures cursor { result.cursor ≡ self.cursor }
         ensures inside { result.inside ≡ (self.inside && not (is_line_end first)) }

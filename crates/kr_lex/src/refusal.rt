@@ -1,13 +1,13 @@
-// Why a source is no list of tokens.
+// The refusal of a source that is no list of tokens.
 ghost use Rattle.std.specs.Prelude.{◌≡◌};
 ghost use Rattle.kr_lex.specs.Rules.{rule_code};
 
 use kr_base::RefusalAt;
 
-/// A lexical rule, by what breaks it.
+/// A lexical rule, named by its violation.
 #[derive(Clone, Copy, PartialEq, Eq)]
 pub enum LexRule {
-    /// L1: bytes that are no UTF-8.
+    /// L1: bytes that are not UTF-8.
     NotUtf8,
     /// L2: a character that begins no token.
     StrayCharacter,
@@ -17,7 +17,7 @@ pub enum LexRule {
     BadNumber,
     /// L5: a backslash before `u` outside a comment.
     UnicodeEscape,
-    /// L6: a contract line of another word, without a semicolon at its end, or with a slash and a star.
+    /// L6: a contract line with another word, without a semicolon at its end, or with a `/*`.
     ContractLine,
 }
 
@@ -37,5 +37,5 @@ impl LexRule {
     }
 }
 
-/// A source was refused: it breaks a lexical rule at a place, or memory was refused.
+/// The refusal of a source: a lexical rule broken at a place, or out of memory.
 pub type LexRefusal = RefusalAt<LexRule>;

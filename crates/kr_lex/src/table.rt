@@ -1,12 +1,11 @@
-// How the tokens of one spelling are written, and the table that they are found in.
+// The spellings of tokens that have only one, and the table to look them up.
 ghost use Rattle.std.specs.Prelude.{◌≡◌};
 ghost use Rattle.kr_lex.specs.Spelling.{spelling};
 ghost use Rattle.kr_lex.specs.Table.{beginning_with, from_exclamation, from_semicolon, from_a, from_l};
 
 use crate::Kind;
 
-/// How a kind is spelled; empty for names and numbers, which have many spellings, and for what stands in contract
-/// lines alone.
+/// The spelling of a kind; empty for names, numbers, and kinds that occur only in contract lines.
 #[tactic(auto, unfolding(crate::specs::Spelling::spelling))]
 pub fn spelling(kind: Kind) -> &'static [u8]
     ensures { result.now ≡ spelling kind }
@@ -117,7 +116,7 @@ pub fn spelling(kind: Kind) -> &'static [u8]
     }
 }
 
-/// The kinds that are spelled from a byte below `;`.
+/// The kinds whose spelling begins with a byte below `;`.
 fn from_exclamation(first: u8) -> &'static [Kind]
     ensures { result.now ≡ from_exclamation first }
 {
@@ -142,7 +141,7 @@ fn from_exclamation(first: u8) -> &'static [Kind]
     }
 }
 
-/// The kinds that are spelled from a byte from `;` to `^`.
+/// The kinds whose spelling begins with a byte from `;` to `^`.
 fn from_semicolon(first: u8) -> &'static [Kind]
     ensures { result.now ≡ from_semicolon first }
 {
@@ -172,7 +171,7 @@ fn from_semicolon(first: u8) -> &'static [Kind]
     }
 }
 
-/// The kinds that are spelled from a letter from `a` to `i`.
+/// The kinds whose spelling begins with a letter from `a` to `i`.
 fn from_a(first: u8) -> &'static [Kind]
     ensures { result.now ≡ from_a first }
 {
@@ -209,7 +208,7 @@ fn from_a(first: u8) -> &'static [Kind]
     }
 }
 
-/// The kinds that are spelled from a byte from `l` on.
+/// The kinds whose spelling begins with a byte from `l` on.
 fn from_l(first: u8) -> &'static [Kind]
     ensures { result.now ≡ from_l first }
 {
@@ -244,7 +243,7 @@ fn from_l(first: u8) -> &'static [Kind]
     }
 }
 
-/// The kinds of one spelling that begin with a byte, longer ones first.
+/// The kinds with a fixed spelling that begins with this byte, longer ones first.
 #[tactic(auto, unfolding(crate::specs::Table::beginning_with))]
 pub(crate) fn beginning_with(first: u8) -> &'static [Kind]
     ensures { result.now ≡ beginning_with first }

@@ -1,4 +1,4 @@
-// The tokens of a source, as a list that keeps no memory for each of them but one small entry.
+// The tokens of a source, as a list with one small entry for each.
 ghost use Rattle.std.specs.Prelude.{◌≡◌, ◌+◌, ◌<◌, ◌≤◌, ◌^◌, length};
 ghost use Rattle.kr_lex.specs.declared.kind.Kind.TheVariants.{Number};
 ghost use Rattle.kr_lex.specs.Lexemes.{lexeme_at, number_value};
@@ -9,7 +9,7 @@ use crate::{Kind, words};
 use kr_base::Place;
 use std::marker::Model;
 
-/// A token: its kind, the line and the column where it begins, and the bytes of the source that spell it.
+/// A token: its kind, its line and column, and the bytes of the source that spell it.
 #[derive(Clone, Copy)]
 pub struct Token {
     pub kind: Kind,
@@ -20,7 +20,6 @@ pub struct Token {
 }
 
 impl Token {
-    /// The token of that kind and length at a cursor.
     pub fn new(cursor: Cursor, kind: Kind, len: usize) -> Token
         requires column { cursor.origin ≤ cursor.at }
         requires room { cursor.at + len < 2 ^ 30 }
@@ -40,8 +39,8 @@ impl Token {
     }
 }
 
-/// The tokens of a source. Contracts see the list of them, each with its spelling and its place, and the place just
-/// behind the last character.
+/// The tokens of a source. Contracts see the list of them, each with spelling and place, and the place after the last
+/// character.
 #[derive(Drop)]
 pub struct Tokens {
     source: Vec<u8>,
@@ -62,7 +61,6 @@ impl Model for Tokens {
 }
 
 impl Tokens {
-    /// The tokens of these entries.
     pub(crate) fn new(source: Vec<u8>, items: Vec<Token>, end: Place) -> Tokens
         requires { AreEntries source.items items.items }
         ensures { result ≡ shown end source.items items.items }
@@ -83,7 +81,7 @@ impl Tokens {
         self.items[at].kind
     }
 
-    /// The spelling, in bytes of UTF-8.
+    /// The spelling, in UTF-8.
     pub fn text(&self, at: usize) -> &[u8]
         requires { at < length self.now.list }
         ensures { result.now ≡ (lexeme_at self.now at).text }
@@ -116,7 +114,7 @@ impl Tokens {
         }
     }
 
-    /// The place just behind the source's last character.
+    /// The place after the source's last character.
     pub fn end(&self) -> Place
         ensures { result ≡ self.now.end }
     {

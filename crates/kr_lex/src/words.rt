@@ -6,7 +6,7 @@ ghost use Rattle.kr_lex.specs.Pieces.{IsPartLength, IsWordLength};
 
 use crate::characters::is_part;
 
-/// The length of the character at the front, if a name may go on with it, else 0.
+/// The length of the character at the front if a name may continue with it, else 0.
 pub(crate) fn part_len(text: &[u8]) -> usize
     ensures { IsPartLength text.now result }
 {
@@ -23,7 +23,7 @@ pub(crate) fn part_len(text: &[u8]) -> usize
     }
 }
 
-/// The length of the longest run of characters at the front that a name may go on with.
+/// The length of the longest run of characters at the front that can continue a name.
 pub(crate) fn word_len(text: &[u8]) -> usize
     ensures { IsWordLength text.now result }
 {

@@ -1,16 +1,16 @@
--- Between crates: allowed choices: of each class domain an index takes an object that stands on the path already, or the next
+-- Between crates: allowed choices: of each class domain an index takes an object that already occurs on the path, or the next
 -- unused one.
 use Rattle.std.specs.Prelude.{◌≡◌, ℕ, ◌<◌, ◌≤◌, ◌⊎◌, List, [], ◌∷◌, ◌++◌, Option, Some, None}
 use Rattle.std.proofs.Common.{get_or}
 use Rattle.kr_mean.specs.Problem.{DomainObject}
 use Rattle.kr_mean.specs.Space.{Space}
 
--- the object stands on the path, which has slots with their indices
+-- the object occurs on the path, which has slots with their indices
 abbrev pub IsUsed : Space → List (ℕ × ℕ) → ℕ → ℕ → Type 0
 IsUsed space [] d k = ⊥
 IsUsed space (p ∷ path) d k = (space.object_at p.0 p.1 ≡ Some (record { domain = d; number = k })) ⊎ IsUsed space path d k
 
--- a number, a boolean or null; an object on the path; the next unused one, since all that stand before it are used
+-- a number, a boolean or null; an object on the path; the next unused one, since all before it are used
 abbrev pub MayStand : Space → List (ℕ × ℕ) → Option DomainObject → Type 0
 MayStand space path None = Unit {0}
 MayStand space path (Some o) = IsUsed space path o.domain o.number ⊎ ((k : ℕ) → k < o.number → IsUsed space path o.domain k)

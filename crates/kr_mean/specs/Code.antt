@@ -69,12 +69,12 @@ code_of_method program m = code_of_all (method_scope program m) m.body
 abbrev pub code_of_constructor : Program → ℕ → Constructor → List Node
 code_of_constructor program c k = let s = constructor_scope program c k in code s k.call ++ code_of_all s k.body
 
--- what the creation of an object runs of one class: the initial values of fields, and the constructor
+-- the code of one class that the creation of an object runs: the initial values of fields, and the constructor
 abbrev pub code_of_class : Program → ℕ → List Node
 code_of_class program c =
     flat_map (λ f. code (class_scope program f.class) f.initial) (declared_fields program c) ++ flat_map (code_of_constructor program c) (option_to_list (constructor_of program c))
 
--- ---- what a node may run
+-- ---- the code that a node may run
 
 -- a static method alone; of an instance method the one of each class at or below the class that declares it
 abbrev pub overriders : Program → Method → List Method

@@ -27,7 +27,7 @@ abbrev pub without : Value → List Value → List Value
 without v [] = []
 without v (m ∷ ms) = if is_same_value m v then ms else m ∷ without v ms
 
--- what a call gives, and the members after it
+-- the result of a call, and the members after it
 pub record Collected : Type 0 where
   pub given : Result Value Kind
   pub members : List Value

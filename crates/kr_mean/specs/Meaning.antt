@@ -1,6 +1,6 @@
--- To be believed: what expressions and statements do (the Java Language Specification, 15 and 14). Each node takes one unit of
--- fuel before all else; what only holds others together takes none: a list, and the group of a declaration. The scope says what
--- names and types mean where a node stands; the locals are the scope's, by their numbers.
+-- To be believed: the meaning of expressions and statements (Java Language Specification, 15 and 14). Each node takes one unit
+-- of fuel before all else; nodes that only hold others together take none: a list, and the group of a declaration. The scope
+-- gives the names and types at a node their meaning; the locals are the scope's, by their numbers.
 use Rattle.std.specs.Prelude.{ℕ, zero, suc, Bool, true, false, List, [], ◌∷◌, length, map, replicate, Option, Some, None, option_and_then, pos, negsuc, nat_lt, if◌then◌else◌}
 use Rattle.kr_ast.specs.declared.node.BinaryOperator.{BinaryOperator}
 use Rattle.kr_ast.specs.declared.node.BinaryOperator.TheVariants.{And, Or}
@@ -62,7 +62,7 @@ choose v m n = stop Stuck
 
 -- ---- the parts of a node
 
--- what expressions and statements below a node do, and what a loop of a test and a body does
+-- the meaning of expressions and statements below a node, and of a loop of a test and a body
 pub record Parts : Type 0 where
   pub value : Scope → Tree → Run Value
   pub exec : Scope → Tree → Run Flow
@@ -112,7 +112,7 @@ read_name program s (LocalName k t) = read_local k
 read_name program s (FieldName f) = if f.is_static then constant s (Some f) else get_this >>= load_field program f.name
 read_name program s NoName = stop Stuck
 
--- behind a class's name a constant, else a field of an object or the length of an array (15.11)
+-- after a class's name a constant, otherwise a field of an object or the length of an array (15.11)
 abbrev pub access : Program → Parts → Scope → Tree → List ℕ → Option ℕ → Run Value
 access program parts s e n (Some c) = constant s (constant_of s.table (Some c) n)
 access program parts s e n None = parts.value s e >>= load_field program n
@@ -156,12 +156,12 @@ own_call program parts arguments (Some m) = if m.is_static then run_method progr
   class ← class_of o
   run_method program parts o arguments (overriding program m class))
 
--- null traps behind the arguments; a method that the type doesn't have is a collection's
+-- null traps after the arguments are evaluated; a method that the type doesn't have is a collection's
 abbrev pub called : Program → Parts → List ℕ → Value → List Value → Option Method → Run Value
 called program parts n o arguments (Some m) = class_of o >>= run_chosen program parts m o arguments
 called program parts n o arguments None = collect n o arguments
 
--- behind a class's name a static method, else one of an object
+-- after a class's name a static method, otherwise one of an object
 abbrev pub method_call : Program → Parts → Scope → Tree → List ℕ → List Tree → Option ℕ → Run Value
 method_call program parts s e n es (Some c) = do
   vs ← values_of parts s es
@@ -283,7 +283,7 @@ assigned program parts s (ElementOf a i t) m = do
   give v
 assigned program parts s NoTarget m = stop Stuck
 
--- what a variable has after a change, and what the change gives
+-- a variable's value after a change, and the value of the change
 pub record Change : Type 0 where
   pub new : Value
   pub given : Value
@@ -469,7 +469,7 @@ flow_of program parts s t = stop Stuck
 
 -- ---- whole trees
 
--- the scope in which a group's declarators stand
+-- the scope at a group's declarators
 abbrev pub declaring_locals : Scope → Tree → Scope
 declaring_locals s t = declaring Locals t s
 
@@ -478,7 +478,7 @@ abbrev pub statement : Program → Parts → Scope → Tree → Run Flow
 statement program parts s (trees.Local p t ds) = all_declared parts (declaring_locals s t) (items ds)
 statement program parts s t = tick >> flow_of program parts s t
 
--- what is below a node where no fuel is left
+-- the meaning below a node where no fuel is left
 abbrev pub spent : Parts
 spent = record { value = λ s e. stop OutOfFuel; exec = λ s t. stop OutOfFuel; rounds = λ test body. stop OutOfFuel }
 

@@ -53,7 +53,7 @@ abbrev pub int_in : Value → ℤ
 int_in (Int n) = n
 int_in v = pos 0
 
--- what a comparison says
+-- the result of a comparison
 abbrev pub holds_of : BinaryOperator → Value → Value → Bool
 holds_of Less v w = int_lt (int_in v) (int_in w)
 holds_of LessOrEqual v w = not (int_lt (int_in w) (int_in v))

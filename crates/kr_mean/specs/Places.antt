@@ -4,7 +4,7 @@ use Rattle.kr_value.specs.declared.object.Spot.{Spot}
 use Rattle.kr_value.specs.declared.place.SlotPlace as code
 use Rattle.kr_value.specs.declared.place.SlotPlace.TheVariants as places
 
--- what `this` is, a parameter of the method under test, or a spot of an object
+-- `this`, a parameter of the method under test, or a spot of an object
 pub data SlotPlace : Type 0 where
   This : SlotPlace
   Parameter : ℕ → SlotPlace

@@ -16,7 +16,7 @@ use Rattle.kr_mean.specs.Meaning.{Target, OwnField, FieldOf, ElementOf, NoTarget
 use Rattle.kr_mean.specs.Code.{Node, code, code_run, code_of_method}
 use Rattle.kr_mean.specs.Runs.{root_class, tested_method, requires_of, ensures_of}
 
--- ---- what a node touches
+-- ---- the touch of a node
 
 -- the variable that a node writes
 abbrev pub written_by : Scope → Tree → Target
@@ -84,7 +84,7 @@ IsPure problem = (node : Node) → IsImpure problem node → ⊥
 
 -- ---- the first node that isn't pure
 
--- where a node stands that touches something
+-- the place of a node that touches something
 abbrev pub touch_place : Tree → List Place
 touch_place (trees.Assignment p a e) = p ∷ []
 touch_place (trees.CompoundAssignment p o a e) = p ∷ []

@@ -1,7 +1,6 @@
 -- To be believed: the predicate run on a vector, the order of the slots that decide it, and the key that they give.
 use Rattle.std.specs.Prelude.{◌≡◌, ℕ, ◌+◌, ◌==◌, Bool, true, false, ◌&&◌, ◌||◌, List, [], ◌∷◌, ◌++◌, length, map, flat_map, filter, Option, Some, None, option_to_list, Result, Ok, Err, codes, if◌then◌else◌}
 use Rattle.std.proofs.Common.{get_or}
-use Rattle.kr_base.specs.declared.place.Place.{Place}
 use Rattle.kr_ast.specs.Tree as trees
 use Rattle.kr_ast.specs.Tree.{Tree, MethodCall}
 use Rattle.kr_value.specs.declared.object.Class.{Class}
@@ -24,6 +23,7 @@ use Rattle.kr_mean.specs.Heaps.{distinct, heap_of, value_at, walk}
 use Rattle.kr_mean.specs.Steps.{Local, State, Outcome, Run, after_reads, give, stop, ◌>>=◌}
 use Rattle.kr_mean.specs.Meaning.{value}
 use Rattle.kr_mean.specs.Code.{Node}
+use Rattle.kr_base.specs.Places.{nowhere}
 
 -- ---- the run
 
@@ -58,16 +58,12 @@ ensured_in t = []
 abbrev pub contract_nodes : Program → Part → (Tree → List Tree) → Method → List Node
 contract_nodes program part chosen m = map (λ e. record { scope = in_contract part (method_scope program m); tree = e }) (flat_map chosen m.contracts)
 
--- the conditions of the contract that stands before a method, in its scope
+-- the conditions of a method's contract, in its scope
 abbrev pub requires_of : Program → Method → List Node
 requires_of program m = contract_nodes program Requiring required_in m
 
 abbrev pub ensures_of : Program → Method → List Node
 ensures_of program m = contract_nodes program Ensuring ensured_in m
-
--- the place of what stands in no source
-abbrev pub nowhere : Place
-nowhere = record { file = 0; line = 0; col = 0 }
 
 -- `this.repOk()`, in the code of the root's class
 abbrev pub rep_ok : Tree
@@ -76,7 +72,7 @@ rep_ok = MethodCall nowhere (trees.This nowhere) (codes "repOk") trees.Nil
 abbrev pub rep_ok_node : Problem → Node
 rep_ok_node problem = record { scope = class_scope problem.program (root_class problem); tree = rep_ok }
 
--- what has to hold: `this.repOk()`, and then each precondition in order
+-- the conditions: `this.repOk()`, and then each precondition in order
 abbrev pub conditions : Problem → List Node
 conditions problem = rep_ok_node problem ∷ flat_map (requires_of problem.program) (option_to_list (tested_method problem problem.mode))
 

@@ -1,5 +1,5 @@
--- To be believed: the steps that runs are made of, and how one follows another: a step gives a value or ends the run, may change
--- the state, and tells which places of candidates it read, in order.
+-- To be believed: the steps that runs are made of, and their sequence: a step gives a value or ends the run, may change the
+-- state, and reports which places of candidates it read, in order.
 use Rattle.std.specs.Prelude.{ℕ, zero, suc, Bool, true, false, List, [], ◌∷◌, ◌++◌, length, take, map, slice_set, Option, Some, None, Result, Ok, Err, ℤ, pos, negsuc, codes, nat_eq, nat_lt, bytes_eq, if◌then◌else◌}
 use Rattle.kr_base.specs.declared.place.Place.{Place}
 use Rattle.kr_value.specs.declared.value.Value.{Value}
@@ -30,8 +30,8 @@ pub record Old : Type 0 where
   pub place : Place
   pub value : Value
 
--- What a run changes. The locals go by their numbers, the oldest first; the first objects of the heap are the
--- candidates. Result and olds are those of the method under test, once it has run.
+-- The state of a run. The locals go by their numbers, the oldest first; the first objects of the heap are the candidates.
+-- Result and olds are those of the method under test, once it has run.
 pub record State : Type 0 where
   pub this_value : Value
   pub locals : List Local
@@ -41,7 +41,7 @@ pub record State : Type 0 where
   pub candidates : ℕ
   pub fuel : ℕ
 
--- what a run says, the state after it, and the places of candidates that it read, in order
+-- the answer of a run, the state after it, and the places of candidates that it read, in order
 pub record Outcome (A : Type 0) : Type 0 where
   pub said : Result A Stop
   pub after : State
@@ -59,7 +59,7 @@ give a s = say (Ok a) s
 abbrev pub stop : {A : Type 0} → Stop → Run A
 stop e s = say (Err e) s
 
--- what was read before, and then an outcome
+-- an outcome, with earlier reads before its own
 abbrev pub after_reads : {A : Type 0} → List SlotPlace → Outcome A → Outcome A
 after_reads reads o = record { said = o.said; after = o.after; reads = reads ++ o.reads }
 
@@ -141,7 +141,7 @@ old_at (o ∷ os) p = if is_at_place o.place p then Some o.value else old_at os 
 abbrev pub get_old : Place → Run Value
 get_old p s = given (old_at s.olds p) s
 
--- what a body leaves, with `this` and locals as they were
+-- the state after a body, with `this` and locals as they were
 abbrev pub back_to : {A : Type 0} → State → Outcome A → Outcome A
 back_to s o = record { said = o.said; after = record o.after { this_value = s.this_value; locals = s.locals }; reads = o.reads }
 
@@ -153,11 +153,11 @@ entered true receiver arguments body s = back_to s (body (record s { this_value 
 abbrev pub within : {A : Type 0} → Value → ℕ → List Value → Run A → Run A
 within receiver n arguments body s = entered (nat_eq (length arguments) n) receiver arguments body s
 
--- what is declared inside ends with it
+-- locals declared inside end with it
 abbrev pub scoped : {A : Type 0} → Run A → Run A
 scoped m s = record { said = (m s).said; after = record (m s).after { locals = take (length s.locals) (m s).after.locals }; reads = (m s).reads }
 
--- ---- what a run reads
+-- ---- reads
 
 -- a place that is read, if it is a candidate's
 abbrev pub noted : Bool → SlotPlace → List SlotPlace
@@ -194,7 +194,7 @@ element (Reference o) (Int i) s = element_if (has_spot (object_in s.heap o) Leng
 element Null (Int i) s = stop (Trapped NullPointerException) s
 element v w s = stop Stuck s
 
--- what an object is of, while the program runs; of null nothing
+-- the class of an object, while the program runs; null has none
 abbrev pub class_or_null : Value → Run (Option Class)
 class_or_null (Reference o) s = give (Some (object_in s.heap o).class) s
 class_or_null Null s = give None s
@@ -219,7 +219,7 @@ load_field program n o = do
   class ← class_of o
   load_in program o n class
 
--- ---- what a run writes
+-- ---- writes
 
 -- an object with another value in its k-th field or element
 abbrev pub put : List HeapObject → ℕ → ℕ → Value → List HeapObject

@@ -1,4 +1,4 @@
--- To be believed: what a test says of the method under test on a structure, by its contract: the values of its `\old`s, its
+-- To be believed: the verdict of a test of the method under test on a structure, by its contract: the values of its `\old`s, its
 -- body, `this.repOk()` and its postconditions, with one fresh fuel for all.
 use Rattle.std.specs.Prelude.{ℕ, ◌+◌, true, false, List, [], ◌∷◌, map, flat_map, Option, Some, None, Result, Ok, Err}
 use Rattle.kr_base.specs.declared.place.Place.{Place}
@@ -43,8 +43,8 @@ olds_valued program (o ∷ os) = do
   vs ← olds_valued program os
   give (record { place = o.place; value = v } ∷ vs)
 
--- Goes on with what a run gave and the state after it; else the verdict is said. No run of a program that typing accepts
--- is stuck; one that is comes to no end, and is no pass.
+-- Goes on with a run's value and the state after it; otherwise the verdict is known. No run of a program that typing accepts is
+-- stuck; a stuck run would count as out of fuel, which is failing.
 abbrev pub judged_as : {A : Type 0} → (Kind → Verdict) → Result A Stop → State → (A → State → Verdict) → Verdict
 judged_as trap (Ok a) s next = next a s
 judged_as trap (Err (Trapped kind)) s next = trap kind

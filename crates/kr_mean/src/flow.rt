@@ -1,4 +1,4 @@
-// What a statement comes to.
+// The end of a statement.
 
 use kr_value::Value;
 

@@ -24,7 +24,7 @@ pub enum Stop {
     Stuck,
 }
 
-/// What a test says of the method under test on a structure.
+/// The verdict of a test of the method under test on a structure.
 #[derive(Clone, Copy, PartialEq, Eq)]
 pub enum Verdict {
     Pass,

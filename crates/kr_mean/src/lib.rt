@@ -1,6 +1,6 @@
-//! What a listing means: the meaning of the language, problems with their candidates, the predicate's run, verdicts, and all
-//! entries of a problem, one for each class of isomorphic candidates. The definitions stand in `specs/`. Beside them the
-//! types of what is asked and listed, and of what statements and runs come to: the machine uses the same.
+//! The meaning of a listing: the meaning of the language, problems with their candidates, the predicate's run, verdicts, and
+//! all entries of a problem, one for each class of isomorphic candidates. The definitions are in `specs/`. The types of
+//! requests, of rows and of the ends of statements and runs are here too, and the machine uses them.
 #![tactic(auto)]
 
 mod flow;

@@ -1,4 +1,4 @@
-// What is asked of a problem.
+// The request made of a problem.
 ghost use Rattle.std.specs.Prelude.{◌≡◌, string_bytes};
 
 use std::marker::Model;

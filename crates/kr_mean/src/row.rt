@@ -1,4 +1,4 @@
-// What is listed of a valid candidate.
+// The row of a valid candidate.
 ghost use Rattle.std.specs.Prelude.{◌≡◌};
 
 use crate::Verdict;

@@ -11,7 +11,7 @@ use Rattle.kr_parse_grammar.specs.State.{front}
 use Rattle.kr_parse_grammar.specs.Terminals.{terminal_of}
 use Rattle.kr_parse.specs.Refusals.{token_at}
 
--- the token behind the last one
+-- the token after the last one
 abbrev pub behind_all : Lexemes → Lexeme
 behind_all ts = record { kind = kinds.Semicolon; text = []; place = ts.end }
 
@@ -39,6 +39,6 @@ same_token ts at l = grind (arith, common_steps)
 pub no_token : (ts : Lexemes) (at : ℕ) → length ts.list ≤ at → token_at ts at ≡ behind_all ts
 no_token ts at l = grind (arith, common_steps)
 
--- what is ahead, where a token is
+-- the terminal ahead, if there is a token
 pub terminal_ahead : (ts : Lexemes) (at : ℕ) → at < length ts.list → ahead (drop at ts.list) ≡ terminal_of (token_at ts at).kind
 terminal_ahead ts at l = ap ahead (token_ahead ts at l)

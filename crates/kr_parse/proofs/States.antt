@@ -1,4 +1,4 @@
--- How the state of a parse goes on, and what it says where the parse ends.
+-- The steps of a parse, and its results.
 use Rattle.std.proofs.Common.{◌≡◌, ℕ, ◌+◌, ◌*◌, ◌-◌, ◌<◌, ◌≤◌, List, [], ◌∷◌, ◌++◌, Option, Some, None, length, take, drop, refl, sym, ap, subst, ◌∙◌, arith}
 use Rattle.std.proofs.Math.Seq.{take-length, drop-length}
 use Rattle.std.proofs.lemmas.List.{append-nil}
@@ -21,6 +21,7 @@ use Rattle.kr_parse_grammar.specs.State.{Good, weight, debt, debt_of, load, fron
 use Rattle.kr_parse.specs.Refusals.{IsDead, IsViable, IsShallow, token_at}
 use Rattle.kr_parse.proofs.Ahead.{front_ahead, through, is_token}
 use Rattle.kr_parse.specs.Steps.{AreLaws, IsAsked, AsksToken, kept_of, IsLeast}
+use Rattle.kr_parse_laws.proofs.CompleteSteps.{build_inv}
 
 pub same_ahead : (i j : List Lexeme) → front i ≡ front j → ahead i ≡ ahead j
 same_ahead [] [] e = refl
@@ -56,9 +57,6 @@ token_next (Spell s) u (spell a p q d) = d
 token_next (Want g) u d = absurd u
 token_next (Build m) u d = absurd u
 
-build_inv : {ss : List Symbol} {vs ws : List StackItem} {i : List Lexeme} {m : Make} → Runs (Build m ∷ ss) vs i ws → Runs ss (made m vs) i ws
-build_inv (build d) = d
-
 done_empty : {vs us : List StackItem} {i : List Lexeme} → Runs [] vs i us → i ≡ []
 done_empty done = refl
 
@@ -66,7 +64,7 @@ abbrev RunsOf : Option (List Symbol) → List Symbol → List StackItem → List
 RunsOf None ss vs i ws = ⊥
 RunsOf (Some body) ss vs i ws = Runs (body ++ ss) vs i ws
 
--- the machine goes on from a goal exactly as its rule says
+-- the machine continues from a goal exactly by its rule
 opens : {g : Goal} {ss : List Symbol} {vs ws : List StackItem} {i : List Lexeme} → Runs (Want g ∷ ss) vs i ws → RunsOf (rule g (ahead i) (tag vs)) ss vs i ws
 opens (want body e d) = rw e d
 
@@ -88,7 +86,7 @@ good_behind (Spell s) ss u h = h
 good_behind (Want g) ss u h = absurd u
 good_behind (Build m) ss u h = absurd u
 
--- what a symbol adds to the load, where it is no goal
+-- the contribution of a symbol that is no goal to the load
 token_weighs : (s : Symbol) (ss : List Symbol) → AsksToken s → load (s ∷ ss) ≡ 1 + weight ss
 token_weighs (Take k) ss u = omega arith
 token_weighs (Keep k) ss u = omega arith
@@ -201,7 +199,7 @@ module _ (laws : AreLaws) (ts : Lexemes) (at : ℕ) (ss : List Symbol) (vs : Lis
   least : State ts.list at ss vs → IsShallow ts at → ((j : List Lexeme) (ws : List StackItem) → front j ≡ front (drop at ts.list) → Runs ss vs j ws → ⊥) → IsLeast ts at
   least h b none = record { dead = dead h none; viable = viable h; shallow = b }
 
--- no rule stands for the goal
+-- the goal has no rule
 pub least_want : AreLaws → (ts : Lexemes) (at : ℕ) (g : Goal) (ss : List Symbol) (vs : List StackItem) → State ts.list at (Want g ∷ ss) vs → IsShallow ts at
     → rule g (ahead (drop at ts.list)) (tag vs) ≡ None → IsLeast ts at
 least_want laws ts at g ss vs h b q = least laws ts at (Want g ∷ ss) vs h b none
@@ -223,7 +221,7 @@ least_token laws ts at s ss vs u h b q = least laws ts at (s ∷ ss) vs h b none
             let t = is_token ts at a i (ap front (sym f) ∙ e) in
             q t.0 (subst (λ (x : Lexeme). IsAsked s x) (sym t.1) p)
 
--- nothing is wanted, and tokens are left
+-- the stack is empty, and tokens are left
 pub least_left : AreLaws → (ts : Lexemes) (at : ℕ) (vs : List StackItem) → State ts.list at [] vs → IsShallow ts at → at < length ts.list → IsLeast ts at
 least_left laws ts at vs h b l = least laws ts at [] vs h b none
   where
@@ -231,7 +229,7 @@ least_left laws ts at vs h b l = least laws ts at [] vs h b none
     none j ws e d =
         let x : front (token_at ts at ∷ []) ≡ front [] = front_ahead ts at l [] ∙ sym e ∙ ap front (done_empty d) in cc
 
--- nothing is wanted, and none is left
+-- the stack is empty, and no token is left
 pub derived : AreLaws → (ts : Lexemes) (at : ℕ) (vs : List StackItem) → State ts.list at [] vs → length ts.list ≤ at
     → (p : Place) × (f : Form) × (t : Tree) × (vs ≡ part p f t ∷ []) × Derives ts.list t
 derived laws ts at vs h l = laws.sound ts.list vs whole
@@ -247,7 +245,7 @@ derived laws ts at vs h l = laws.sound ts.list vs whole
 pub same_rule : (g h : Goal) (k l : Terminal) (q r : Tag) (o : Option (List Symbol)) → g ≡ h → k ≡ l → q ≡ r → rule h k r ≡ o → rule g l q ≡ o
 same_rule g h k l q r o a b e d = ap (λ x. rule x l q) a ∙ ap (λ x. rule h x q) (sym b) ∙ ap (λ x. rule h k x) e ∙ d
 
--- what stands for the goal takes its place
+-- the goal is replaced by the symbols of its rule
 pub expanded : AreLaws → (ts : Lexemes) (at : ℕ) (g : Goal) (body ss new : List Symbol) (vs : List StackItem) → new ≡ body ++ ss → rule g (ahead (drop at ts.list)) (tag vs) ≡ Some body
     → State ts.list at (Want g ∷ ss) vs → State ts.list at new vs
 expanded laws ts at g body ss new vs e q h = subst (λ (x : List Symbol). State ts.list at x vs) (sym e) (state_want laws ts at ss vs g body q h)

@@ -33,12 +33,12 @@ is_closing kinds.RightBrace = true
 is_closing kinds.RightBracket = true
 is_closing _ = false
 
--- how many brackets are open behind the tokens, n before them
+-- the number of open brackets after the tokens, given n before them
 abbrev pub open_behind : ℕ → List Lexeme → ℕ
 open_behind n [] = n
 open_behind n (a ∷ i) = open_behind (if is_opening a.kind then n + 1 else if is_closing a.kind then pred n else n) i
 
--- the token at an index, and behind the last one a token of no kind that matters
+-- the token at an index, and after the last one a token of an irrelevant kind
 abbrev pub token_at : Lexemes → ℕ → Lexeme
 token_at ts k = slice_index_or ts.list k (record { kind = kinds.Semicolon; text = []; place = ts.end })
 
@@ -81,7 +81,7 @@ IsUnparsed ts p rules.Syntax = IsLeastDead ts p false
 IsUnparsed ts p rules.Unsupported = IsLeastDead ts p true
 IsUnparsed ts p rules.TooNested = IsFirstTooNested ts p
 
--- want of memory is free
+-- memory may always run out
 abbrev pub IsRefusal : Lexemes → RefusalAt ParseRule → Type 0
 IsRefusal ts (refusals.Broken p rule) = IsUnparsed ts p rule
 IsRefusal ts (refusals.NoMemory _) = Unit {0}

@@ -1,4 +1,4 @@
--- Between crates: what the parser's loop keeps, and what a token does to it.
+-- Between crates: the invariant of the parser's loop, and the effect of a token on it.
 use Rattle.std.specs.Prelude.{◌≡◌, ◌+◌, ◌≤◌, ℕ, pred, if◌then◌else◌, List, ◌∷◌, length, take, drop}
 use Rattle.kr_lex.specs.Lexemes.{Lexeme, Lexemes}
 use Rattle.kr_lex.specs.declared.kind.Kind.{Kind}
@@ -14,7 +14,7 @@ use Rattle.kr_parse_laws.specs.Laws.{Soundness, Completeness, SmallTrees, Produc
 use Rattle.kr_parse.specs.declared.cursor.Cursor.{Cursor}
 use Rattle.kr_parse.specs.Refusals.{IsDead, IsViable, IsShallow, is_opening, is_closing, open_behind}
 
--- what the parser relies on
+-- the theorems that the parser relies on
 pub record AreLaws : Type 0 where
   pub sound : Soundness
   pub complete : Completeness
@@ -39,25 +39,25 @@ AsksToken (Want g) = ⊥
 AsksToken (Build m) = ⊥
 AsksToken _ = Unit {0}
 
--- the values behind a token that the symbol asked for
+-- the values after a token that the symbol asks for
 abbrev pub kept_of : Symbol → Lexeme → List StackItem → List StackItem
 kept_of (Keep k) a vs = mark a.kind a.place ∷ vs
 kept_of Word a vs = word a.place a.text ∷ vs
 kept_of Leaf a vs = part a.place forms.Other (literal a) ∷ vs
 kept_of _ a vs = vs
 
--- how many brackets are open behind a token, so many being open before it
+-- the number of open brackets after a token, given those before it
 abbrev pub depth_behind : Kind → ℕ → ℕ
 depth_behind k n = if is_opening k then n + 1 else if is_closing k then pred n else n
 
--- the cursor knows what is ahead and how many brackets are open, and none before it is too deep
+-- the cursor has the terminal ahead and the number of open brackets, and none before it is too deep
 pub record IsStanding (ts : Lexemes) (c : Cursor) : Type 0 where
   pub within : c.at ≤ length ts.list
   pub next : c.next ≡ ahead (drop c.at ts.list)
   pub depth : c.depth ≡ open_behind 0 (take c.at ts.list)
   pub shallow : IsShallow ts c.at
 
--- no derivable file goes on with the token, and some does with those before it
+-- no derivable file continues with the token, and some does with those before it
 pub record IsLeast (ts : Lexemes) (k : ℕ) : Type 0 where
   pub dead : IsDead ts.list k
   pub viable : IsViable ts.list k

@@ -1,5 +1,5 @@
-// Where the parser stands among the tokens.
-ghost use Rattle.std.specs.Prelude.{◌≡◌, ◌+◌, ◌<◌, ◌≤◌, true, false, IfOk, IfErr, length, drop};
+// The parser's position among the tokens.
+ghost use Rattle.std.specs.Prelude.{◌≡◌, ◌+◌, ◌<◌, true, false, IfOk, IfErr, length, drop};
 ghost use Rattle.kr_parse_grammar.specs.Terminals.{terminal_of};
 ghost use Rattle.kr_parse_grammar.specs.Machine.{ahead, spelling};
 ghost use Rattle.kr_parse.specs.Refusals.{is_opening, is_closing, token_at, IsViable, IsRefusal};
@@ -12,7 +12,7 @@ use kr_parse_grammar::{Spelled, Symbol, Terminal, terminal_of};
 /// How many brackets may be open.
 pub(crate) const OPEN_BRACKETS: u32 = 64;
 
-/// The index of the next token, how many brackets are open before it, and what it is: `End` behind the last token.
+/// The index of the next token, the number of open brackets before it, and its terminal: `End` after the last token.
 #[derive(Clone, Copy)]
 pub(crate) struct Cursor {
     pub(crate) at: usize,
@@ -20,7 +20,7 @@ pub(crate) struct Cursor {
     pub(crate) next: Terminal,
 }
 
-/// What stands at an index, `End` behind the last token.
+/// The terminal at an index, `End` after the last token.
 fn ahead(tokens: &Tokens, at: usize) -> Terminal
     ensures { result ≡ ahead (drop at tokens.now.list) }
 {
@@ -31,7 +31,7 @@ fn ahead(tokens: &Tokens, at: usize) -> Terminal
     }
 }
 
-/// The refusal of a token with which no derivable file goes on.
+/// The refusal at a token with which no derivable file continues.
 #[cold]
 #[inline(never)]
 pub(crate) fn dead(tokens: &Tokens, at: usize) -> ParseRefusal
@@ -84,7 +84,7 @@ fn is_closing(kind: Kind) -> bool
     )
 }
 
-/// How many brackets are open behind a token.
+/// The number of open brackets after a token.
 fn depth_behind(kind: Kind, depth: u32) -> u32
     requires { is_opening kind ≡ true → depth < 64 }
     ensures { result ≡ depth_behind kind depth }
@@ -145,7 +145,7 @@ impl Cursor {
         }
     }
 
-    /// Goes behind the token ahead, with which some derivable file goes on.
+    /// Steps over the token ahead, with which some derivable file continues.
     pub(crate) fn step(&mut self, tokens: &Tokens) -> Result<(), ParseRefusal>
         requires within { self.old.at < length tokens.now.list }
         requires standing { IsStanding tokens.now self.old }

@@ -1,4 +1,4 @@
-// What holds of the parser's answers.
+// Theorems on the parser's results.
 ghost use Rattle.kr_parse.specs.Refusals.{OneRefusal, ParsedUnbroken};
 
 /// Tokens break at most one rule first, at one place, and none where they have a tree.

@@ -1,5 +1,5 @@
-//! Parses the tokens of a source: answers the tree that the grammar derives, or names the first token with which no
-//! derivable file goes on.
+//! Parses the tokens of a source: returns the tree that the grammar derives, or reports the first token with which no
+//! derivable file continues.
 #![tactic(auto)]
 
 mod cursor;

@@ -20,7 +20,7 @@ use kr_parse_laws::{completeness, productivity, small_trees, soundness};
 use kr_parse_trees::Builder;
 use std::alloc::Global;
 
-/// What holds of the grammar and its machine. It does nothing.
+/// The theorems on the grammar and its machine, for the parser's proofs. It does nothing.
 fn laws()
     ensures { AreLaws }
 {
@@ -30,7 +30,7 @@ fn laws()
     productivity();
 }
 
-/// Puts what stands for a goal in its place.
+/// Replaces a goal by the symbols of its rule.
 fn expand(
     tokens: &Tokens,
     cursor: Cursor,
@@ -105,7 +105,7 @@ fn keep(tokens: &Tokens, at: usize, symbol: Symbol, builder: &mut Builder) -> Re
     }
 }
 
-/// Goes on by one symbol, which was taken off the stack.
+/// Processes one symbol, which was popped from the stack.
 #[inline(always)]
 fn advance(
     tokens: &Tokens,
@@ -145,7 +145,7 @@ fn advance(
     }
 }
 
-/// The tree that the tokens derive; or the first token with which no derivable file goes on, or that opens too many
+/// The tree that the tokens derive; or the first token with which no derivable file continues, or that opens too many
 /// brackets.
 pub fn parse(alloc: Global, tokens: &Tokens) -> Result<Tree, ParseRefusal>
     ensures derived { IfOk result (λ tree. Derives tokens.now.list (root tree)) }

@@ -7,7 +7,7 @@ use kr_base::RefusalAt;
 /// A rule of the grammar, by what breaks it.
 #[derive(Clone, Copy, PartialEq, Eq)]
 pub enum ParseRule {
-    /// P1: a token with which no derivable file goes on, the end of input being a last one.
+    /// P1: a token with which no derivable file continues; the end of input counts as the last token.
     Syntax,
     /// P2: likewise, where it is a keyword that the language doesn't use.
     Unsupported,

@@ -56,7 +56,7 @@ impl Stack {
         self.items.pop()
     }
 
-    /// Puts the symbols on top, the first one topmost.
+    /// Pushes the symbols, the first one topmost.
     pub(crate) fn push_all(&mut self, body: &[Symbol]) -> Result<(), NoMemory>
         ensures { OnOk result (self.new ≡ body.now ++ self.old) }
     {

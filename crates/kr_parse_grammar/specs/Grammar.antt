@@ -50,7 +50,7 @@ pub data Class : Type 0 where
   Member : List ℕ → Bool → Class
   Members : List ℕ → Bool → Class
   Classes : Class
-  -- one that may be absent; any number; one or more, parted by commas
+  -- an optional one; any number; one or more, separated by commas
   Maybe : Class → Class
   Many : Class → Class
   Several : Class → Class
@@ -60,7 +60,7 @@ abbrev pub at : List Lexeme → Place
 at [] = record { file = 0; line = 0; col = 0 }
 at (a ∷ i) = a.place
 
--- a statement at whose end stands an `if` without `else`
+-- a statement that ends with an `if` without `else`
 abbrev pub EndsOpen : Tree → Type 0
 EndsOpen (IfThen p c s) = Unit {0}
 EndsOpen (IfElse p c s u) = EndsOpen u
@@ -83,7 +83,7 @@ pub data Der : Class → List Lexeme → Tree → List Lexeme → Type 0 where
   -- any number
   end : {c : Class} {i : List Lexeme} → Der (Many c) i Nil i
   next : {c : Class} {i m r : List Lexeme} {t u : Tree} → Der c i t m → Der (Many c) m u r → Der (Many c) i (Cons t u) r
-  -- one or more, parted by commas
+  -- one or more, separated by commas
   last : {c : Class} {i r : List Lexeme} {t : Tree} → Der c i t r → Der (Several c) i (Cons t Nil) r
   comma : {c : Class} {i m r : List Lexeme} {t u : Tree} (a : Lexeme) → Der c i t (a ∷ m) → a.kind ≡ kinds.Comma → Der (Several c) m u r → Der (Several c) i (Cons t u) r
   -- types
@@ -151,7 +151,7 @@ pub data Der : Class → List Lexeme → Tree → List Lexeme → Type 0 where
   unsigned : {i r : List Lexeme} {t : Tree} → Der Unsigned i t r → Der Unary i t r
   sign : {i r : List Lexeme} {t : Tree} {o : UnaryOperator} (a : Lexeme) → sign_of a.kind ≡ Some o → Der Unary i t r → Der Unary (a ∷ i) (trees.Unary a.place o t) r
   stepped_before : {i r : List Lexeme} {t : Tree} {o : StepOperator} (a : Lexeme) → step_before a.kind ≡ Some o → Der Unary i t r → Der Unary (a ∷ i) (trees.Step a.place o t) r
-  -- expressions with several operands: to the left of an operator nothing looser stands, to the right only what is tighter
+  -- binary expressions: nothing looser to the left of an operator, only tighter to its right
   operand : {i r : List Lexeme} {t : Tree} → Der Unary i t r → Der (Operation 11) i t r
   binary : {l x y : ℕ} {i m r : List Lexeme} {t u : Tree} {o : BinaryOperator} (a : Lexeme) → Der (Operation x) i t (a ∷ m) → binary_of a.kind ≡ Some o → level o ≡ l → l ≤ x
       → Der (Operation y) m u r → l < y → Der (Operation l) i (trees.Binary (at i) o t u) r
@@ -209,7 +209,7 @@ pub data Der : Class → List Lexeme → Tree → List Lexeme → Type 0 where
   nested : {o : List ℕ} {i j r : List Lexeme} {f : Modifiers} {t : Tree} → Modified i f j → f.is_static ≡ true → f.overrides ≡ false → Der (ClassDeclaration true) j t r → Der (Member o false) i t r
   field : {o : List ℕ} {n : Bool} {i j m r : List Lexeme} {f : Modifiers} {t u : Tree} (a : Lexeme) → Modified i f j → f.overrides ≡ false → Der AnyType j t m → Der (Several Declarator) m u (a ∷ r) → a.kind ≡ kinds.Semicolon
       → Der (Member o n) i (trees.Field (at j) f.is_static f.is_final t u) r
-  -- contracts stand before methods alone
+  -- contracts come before methods only
   precondition : {i r : List Lexeme} {t : Tree} (a b c : Lexeme) → a.kind ≡ kinds.Contract → b.kind ≡ kinds.Requires → Der Expression i t (c ∷ r) → c.kind ≡ kinds.Semicolon
       → Der Contract (a ∷ b ∷ i) (trees.Requires a.place t) r
   postcondition : {i r : List Lexeme} {t : Tree} (a b c : Lexeme) → a.kind ≡ kinds.Contract → b.kind ≡ kinds.Ensures → Der Expression i t (c ∷ r) → c.kind ≡ kinds.Semicolon
@@ -233,7 +233,7 @@ pub data Der : Class → List Lexeme → Tree → List Lexeme → Type 0 where
   skip_class : {i r : List Lexeme} {t : Tree} (a : Lexeme) → a.kind ≡ kinds.Semicolon → Der Classes i t r → Der Classes (a ∷ i) t r
   another : {i j m r : List Lexeme} {f : Modifiers} {t u : Tree} → Modified i f j → f.overrides ≡ false → Der (ClassDeclaration false) j t m → Der Classes m u r → Der Classes i (Cons t u) r
 
--- further names, each behind a dot
+-- further names, each after a dot
 pub data Dotted : List Lexeme → List Lexeme → Type 0 where
   no_more : {i : List Lexeme} → Dotted i i
   dot : {i r : List Lexeme} (a b : Lexeme) → a.kind ≡ kinds.Dot → b.kind ≡ kinds.Identifier → Dotted i r → Dotted (a ∷ b ∷ i) r
@@ -249,7 +249,7 @@ pub data Imports : List Lexeme → List Lexeme → Type 0 where
   import : {i r : List Lexeme} (a b c d e f g : Lexeme) → a.kind ≡ kinds.Import → b.kind ≡ kinds.Identifier → b.text ≡ java → c.kind ≡ kinds.Dot → d.kind ≡ kinds.Identifier → d.text ≡ util → e.kind ≡ kinds.Dot
       → Imported f.kind → g.kind ≡ kinds.Semicolon → Imports i r → Imports (a ∷ b ∷ c ∷ d ∷ e ∷ f ∷ g ∷ i) r
 
--- what stands before the classes
+-- the text before the classes
 pub data Heading : List Lexeme → List Lexeme → Type 0 where
   unpackaged : {i r : List Lexeme} → Imports i r → Heading i r
   packaged : {i m r : List Lexeme} (a b c : Lexeme) → a.kind ≡ kinds.Package → b.kind ≡ kinds.Identifier → Dotted i (c ∷ m) → c.kind ≡ kinds.Semicolon → Imports m r → Heading (a ∷ b ∷ i) r

@@ -1,4 +1,5 @@
--- Between crates: the machine: from a stack of symbols and the values behind it, it takes tokens, looking at one token.
+-- Between crates: the machine. It takes tokens from a stack of symbols and the values so far, with one token of
+-- lookahead.
 use Rattle.std.specs.Prelude.{◌≡◌, ℕ, zero, suc, ◌+◌, Bool, true, false, if◌then◌else◌, nat_lt, List, [], ◌∷◌, ◌++◌, Option, Some, None}
 use Rattle.kr_lex.specs.Lexemes.{Lexeme}
 use Rattle.kr_parse_grammar.specs.declared.terminal.Terminal.{Terminal}
@@ -39,7 +40,7 @@ starts_unary Sign = true
 starts_unary Step = true
 starts_unary k = starts_unsigned k
 
--- what may stand behind an expression
+-- the tokens that may follow an expression
 abbrev pub ends_expression : Terminal → Bool
 ends_expression RightParenthesis = true
 ends_expression RightBracket = true
@@ -76,7 +77,7 @@ abbrev pub operators_rule : ℕ → ℕ → Terminal → ℕ → Option (List Sy
 operators_rule n x k zero = if ends_expression k then Some [] else None
 operators_rule n x k (suc l) = if nat_lt (suc l) n then Some [] else if nat_lt x (suc l) then None else Some (infix_body n k)
 
--- what stands for a goal, by the token ahead and the values on top
+-- the rule for a goal, by the token ahead and the values on top
 abbrev pub rule : Goal → Terminal → Tag → Option (List Symbol)
 rule goals.File Package q = Some (Take Package ∷ Take Identifier ∷ Want goals.Dotted ∷ Take Semicolon ∷ Want goals.Imports ∷ [])
 rule goals.File k q = Some (Want goals.Imports ∷ [])
@@ -346,6 +347,6 @@ pub data Runs : List Symbol → List StackItem → List Lexeme → List StackIte
   want : {ss : List Symbol} {vs ws : List StackItem} {i : List Lexeme} {g : Goal} (body : List Symbol) → rule g (ahead i) (tag vs) ≡ Some body → Runs (body ++ ss) vs i ws → Runs (Want g ∷ ss) vs i ws
   build : {ss : List Symbol} {vs ws : List StackItem} {i : List Lexeme} {m : Make} → Runs ss (made m vs) i ws → Runs (Build m ∷ ss) vs i ws
 
--- what a parse begins with
+-- the initial stack of a parse
 abbrev pub start : List Symbol
 start = Want goals.File ∷ []

@@ -1,6 +1,7 @@
--- Between crates: what is made of the values on top. Where they are no such values, nothing is.
+-- Between crates: the reductions of the values on top. On other values they do nothing.
 use Rattle.std.specs.Prelude.{ℕ, true, false, List, ◌∷◌}
 use Rattle.kr_base.specs.declared.place.Place.{Place}
+use Rattle.kr_base.specs.Places.{nowhere}
 use Rattle.kr_lex.specs.Lexemes.{Lexeme, number_value}
 use Rattle.kr_lex.specs.declared.kind.Kind.{Kind}
 use Rattle.kr_lex.specs.declared.kind.Kind.TheVariants as kinds
@@ -18,10 +19,6 @@ use Rattle.kr_parse_grammar.specs.declared.value.Form.TheVariants as forms
 use Rattle.kr_parse_grammar.specs.declared.goal.Make.{Make}
 use Rattle.kr_parse_grammar.specs.declared.goal.Make.TheVariants as makes
 use Rattle.kr_parse_grammar.specs.Values.{StackItem, mark, word, pair, part, member, owner, no_modifiers}
-
--- the place of what has none
-abbrev pub nowhere : Place
-nowhere = record { file = 0; line = 0; col = 0 }
 
 -- the operators of a kept token
 abbrev pub the_primitive : Kind → Primitive
@@ -97,14 +94,14 @@ literal_of _ p n = trees.This p
 abbrev pub literal : Lexeme → Tree
 literal a = literal_of a.kind a.place a.text
 
--- a name as an operand, compared with what stands below it, or tested by it where that is an expression
+-- a name as an operand, compared with the value below it, or tested by it if that is an expression
 abbrev pub joined : Place → Tree → Tree → List StackItem → List StackItem → List StackItem
 joined p e t (part q f x ∷ us) cs = part q forms.Other (trees.InstanceOf q x t) ∷ us
 joined p e t (word q n ∷ us) (part r f x ∷ cs) = part r forms.Other (trees.Binary r binaries.Less x e) ∷ cs
 joined p e t (pair q o n ∷ us) (part r f x ∷ cs) = part r forms.Other (trees.Binary r binaries.Less x e) ∷ cs
 joined p e t us cs = part p forms.Target e ∷ us
 
--- the names on top, which stood with `<` between them, as comparisons
+-- the names on top, which had `<` between them, as comparisons
 abbrev pub compared : List StackItem → List StackItem
 compared (word p n ∷ vs) = joined p (trees.Variable p n) (trees.NamedType p n) vs (compared vs)
 compared (pair p o n ∷ vs) = joined p (trees.FieldAccess p (trees.Variable p o) n) (trees.QualifiedType p o n) vs (compared vs)

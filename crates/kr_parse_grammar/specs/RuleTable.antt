@@ -1,4 +1,4 @@
--- Between crates: what the code answers where a rule is looked up.
+-- Between crates: the results of looking up a rule.
 use Rattle.std.specs.Prelude.{◌≡◌, List, [], Option, Some, None}
 use Rattle.std.specs.Borrow.{Bor}
 use Rattle.kr_parse_grammar.specs.declared.goal.Symbol.{Symbol}
@@ -17,7 +17,7 @@ IsInfix Ends rule = rule ≡ Some []
 IsInfix (Tests body) rule = rule ≡ Some body
 IsInfix (Operates body) rule = rule ≡ Some body
 
--- a goal whose symbols stand in the table
+-- a goal whose rule is in the table
 abbrev pub IsFixed : Goal → Type 0
 IsFixed (goals.Operators n x) = ⊥
 IsFixed _ = Unit {0}

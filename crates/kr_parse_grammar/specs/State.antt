@@ -39,7 +39,7 @@ abbrev pub is_inside : Terminal → Bool
 is_inside Outside = false
 is_inside _ = true
 
--- what closes an expression
+-- the tokens that close an expression
 abbrev pub closes : Terminal → Bool
 closes RightParenthesis = true
 closes RightBracket = true
@@ -62,7 +62,7 @@ ends_statement Else = false
 ends_statement Outside = false
 ends_statement _ = true
 
--- what may stand behind a goal, where it is taken the short way
+-- the tokens that may follow a goal, if it takes the short way
 abbrev pub follows : Goal → Terminal → Bool
 follows goals.File k = is_end k
 follows goals.Dotted k = is_semicolon k
@@ -224,7 +224,7 @@ weight_of goals.TestedName = 4
 weight_of goals.AfterTested = 2
 weight_of _ = 1
 
--- a goal that takes a token surely stands lower
+-- a goal that always takes a token ranks lower
 abbrev pub debt_of : Goal → ℕ
 debt_of goals.Imported = 40
 debt_of goals.ClassAhead = 40
@@ -299,7 +299,8 @@ abbrev pub front : List Lexeme → Option Lexeme
 front [] = None
 front (a ∷ i) = Some a
 
--- With the token at `at` ahead, what is taken from the start is what came before it and what these symbols take.
+-- With the token at `at` ahead: the tokens before it, followed by any that these symbols take, are taken from the
+-- start.
 pub record State (ts : List Lexeme) (at : ℕ) (ss : List Symbol) (vs : List StackItem) : Type 0 where
   pub within : at ≤ length ts
   pub onward : (j : List Lexeme) (ws : List StackItem) → front j ≡ front (drop at ts) → Runs start [] (take at ts ++ j) ws → Runs ss vs j ws

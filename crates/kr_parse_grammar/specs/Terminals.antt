@@ -1,4 +1,4 @@
--- Between crates: what the grammar tells apart among the kinds of tokens.
+-- Between crates: the kinds of tokens that the grammar distinguishes.
 use Rattle.kr_lex.specs.declared.kind.Kind.{Kind}
 use Rattle.kr_lex.specs.declared.kind.Kind.TheVariants as kinds
 use Rattle.kr_parse_grammar.specs.declared.terminal.Terminal.{Terminal}

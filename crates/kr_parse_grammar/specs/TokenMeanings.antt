@@ -1,4 +1,4 @@
--- To be believed: what tokens mean for the grammar: the operators that they are and how tightly these bind.
+-- To be believed: the meaning of tokens for the grammar: their operators and how tightly these bind.
 use Rattle.std.specs.Prelude.{ℕ, List, Bool, true, false, Option, Some, None, codes}
 use Rattle.kr_lex.specs.declared.kind.Kind.{Kind}
 use Rattle.kr_lex.specs.declared.kind.Kind.TheVariants as kinds
@@ -22,7 +22,7 @@ sign_of kinds.Plus = Some unaries.Plus
 sign_of kinds.Minus = Some unaries.Minus
 sign_of _ = None
 
--- `++` and `--`, before their operand and behind it
+-- `++` and `--`, before and after their operand
 abbrev pub step_before : Kind → Option StepOperator
 step_before kinds.PlusPlus = Some steps.IncrementBefore
 step_before kinds.MinusMinus = Some steps.DecrementBefore

@@ -1,4 +1,4 @@
--- To be believed: what the machine keeps of the tokens behind it.
+-- To be believed: the machine's values for the tokens so far.
 use Rattle.std.specs.Prelude.{ℕ, Bool, true, false, ◌&&◌, not, if◌then◌else◌, List, [], ◌∷◌}
 use Rattle.std.specs.Str.{bytes_eq}
 use Rattle.kr_base.specs.declared.place.Place.{Place}
@@ -17,9 +17,9 @@ pub data StackItem : Type 0 where
   word : Place → List ℕ → StackItem
   -- two identifiers with a dot between them
   pair : Place → List ℕ → List ℕ → StackItem
-  -- a tree, and where its first token stands
+  -- a tree, and the place of its first token
   part : Place → Form → Tree → StackItem
-  -- the modifiers of the member that comes, and whether its class is nested
+  -- the modifiers of the next member, and whether its class is nested
   member : Bool → Modifiers → StackItem
   -- the name of the class whose members come, and whether it is nested
   owner : Bool → Place → List ℕ → StackItem
@@ -47,12 +47,12 @@ tag_of_member b m = if m.overrides then tags.Overriding else if m.is_static && n
 abbrev pub is_plain : Modifiers → Bool
 is_plain m = not m.is_static && not m.is_final && not m.overrides
 
--- a word, by what stands below it
+-- a word, by the value below it
 abbrev pub tag_of_word : List ℕ → List StackItem → Tag
 tag_of_word n (member b m ∷ owner c p o ∷ vs) = if is_plain m && bytes_eq n o then tags.Constructor else tags.Word
 tag_of_word n _ = tags.Word
 
--- what the values on top are
+-- the shape of the values on top
 abbrev pub tag : List StackItem → Tag
 tag [] = tags.Other
 tag (mark k p ∷ vs) = tags.Other

@@ -1,5 +1,4 @@
-// What stands for the goals of files, classes and members.
-ghost use Rattle.std.specs.Prelude.{◌≡◌};
+// The rules for files, classes and members.
 ghost use Rattle.kr_parse_grammar.specs.declared.terminal.Terminal.{Terminal};
 ghost use Rattle.kr_parse_grammar.specs.declared.value.Tag.{Tag};
 ghost use Rattle.kr_parse_grammar.specs.Machine.{rule};

@@ -1,5 +1,4 @@
-// What stands for the goals in parentheses and behind `instanceof`, where a name may be a type or an operand.
-ghost use Rattle.std.specs.Prelude.{◌≡◌};
+// The rules in parentheses and after `instanceof`, where a name may be a type or an operand.
 ghost use Rattle.kr_parse_grammar.specs.declared.terminal.Terminal.{Terminal};
 ghost use Rattle.kr_parse_grammar.specs.declared.value.Tag.{Tag};
 ghost use Rattle.kr_parse_grammar.specs.Machine.{rule};

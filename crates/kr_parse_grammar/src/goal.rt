@@ -1,4 +1,4 @@
-// What the parser may be looking for, and what it puts together.
+// The parser's goals and its reductions.
 
 use crate::terminal::Terminal;
 
@@ -10,7 +10,7 @@ pub enum Spelled {
     Override,
 }
 
-/// What comes next. Goals whose names begin with `After`, or say where they stand, go on from the values on top.
+/// The next thing to parse. Goals whose names begin with `After`, or with a position, continue from the values on top.
 #[derive(Clone, Copy)]
 pub enum Goal {
     // files and classes
@@ -86,7 +86,7 @@ pub enum Goal {
     /// operators that bind at least as tightly as one level, and at most as another
     Operators { least: u8, most: u8 },
 
-    // what stands in parentheses, a cast's type or an expression
+    // in parentheses: a cast's type or an expression
     InParentheses,
     PrimitiveCast,
     EnclosedName,
@@ -104,20 +104,20 @@ pub enum Goal {
     ChainGreater,
     ChainClosing,
 
-    // the type behind `instanceof`
+    // the type after `instanceof`
     Tested,
     TestedName,
     AfterTested,
 }
 
-/// What is made of the values on top.
+/// The reductions of the values on top.
 #[derive(Clone, Copy)]
 pub enum Make {
     Nil,
     Cons,
     /// two words into a pair
     Pair,
-    /// the two values on top, the other way round
+    /// the two values on top, swapped
     Swap,
 
     // types
@@ -145,7 +145,7 @@ pub enum Make {
     Binary,
     Less,
     Greater,
-    /// of names with `<` between them comparisons, those below the one on top, or all
+    /// names with `<` between them as comparisons, those below the top or all
     CompareBelow,
     CompareAll,
     InstanceOf,

@@ -1,16 +1,16 @@
-// What stands for operators between operands.
+// The rules for operators between operands.
 ghost use Rattle.std.specs.Prelude.{◌≡◌, ◌<◌};
 ghost use Rattle.kr_parse_grammar.specs.declared.value.Tag.{Tag};
-ghost use Rattle.kr_parse_grammar.specs.Machine.{level_of, ends_expression, infix_body, rule};
+ghost use Rattle.kr_parse_grammar.specs.Machine.{level_of, ends_expression, rule};
 ghost use Rattle.kr_parse_grammar.specs.RuleTable.{IsInfix};
 
 use crate::goal::{Goal, Make, Symbol};
 use crate::terminal::Terminal;
 
-/// How an expression goes on behind an operand.
+/// How an expression continues after an operand.
 #[derive(Clone, Copy)]
 pub enum Infix {
-    /// no expression goes on so
+    /// no expression continues so
     Dead,
     /// the operation ends
     Ends,
@@ -40,7 +40,7 @@ fn level_of(next: Terminal) -> u8
     }
 }
 
-/// Whether the token may stand behind an expression.
+/// Whether an expression may end before this token.
 fn ends_expression(next: Terminal) -> bool
     ensures { result ≡ ends_expression next }
 {
@@ -55,7 +55,7 @@ fn ends_expression(next: Terminal) -> bool
     )
 }
 
-/// What stands for operators that bind at least as tightly as one level, and at most as another.
+/// The rule for operators with a level from `least` to `most`.
 pub fn after_operand(least: u8, most: u8, next: Terminal) -> Infix
     ensures { (tag : Tag) → IsInfix result (rule (Goal.Operators least most) next tag) }
 {

@@ -1,4 +1,4 @@
-// Which symbols stand for a goal.
+// The rule for each goal.
 ghost use Rattle.kr_parse_grammar.specs.Machine.{rule};
 ghost use Rattle.kr_parse_grammar.specs.RuleTable.{IsRule, IsFixed};
 
@@ -7,7 +7,7 @@ use crate::terminal::Terminal;
 use crate::value::Tag;
 use crate::{declarations, enclosed, expressions, statements};
 
-/// What stands for a goal other than operators, by the token ahead and the values on top.
+/// The rule for a goal other than operators, by the token ahead and the values on top.
 pub fn rule(goal: Goal, next: Terminal, tag: Tag) -> Option<&'static [Symbol]>
     requires { IsFixed goal }
     ensures { IsRule result (rule goal next tag) }

@@ -1,5 +1,4 @@
-// What stands for the goals of types, locals and statements.
-ghost use Rattle.std.specs.Prelude.{◌≡◌};
+// The rules for types, locals and statements.
 ghost use Rattle.kr_parse_grammar.specs.declared.terminal.Terminal.{Terminal};
 ghost use Rattle.kr_parse_grammar.specs.declared.value.Tag.{Tag};
 ghost use Rattle.kr_parse_grammar.specs.Machine.{rule};

@@ -1,10 +1,10 @@
-// What the parser tells apart among the kinds of tokens.
+// The kinds of tokens that the parser distinguishes.
 ghost use Rattle.std.specs.Prelude.{◌≡◌};
 ghost use Rattle.kr_parse_grammar.specs.Terminals.{terminal_of};
 
 use kr_lex::Kind;
 
-/// Tokens that the grammar treats alike. `End` stands behind the last token.
+/// Tokens that the grammar treats alike. `End` comes after the last token.
 #[derive(Clone, Copy, PartialEq, Eq)]
 pub enum Terminal {
     End,

@@ -1,9 +1,10 @@
-// What the parser tells apart among the trees and modifiers that it has read.
+// The kinds of trees and modifiers that the parser distinguishes.
 
-/// What a tree may still become part of: expressions by their form, types, and declarations of locals.
+/// The larger constructs that a tree can still become part of: expressions by their form, types, declarations of
+/// locals.
 #[derive(Clone, Copy, PartialEq, Eq)]
 pub enum Form {
-    /// what may be assigned to: a variable, a field or an element
+    /// assignable: a variable, a field or an element
     Target,
     /// a call or the creation of an object
     Invocation,
@@ -21,7 +22,7 @@ pub struct Modifiers {
     pub overrides: bool,
 }
 
-/// What the values on top are, where a choice of the parser depends on them.
+/// The shape of the values on top, as far as a choice of the parser depends on it.
 #[derive(Clone, Copy, PartialEq, Eq)]
 pub enum Tag {
     Target,
@@ -33,7 +34,7 @@ pub enum Tag {
     Local,
     Word,
     Pair,
-    /// the name of the class, where a constructor may stand
+    /// the name of the class, in a position for a constructor
     Constructor,
     /// modifiers of what may be a nested class
     Nestable,

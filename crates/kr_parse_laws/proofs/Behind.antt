@@ -1,4 +1,4 @@
--- What may stand behind goals, by cases.
+-- The tokens that may follow goals, by cases.
 use Rattle.std.proofs.Common.{◌≡◌, ◌≢◌, true, refl}
 use Rattle.kr_parse_grammar.specs.declared.terminal.Terminal.{Terminal}
 use Rattle.kr_parse_grammar.specs.declared.terminal.Terminal.TheVariants.{End, Identifier, Void, RightParenthesis, LeftBrace, RightBrace, RightBracket, Semicolon, Comma, Colon, Greater, Step, Outside}

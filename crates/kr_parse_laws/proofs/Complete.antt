@@ -1,4 +1,4 @@
--- What is derived the machine takes, in one way.
+-- The machine accepts derivable tokens, with one tree.
 use Rattle.std.proofs.Common.{◌≡◌, true, false, List, [], ◌∷◌, refl, ap}
 use Rattle.kr_base.specs.declared.place.Place.{Place}
 use Rattle.kr_lex.specs.Lexemes.{Lexeme, number_value}
@@ -13,7 +13,7 @@ use Rattle.kr_parse_grammar.specs.Terminals.{terminal_of}
 use Rattle.kr_parse_grammar.specs.Values.{StackItem, part}
 use Rattle.kr_parse_grammar.specs.Made.{the_primitive, assigned, literal_of, jump}
 use Rattle.kr_parse_grammar.specs.Grammar as grammar
-use Rattle.kr_parse_grammar.specs.Grammar.{at, Class, Der, Derives, Heading}
+use Rattle.kr_parse_grammar.specs.Grammar.{at, Class, Der}
 use Rattle.kr_parse_grammar.specs.Machine.{Runs, done, start}
 use Rattle.kr_parse_laws.specs.Laws.{Completeness, OneTree}
 use Rattle.kr_parse_laws.proofs.CompleteSteps.{same}
@@ -162,7 +162,7 @@ complete (grammar.no_class {i = i}) = no_class_claim i
 complete (grammar.skip_class {i = i} {r = r} {t = t} a p d) = skip_class_claim i r t a (ap terminal_of p) (complete d)
 complete (grammar.another {i = i} {j = j} {m = l} {r = r} {f = f} {t = t} {u = u} m h d e) = classes_claim i j l r f t u m h (complete d) (complete e)
 
--- what is derived the machine takes from the start
+-- the machine accepts derivable tokens
 pub completeness : Completeness
 completeness i t (j, h, d) =
     let c : (p : Place) × (f : Form) × ((ss : List Symbol) (vs ws : List StackItem) → Runs ss (part p f t ∷ vs) [] ws → Runs (Want goals.Classes ∷ ss) vs j ws) = complete d refl in

@@ -1,4 +1,4 @@
--- Operations, behind operands and behind names that may begin a chain.
+-- Binary operations, after operands and after names that may begin a chain.
 use Rattle.std.proofs.Common.{◌≡◌, ℕ, zero, suc, ◌+◌, ◌≤◌, ◌<◌, Bool, true, false, not, List, [], ◌∷◌, Some, refl, ap, arith}
 use Rattle.kr_base.specs.declared.place.Place.{Place}
 use Rattle.kr_lex.specs.Lexemes.{Lexeme}
@@ -27,7 +27,7 @@ use Rattle.kr_parse_laws.proofs.CompleteSteps.{open_at, step, step_with}
 use Rattle.kr_parse_laws.proofs.CompleteClaims.{Part, IsName, a_word, a_pair, is_at_end, ends_operand, is_relation, is_less, passes, Context, Bare, Enters, Gated, Reaches, Conts, Begins, OperandClaim, OperationClaim, ReferenceClaim}
 use Rattle.kr_parse_laws.proofs.CompleteOperators.{dimensions_end, past_operand, operators_inv, operators_stop, go_rule, infix_rule, RelationOf, OperatorFacts, facts_of, low_relation, unary_starts, expression_starts, type_of, below_variable, plain_name, compares, tests, named}
 
--- behind a name in a chain, where it is an operand
+-- after a name in a chain, if it is an operand
 chain_rule : (k : Terminal) (q : Tag) → ends_operand k ≡ true → is_relation k ≡ false → rule goals.ChainName k q ≡ Some (Build makes.CompareBelow ∷ Build makes.Variable ∷ Want goals.ChainPrimary ∷ [])
 chain_rule terminals.Dot q e h = cc
 chain_rule terminals.LeftBracket q e h = cc
@@ -79,7 +79,7 @@ conts_end x n ss vs ws p t r h far rel = record {
     reach : x ≡ 7 → Reaches x 7
     reach e l a b = omega (arith, e, a)
 
--- behind two names with a dot between them no third comes
+-- two names with a dot between them are followed by no third
 pub pair_tag : (c : Bool) (v : StackItem) (q : Place) (e u : Tree) (ns : List StackItem) → IsName v q e u → passes c v terminals.Dot ≡ true → tag (v ∷ ns) ≡ tags.Pair
 pair_tag c v q e u ns a_word h = cc
 pair_tag c v q e u ns a_pair h = refl
@@ -120,7 +120,7 @@ module _ (ts : List Symbol) (ns : List StackItem) (p : Place) (f : Form) (t : Tr
           go terminals.RightBracket z y = cc
           go k z y = step goals.ChainBracket k ts (v ∷ ns) ws j z (build (build (rw (below_variable v q e u ns (part p f t ∷ vs) isn nm) d)))
 
--- An operand behind `<` in a chain, which may be a further name.
+-- An operand after `<` in a chain, which may be a further name.
 arg_of : (n : ℕ) (ss : List Symbol) (vs ws : List StackItem) (p : Place) (f : Form) (t u : Tree) (y : ℕ) (m r : List Lexeme) (ts : List Symbol) (ns : List StackItem) → n ≤ 7 → 7 < y → is_name ns ≡ true → compared ns ≡ part p f t ∷ vs
     → Gated n ss ts ws → OperationClaim y m u r → Conts 7 n ss vs ws p (trees.Binary p binaries.Less t u) r → Runs (Want goals.ChainArgument ∷ ts) ns m ws
 arg_of n ss vs ws p f t u y m r ts ns low high isns nm gate claim k = go (ahead m) refl (unary_starts (Want (goals.Operators 8 10) ∷ Build makes.Less ∷ ts) (part p f t ∷ vs) ws m simple)
@@ -164,7 +164,7 @@ quiet_end _ e h = refl
 tested_gate : (n : ℕ) (ss : List Symbol) (ws : List StackItem) → Gated n ss (Want goals.AfterTested ∷ Want (goals.Operators n 7) ∷ ss) ws
 tested_gate n ss ws p t vs j d = step goals.AfterTested (ahead j) (Want (goals.Operators n 7) ∷ ss) (part p forms.Other t ∷ vs) ws j refl d
 
--- Behind the left operand of an operator.
+-- After the left operand of an operator.
 module _ (x y n : ℕ) (ss : List Symbol) (vs ws : List StackItem) (p : Place) (t u : Tree) (o : BinaryOperator) (a : Lexeme) (m r : List Lexeme)
     (po : binary_of a.kind ≡ Some o) (lx : level o ≤ x) (ly : level o < y) (nl : n ≤ level o) (claim : OperationClaim y m u r) (k : Conts (level o) n ss vs ws p (trees.Binary p o t u) r) where
   facts : OperatorFacts a.kind (Some o)
@@ -279,7 +279,7 @@ binary_claim x y i m r t u o a left po lx claim ly = record {
       (bare_left x y n ss vs ws (at i) t u o a m r po lx ly nl claim k c g us ns ts ctx enters high begins) z;
 }
 
--- Behind the expression that `instanceof` tests.
+-- After the expression that `instanceof` tests.
 module _ (x n : ℕ) (ss : List Symbol) (vs ws : List StackItem) (p : Place) (t u : Tree) (a : Lexeme) (m r : List Lexeme)
     (ka : terminal_of a.kind ≡ terminals.Instanceof) (lx : 7 ≤ x) (nl : n ≤ 7) (claim : ReferenceClaim m u r) (k : Conts 7 n ss vs ws p (trees.InstanceOf p t u) r) where
   tested : Runs (Want (goals.Operators n 7) ∷ ss) (part p forms.Other (trees.InstanceOf p t u) ∷ vs) r ws

@@ -1,4 +1,4 @@
--- What is claimed of each class: behind a tree of the class, what stays to be taken is then taken in its place.
+-- The claim for each class: after a tree of the class, the machine takes the remaining tokens in its place.
 use Rattle.std.proofs.Common.{◌≡◌, ◌≢◌, ℕ, zero, suc, ◌≤◌, Bool, true, false, not, List, [], ◌∷◌, ◌++◌, Some}
 use Rattle.kr_base.specs.declared.place.Place.{Place}
 use Rattle.kr_lex.specs.Lexemes.{Lexeme}
@@ -28,7 +28,7 @@ use Rattle.kr_parse_grammar.specs.Machine.{ahead, rule, starts_unary, ends_expre
 abbrev pub Part : List Symbol → List StackItem → Place → Tree → List Lexeme → List StackItem → Type 0
 Part ss vs p t r ws = (f : Form) → Runs ss (part p f t ∷ vs) r ws
 
--- and wherever it stands
+-- in any context
 abbrev pub Any : List Symbol → List StackItem → Tree → List Lexeme → List StackItem → Type 0
 Any ss vs t r ws = (p : Place) (f : Form) → Runs ss (part p f t ∷ vs) r ws
 
@@ -50,7 +50,7 @@ pub data IsName : StackItem → Place → Tree → Tree → Type 0 where
   a_word : {p : Place} {n : List ℕ} → IsName (word p n) p (trees.Variable p n) (trees.NamedType p n)
   a_pair : {p : Place} {o n : List ℕ} → IsName (pair p o n) p (trees.FieldAccess p (trees.Variable p o) n) (trees.QualifiedType p o n)
 
--- a word that is put onto these values is no constructor's name
+-- a word pushed on these values is no constructor's name
 abbrev pub Plain : List StackItem → Type 0
 Plain vs = (p : Place) (n : List ℕ) → tag (word p n ∷ vs) ≡ tags.Word
 
@@ -59,11 +59,11 @@ abbrev pub is_at_end : ℕ → Terminal → Bool
 is_at_end zero k = ends_expression k
 is_at_end (suc l) k = true
 
--- what may stand behind an operand
+-- the tokens that may follow an operand
 abbrev pub ends_operand : Terminal → Bool
 ends_operand k = is_at_end (level_of k) k
 
--- what may stand behind a primary expression
+-- the tokens that may follow a primary expression
 abbrev pub ends_suffixes : Terminal → Bool
 ends_suffixes terminals.Dot = false
 ends_suffixes terminals.LeftBracket = false
@@ -90,7 +90,7 @@ is_assigning terminals.Equal = true
 is_assigning terminals.Compound = true
 is_assigning _ = false
 
--- behind a name that is kept, what shows that it is an operand
+-- after a kept name, the tokens that show it is an operand
 abbrev pub passes : Bool → StackItem → Terminal → Bool
 passes c v terminals.Less = false
 passes c v terminals.LeftBracket = false
@@ -98,8 +98,8 @@ passes c v terminals.Greater = not c
 passes c (word p n) terminals.Dot = false
 passes c v k = true
 
--- Where names are kept: goal, symbols and values as they stand, and as they would where the name is an operand. The flag
--- says that a comparison with a name may stand before it.
+-- While names are kept: goal, symbols and values as they are, and as they would be if the name is an operand. The flag
+-- says that a comparison with a name may precede it.
 pub record Context (c : Bool) (g : Goal) (ss : List Symbol) (ns : List StackItem) (ts : List Symbol) (vs ws : List StackItem) : Type 0 where
   pub plain : Plain ns
   pub after : List Symbol
@@ -111,7 +111,7 @@ pub record Context (c : Bool) (g : Goal) (ss : List Symbol) (ns : List StackItem
   pub dot : (p : Place) (n : List ℕ) (j : List Lexeme) → ahead j ≡ terminals.Dot → Runs (Take terminals.Dot ∷ Word ∷ Build makes.Pair ∷ Want g ∷ ss) (word p n ∷ ns) j ws → Runs (Want g ∷ ss) (word p n ∷ ns) j ws
   pub operand : (v : StackItem) (p : Place) (e u : Tree) (j : List Lexeme) → IsName v p e u → passes c v (ahead j) ≡ true → Runs (Want goals.Suffixes ∷ ts) (part p forms.Target e ∷ vs) j ws → Runs (Want g ∷ ss) (v ∷ ns) j ws
 
--- behind a name that is the whole expression
+-- after a name that is the whole expression
 abbrev pub Bare : Goal → List Symbol → List StackItem → Place → Tree → List Lexeme → List StackItem → Type 0
 Bare g ss ns p t r ws = (v : StackItem) (u : Tree) → IsName v p t u → Runs (Want g ∷ ss) (v ∷ ns) r ws
 
@@ -129,31 +129,31 @@ pub record PrimaryClaim (f : Form) (i : List Lexeme) (t : Tree) (r : List Lexeme
   pub led : (c : Bool) (g : Goal) (ss : List Symbol) (ns : List StackItem) (ts : List Symbol) (vs ws : List StackItem) → Context c g ss ns ts vs ws → Runs (Want goals.Suffixes ∷ ts) (part (at i) f t ∷ vs) r ws
       → (f ≡ forms.Target → Bare g ss ns (at i) t r ws) → ahead i ≡ terminals.Identifier → Runs (Word ∷ Want g ∷ ss) ns i ws
 
--- operands, by what may stand behind them and the goal for them
+-- operands, by the tokens that may follow and the goal for them
 pub record OperandClaim (ends : Terminal → Bool) (h : Goal) (us : List Symbol) (i : List Lexeme) (t : Tree) (r : List Lexeme) : Type 0 where
   pub simple : (ss : List Symbol) (vs ws : List StackItem) → ends (ahead r) ≡ true → Part (us ++ ss) vs (at i) t r ws → Runs (Want h ∷ ss) vs i ws
   pub led : (c : Bool) (g : Goal) (ss : List Symbol) (ns : List StackItem) (ts : List Symbol) (vs ws : List StackItem) → Context c g ss ns (Want goals.Postfixes ∷ ts) vs ws
       → ends (ahead r) ≡ true → Part (us ++ ts) vs (at i) t r ws → Bare g ss ns (at i) t r ws → ahead i ≡ terminals.Identifier → Runs (Word ∷ Want g ∷ ss) ns i ws
 
--- symbols that operators can go on from
+-- symbols that may continue with operators
 abbrev pub Enters : ℕ → List Symbol → List Symbol → List StackItem → Type 0
 Enters n ss ts ws = (vs : List StackItem) (j : List Lexeme) → Runs (Want (goals.Operators n 10) ∷ ss) vs j ws → Runs ts vs j ws
 
--- symbols that stand behind a comparison, and go on from it
+-- symbols after a comparison, and their continuation
 abbrev pub Gated : ℕ → List Symbol → List Symbol → List StackItem → Type 0
 Gated n ss ts ws = (p : Place) (t : Tree) (vs : List StackItem) (j : List Lexeme) → Runs (Want (goals.Operators n 7) ∷ ss) (part p forms.Other t ∷ vs) j ws → Runs ts (part p forms.Other t ∷ vs) j ws
 
 abbrev pub Reaches : ℕ → ℕ → Type 0
 Reaches x y = (l : ℕ) → l ≤ x → l ≤ 10 → l ≤ y
 
--- in each of the machine's states behind an operation, what comes is taken
+-- after an operation, each state of the machine takes the next tokens
 pub record Conts (x n : ℕ) (ss : List Symbol) (vs ws : List StackItem) (p : Place) (t : Tree) (r : List Lexeme) : Type 0 where
   pub rels : (y : ℕ) → Reaches x y → Part (Want (goals.Operators n y) ∷ ss) vs p t r ws
   pub chain : x ≡ 7 → (ts : List Symbol) (ns : List StackItem) (v : StackItem) (q : Place) (e u y : Tree) (f : Form) → Gated n ss ts ws → IsName v q e u → is_name ns ≡ true → compared ns ≡ part p f y ∷ vs
       → t ≡ trees.Binary p binaries.Less y e → Runs (Want goals.ChainName ∷ ts) (v ∷ ns) r ws
   pub test : x ≡ 7 → (v : StackItem) (q : Place) (e u y : Tree) (f : Form) → IsName v q e u → t ≡ trees.InstanceOf p y u → Runs (Want goals.TestedName ∷ Want (goals.Operators n 7) ∷ ss) (v ∷ part p f y ∷ vs) r ws
 
--- where a name with `<` behind it begins a chain
+-- where a name followed by `<` begins a chain
 pub record Begins (g : Goal) (ss : List Symbol) (ns : List StackItem) (n : ℕ) (us : List Symbol) (vs ws : List StackItem) : Type 0 where
   pub gate : List Symbol
   pub gated : Gated n us gate ws
@@ -172,7 +172,7 @@ pub record ConditionalClaim (i : List Lexeme) (t : Tree) (r : List Lexeme) : Typ
   pub enclosed : (ss : List Symbol) (k : Kind) (p : Place) (vs ws : List StackItem) → closes (ahead r) ≡ true → Part (Want goals.Closing ∷ ss) (mark k p ∷ vs) (at i) t r ws
       → ahead i ≡ terminals.Identifier → Runs (Word ∷ Want goals.EnclosedName ∷ ss) (mark k p ∷ vs) i ws
 
--- a target, and what stands behind it
+-- a target and the rest of the assignment
 pub record AssignmentClaim (i : List Lexeme) (t : Tree) (r : List Lexeme) : Type 0 where
   pub target : Tree
   pub rest : List Lexeme
@@ -205,7 +205,7 @@ starts_type terminals.Primitive = true
 starts_type terminals.Identifier = true
 starts_type _ = false
 
--- what a local may begin with
+-- the tokens that a local may begin with
 abbrev pub starts_local : Terminal → Bool
 starts_local terminals.Final = true
 starts_local k = starts_type k
@@ -220,7 +220,7 @@ pub record NameClaim (i : List Lexeme) (t : Tree) (r : List Lexeme) : Type 0 whe
   pub member : (ss : List Symbol) (vs ws : List StackItem) → is_tail (ahead r) ≡ true → Runs (Want goals.TypeTail ∷ Word ∷ Want goals.FieldOrMethod ∷ ss) (value ∷ vs) r ws → Runs (Word ∷ Want goals.MemberName ∷ ss) vs i ws
   pub extends : (ss : List Symbol) (vs ws : List StackItem) → ahead r ≡ terminals.LeftBrace → Runs ss (part (at i) forms.Type t ∷ vs) r ws → Runs (Word ∷ Want goals.ClassTail ∷ ss) vs i ws
 
--- no operand begins behind a `>`
+-- no operand begins after a `>`
 abbrev pub Quiet : List Lexeme → Type 0
 Quiet r = (b : Lexeme) (m : List Lexeme) → r ≡ b ∷ m → terminal_of b.kind ≡ terminals.Greater → starts_unary (ahead m) ≡ false
 
@@ -258,7 +258,7 @@ pub record EvaluatedClaim (i : List Lexeme) (t : Tree) (r : List Lexeme) : Type 
   pub simple : (ss : List Symbol) (vs ws : List StackItem) → closes (ahead r) ≡ true → Runs ss (part (at i) forms.Other t ∷ vs) r ws → Runs (Want goals.StatementExpression ∷ Build makes.ExpressionStatement ∷ ss) vs i ws
   pub item : (ss : List Symbol) (vs ws : List StackItem) → closes (ahead r) ≡ true → Plain vs → Runs ss (part (at i) forms.Other t ∷ vs) r ws → Runs (Want goals.Item ∷ ss) vs i ws
 
--- no `else` comes behind a statement that could take it
+-- no `else` follows a statement that could take it
 abbrev pub NoElse : Tree → List Lexeme → Type 0
 NoElse t r = EndsOpen t → ahead r ≡ terminals.Else → ⊥
 
@@ -276,7 +276,8 @@ ForInitialClaim i t r = (ss : List Symbol) (vs ws : List StackItem) → ahead r 
 abbrev pub ParameterClaim : List Lexeme → Tree → List Lexeme → Type 0
 ParameterClaim i t r = (ss : List Symbol) (vs ws : List StackItem) → Any ss vs t r ws → Runs (Want goals.Parameter ∷ ss) vs i ws
 
--- what a method's result begins, where its name and a parenthesis follow: behind the goal for any member, or for a method
+-- the member that a method's result type begins, if its name and a parenthesis follow: after the goal for any member,
+-- or for a method
 abbrev pub Begun : Goal → Goal → List Lexeme → Tree → List Lexeme → Type 0
 Begun g h i t r = (a b : Lexeme) (l : List Lexeme) → r ≡ a ∷ b ∷ l → terminal_of a.kind ≡ terminals.Identifier → terminal_of b.kind ≡ terminals.LeftParenthesis
     → (ss : List Symbol) (vs ws : List StackItem) → Runs (Want h ∷ ss) (word a.place a.text ∷ part (at i) forms.Type t ∷ vs) (b ∷ l) ws → Runs (Want g ∷ ss) vs i ws
@@ -309,7 +310,7 @@ pub record ClassClaim (n : Bool) (i : List Lexeme) (t : Tree) (r : List Lexeme) 
 abbrev pub PlainClaim : List ℕ → Bool → List Lexeme → Tree → List Lexeme → Type 0
 PlainClaim o n i t r = (ss : List Symbol) (p : Place) (vs ws : List StackItem) → Any ss (owner n p o ∷ vs) t r ws → Runs (Want goals.Member ∷ ss) (member n no_modifiers ∷ owner n p o ∷ vs) i ws
 
--- what goes on from a member to the others
+-- from a member to the others
 abbrev pub others : List Symbol → List Symbol
 others ss = Build makes.Swap ∷ Build makes.MemberAhead ∷ Want goals.Members ∷ Build makes.ConsBelow ∷ ss
 

@@ -1,6 +1,7 @@
 -- Classes and files.
 use Rattle.std.proofs.Common.{◌≡◌, ℕ, Bool, true, false, List, ◌∷◌, refl, ap}
 use Rattle.kr_base.specs.declared.place.Place.{Place}
+use Rattle.kr_base.specs.Places.{nowhere}
 use Rattle.kr_lex.specs.Lexemes.{Lexeme}
 use Rattle.kr_ast.specs.Tree as trees
 use Rattle.kr_ast.specs.Tree.{Tree}
@@ -14,11 +15,11 @@ use Rattle.kr_parse_grammar.specs.declared.goal.Symbol.{Symbol}
 use Rattle.kr_parse_grammar.specs.declared.goal.Symbol.TheVariants.{Take, Want, Build}
 use Rattle.kr_parse_grammar.specs.Terminals.{terminal_of}
 use Rattle.kr_parse_grammar.specs.Values.{StackItem, word, part, member, owner, no_modifiers}
-use Rattle.kr_parse_grammar.specs.Made.{nowhere, made}
+use Rattle.kr_parse_grammar.specs.Made.{made}
 use Rattle.kr_parse_grammar.specs.declared.value.Modifiers.{Modifiers}
 use Rattle.kr_parse_grammar.specs.declared.goal.Spelled.TheVariants as spelled
 use Rattle.kr_parse_grammar.specs.Grammar as grammar
-use Rattle.kr_parse_grammar.specs.Grammar.{at, EndsOpen, Modified}
+use Rattle.kr_parse_grammar.specs.Grammar.{at, Modified}
 use Rattle.kr_parse_grammar.specs.Machine.{ahead, Runs, take, name, spell, build}
 use Rattle.kr_parse_laws.proofs.CompleteSteps.{open_at, step}
 use Rattle.kr_parse_laws.proofs.CompleteClaims.{NameClaim, ExtendedClaim, owner_make, ClassClaim, MemberClaim, MembersClaim, ClassesClaim}
@@ -93,7 +94,7 @@ classes_claim i j m r f t u d h c rest = λ e. (
       (c.body (Want goals.Classes ∷ Build makes.Cons ∷ ss) vs ws ((rest e).2 (Build makes.Cons ∷ ss) (part c.place forms.Other t ∷ vs) ws (build k))))),
 )
 
--- What stands before the classes.
+-- The text before the classes.
 imports_enter : (ss : List Symbol) (vs ws : List StackItem) (i : List Lexeme) → Runs (Want goals.Classes ∷ ss) vs i ws → Runs (Want goals.Imports ∷ ss) vs i ws
 imports_enter ss vs ws i d = go (ahead i) refl
   where

@@ -35,7 +35,7 @@ diamond_of : (v : StackItem) (p : Place) (e u : Tree) (vs : List StackItem) → 
 diamond_of v p e u vs a_word = refl
 diamond_of v p e u vs a_pair = refl
 
--- the arguments of a creation, behind its type
+-- the arguments of a creation, after its type
 object : (f : Form) (q : Place) (t : Tree) (a b c : Lexeme) (m r : List Lexeme) (u : Tree) → terminal_of b.kind ≡ terminals.LeftParenthesis → Optional (Parted ExpressionClaim) m u (c ∷ r) → terminal_of c.kind ≡ terminals.RightParenthesis
     → (ss : List Symbol) (vs ws : List StackItem) → Runs ss (part a.place forms.Invocation (trees.ObjectCreation a.place t u) ∷ vs) r ws → Runs (Want goals.ObjectCreation ∷ ss) (part q f t ∷ mark a.kind a.place ∷ vs) (b ∷ m) ws
 object f q t a b c m r u kb args kc ss vs ws k =
@@ -99,7 +99,7 @@ diamond_creation_claim i n r t v a b c d e ka nm kb kc kd args ke = record {
   led = λ c g ss ns ts vs ws ctx x bare z. absurd (new_not_name a ka z);
 }
 
--- the length of an array, behind its type
+-- the length of an array, after its type
 length_of : (f : Form) (q : Place) (t : Tree) (a b c : Lexeme) (m r : List Lexeme) (u : Tree) → terminal_of b.kind ≡ terminals.LeftBracket → ExpressionClaim m u (c ∷ r) → terminal_of c.kind ≡ terminals.RightBracket
     → (ss : List Symbol) (vs ws : List StackItem) → Runs ss (part a.place forms.ArrayCreation (trees.ArrayCreation a.place t u) ∷ vs) r ws → Runs (Want goals.ArrayLength ∷ ss) (part q f t ∷ mark a.kind a.place ∷ vs) (b ∷ m) ws
 length_of f q t a b c m r u kb d kc ss vs ws k =

@@ -1,4 +1,4 @@
--- Expressions, as they stand and in parentheses.
+-- Expressions, plain and in parentheses.
 use Rattle.std.proofs.Common.{◌≡◌, ℕ, ◌<◌, true, false, List, [], ◌∷◌, Some, refl, arith}
 use Rattle.kr_base.specs.declared.place.Place.{Place}
 use Rattle.kr_lex.specs.Lexemes.{Lexeme}
@@ -96,7 +96,7 @@ module _ (ss : List Symbol) (k : Kind) (p : Place) (vs ws : List StackItem) wher
       names v q e u a_word = refl
       names v q e u a_pair = refl
 
--- where operators go on, no assignment does
+-- where operators follow, no assignment does
 pub after_unary : (ss : List Symbol) (ws : List StackItem) → Enters 1 (Want goals.AfterOperation ∷ ss) (Want goals.AfterUnary ∷ ss) ws
 after_unary ss ws vs j d = go (ahead j) refl
   where
@@ -105,7 +105,7 @@ after_unary ss ws vs j d = go (ahead j) refl
     go terminals.Compound e = absurd (open_at (goals.Operators 1 10) terminals.Compound e d)
     go k e = step goals.AfterUnary k ss vs ws j e d
 
--- What may stand behind an expression.
+-- The tokens that may follow an expression.
 abbrev pub StopFacts : Terminal → Type 0
 StopFacts k = (ends_operand k ≡ true) × (level_of k < 1) × (is_relation k ≡ false)
 
@@ -139,7 +139,7 @@ closes_rule : (k : Terminal) (q : Tag) → closes k ≡ true → rule goals.Afte
 closes_rule terminals.Question q e = cc
 closes_rule _ q e = refl
 
--- an operation, and what stands behind it
+-- an operation and its continuation
 conditional_by : (x : ℕ) (i l r : List Lexeme) (c t : Tree) → OperationClaim x i c l → (closes (ahead r) ≡ true → ends_expression (ahead l) ≡ true)
     → ((ss : List Symbol) (vs ws : List StackItem) → closes (ahead r) ≡ true → Part ss vs (at i) t r ws → Part (Want goals.AfterOperation ∷ ss) vs (at i) c l ws) → ConditionalClaim i t r
 conditional_by x i l r c t d stop after = record {

@@ -50,7 +50,7 @@ array_claim i r t a b d ka kb = record {
       (λ v e isn. tested_dimension i r t a b ka kb ss (part p f x ∷ vs) ws y v (at i) e isn refl);
 }
 
--- dimensions behind a chain that is a type
+-- dimensions after a chain that is a type
 past_dimensions : (ss ts : List Symbol) (q : Place) (ns ws : List StackItem) → is_name ns ≡ false → ((t : Tree) (j : List Lexeme) → Runs ss (part q forms.Type t ∷ ns) j ws → Runs ts (part q forms.Type t ∷ ns) j ws)
     → (r : List Lexeme) (t : Tree) → Runs (Want goals.Dimensions ∷ ss) (part q forms.Type t ∷ ns) r ws → Runs (Want goals.ChainClosing ∷ ts) (part q forms.Type t ∷ ns) r ws
 past_dimensions ss ts q ns ws h f [] t d = step_with goals.ChainClosing terminals.End tags.Type ts (part q forms.Type t ∷ ns) ws [] refl (rw h refl) (f t [] (open_at goals.Dimensions terminals.End refl d))

@@ -1,6 +1,7 @@
 -- Members.
 use Rattle.std.proofs.Common.{◌≡◌, ◌≢◌, ◌&&◌, ℕ, Bool, true, false, not, if◌then◌else◌, List, ◌∷◌, refl, sym, ap, ◌∙◌}
 use Rattle.kr_base.specs.declared.place.Place.{Place}
+use Rattle.kr_base.specs.Places.{nowhere}
 use Rattle.kr_lex.specs.Lexemes.{Lexeme}
 use Rattle.kr_lex.specs.declared.kind.Kind.{Kind}
 use Rattle.kr_lex.specs.declared.kind.Kind.TheVariants as kinds
@@ -19,11 +20,11 @@ use Rattle.kr_parse_grammar.specs.declared.goal.Symbol.TheVariants.{Take, Word, 
 use Rattle.kr_parse_grammar.specs.Terminals.{terminal_of}
 use Rattle.kr_parse_grammar.specs.TokenMeanings.{is_access}
 use Rattle.kr_parse_grammar.specs.Values.{StackItem, mark, word, part, member, owner, tag, no_modifiers}
-use Rattle.kr_parse_grammar.specs.Made.{nowhere, the_primitive}
+use Rattle.kr_parse_grammar.specs.Made.{the_primitive}
 use Rattle.kr_parse_grammar.specs.declared.value.Modifiers.{Modifiers}
 use Rattle.kr_parse_grammar.specs.declared.goal.Spelled.TheVariants as spelled
 use Rattle.kr_parse_grammar.specs.Grammar as grammar
-use Rattle.kr_parse_grammar.specs.Grammar.{at, EndsOpen, Modified}
+use Rattle.kr_parse_grammar.specs.Grammar.{at, Modified}
 use Rattle.kr_parse_grammar.specs.Machine.{ahead, Runs, take, keep, name, spell, build}
 use Rattle.kr_parse_laws.proofs.CompleteSteps.{open_at, step, step_with, name_inv, take_kind, build_inv}
 use Rattle.kr_parse_laws.proofs.CompleteClaims.{Any, Optional, absent, present, Listed, end, next, Parted, last, comma, ExpressionClaim, AnyTypeClaim, starts_type, DeclaratorClaim, BlockStatementClaim, ParameterClaim, ResultClaim, Begun, ContractClaim, ConstructorCallClaim, ClassClaim, PlainClaim, others, MemberClaim}
@@ -227,7 +228,7 @@ contracts (next {i = i} {t = t} c rest) h = λ ss vs ws k. step goals.Contracts 
     (c.taken (Want goals.Contracts ∷ Build makes.Cons ∷ ss) vs ws
     (λ p f. contracts rest h (Build makes.Cons ∷ ss) (part p f t ∷ vs) ws (λ q g. build (k p forms.Other))))
 
--- modifiers behind contracts
+-- modifiers after contracts
 modified_method : {i j : List Lexeme} {f : Modifiers} → Modified i f j → (ss : List Symbol) (n : Bool) (vs ws : List StackItem) → Runs (Want goals.MethodAhead ∷ ss) (member n f ∷ vs) j ws → Runs (Want goals.MethodAhead ∷ ss) (member n no_modifiers ∷ vs) i ws
 modified_method grammar.nothing = λ ss n vs ws k. k
 modified_method (grammar.access {r = r} {f = f} a d e) = λ ss n vs ws k. modified_method d ss n vs ws (step goals.MethodAhead terminals.Access ss (member n f ∷ vs) ws (a ∷ r) (access_means a.kind e) (take a (access_means a.kind e) k))
@@ -236,7 +237,7 @@ modified_method (grammar.final {r = r} {f = f} a d e) = λ ss n vs ws k. modifie
 modified_method (grammar.overriding {r = r} {f = f} a b d e g h) = λ ss n vs ws k. modified_method d ss n vs ws
     (step goals.MethodAhead terminals.At ss (member n f ∷ vs) ws (a ∷ b ∷ r) (ap terminal_of e) (take a (ap terminal_of e) (spell {s = spelled.Override} b (ap terminal_of g) h (build k))))
 
--- a method behind its contracts
+-- a method after its contracts
 behind_contracts : (o : List ℕ) (n : Bool) (i j m l r : List Lexeme) (f : Modifiers) (v t u s : Tree) (a b c d e : Lexeme) → Modified i f j → ResultClaim j t (a ∷ b ∷ m) → terminal_of a.kind ≡ terminals.Identifier → terminal_of b.kind ≡ terminals.LeftParenthesis
     → Optional (Parted ParameterClaim) m u (c ∷ d ∷ l) → terminal_of c.kind ≡ terminals.RightParenthesis → terminal_of d.kind ≡ terminals.LeftBrace → Listed BlockStatementClaim l s (e ∷ r) → terminal_of e.kind ≡ terminals.RightBrace
     → (ss : List Symbol) (q : Place) (g : Form) (vs ws : List StackItem) → Any ss vs (trees.Method a.place f.is_static a.text (trees.Signature a.place t u v) s) r ws → Runs (Want goals.MethodAhead ∷ ss) (member n no_modifiers ∷ part q g v ∷ vs) i ws

@@ -29,7 +29,7 @@ use Rattle.kr_parse_laws.proofs.CompleteSteps.{step}
 use Rattle.kr_parse_laws.proofs.CompleteOperators.{suffixes_end, operand_primary, postfixes_end, unsigned_starts}
 use Rattle.kr_parse_laws.proofs.CompleteClaims.{Part, ends_operand, ends_suffixes, PrimaryClaim, OperandClaim, ReferenceClaim}
 
--- What tokens mean.
+-- The meanings of tokens.
 abbrev pub SignFacts : Kind → Option UnaryOperator → Type 0
 SignFacts k None = Unit {0}
 SignFacts k (Some o) = (terminal_of k ≡ terminals.Sign) × (the_unary k ≡ o)

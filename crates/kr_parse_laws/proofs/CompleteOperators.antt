@@ -66,7 +66,7 @@ closes_operand terminals.Comma e = refl
 closes_operand terminals.Colon e = refl
 closes_operand _ e = cc
 
--- behind a whole operand the machine passes on
+-- after a whole operand the machine moves on
 pub past_operand : (ss : List Symbol) (vs ws : List StackItem) (r : List Lexeme) → ends_operand (ahead r) ≡ true → Runs ss vs r ws → Runs (Want goals.Suffixes ∷ Want goals.Postfixes ∷ ss) vs r ws
 past_operand ss vs ws r e d = want [] (suffixes_end (ahead r) (tag vs) (operand_primary (ahead r) e)) (want [] (postfixes_end (ahead r) (tag vs) e) d)
 
@@ -119,7 +119,7 @@ infix_rule n y l k e h o z w =
     let b : infix_body n k ≡ Keep k ∷ Want goals.Unary ∷ Want (goals.Operators (l + 1) 10) ∷ Build makes.Binary ∷ Want (goals.Operators n l) ∷ [] = rw e at (infix_at n k h) in
     a ∙ ap (λ x. Some x) b
 
--- what the operators of kinds are
+-- the operators of token kinds
 abbrev pub RelationOf : Terminal → BinaryOperator → Type 0
 RelationOf terminals.Less o = o ≡ binaries.Less
 RelationOf terminals.Greater o = o ≡ binaries.Greater
@@ -159,7 +159,7 @@ low_relation terminals.Less h = absurd (omega (arith, h))
 low_relation terminals.Greater h = absurd (omega (arith, h))
 low_relation _ h = refl
 
--- What operands begin with.
+-- The first tokens of operands.
 pub primary_starts : (ss : List Symbol) (vs ws : List StackItem) (i : List Lexeme) → Runs (Want goals.Primary ∷ ss) vs i ws → starts_unsigned (ahead i) ≡ true
 primary_starts ss vs ws i d = go (ahead i) (opens d)
   where
@@ -199,7 +199,7 @@ expression_starts ss vs ws i d = unary_starts (Want goals.AfterUnary ∷ ss) vs 
     want_body : Runs (Want goals.Expression ∷ ss) vs i ws → Runs (Want goals.Unary ∷ Want goals.AfterUnary ∷ ss) vs i ws
     want_body x = opens x
 
--- What is made of names.
+-- The reductions of names.
 pub variable_of : (v : StackItem) (p : Place) (e u : Tree) (vs : List StackItem) → IsName v p e u → made makes.Variable (v ∷ vs) ≡ part p forms.Target e ∷ vs
 variable_of v p e u vs a_word = refl
 variable_of v p e u vs a_pair = refl
@@ -225,7 +225,7 @@ plain_name (part q f t ∷ ns) e = λ p n. refl
 plain_name (member b m ∷ ns) e = cc
 plain_name (owner b q m ∷ ns) e = λ p n. refl
 
--- a name behind names, compared with them
+-- a name after names, compared with them
 pub compares : (v : StackItem) (q p : Place) (e u y : Tree) (f : Form) (ns vs : List StackItem) → IsName v q e u → is_name ns ≡ true → compared ns ≡ part p f y ∷ vs → compared (v ∷ ns) ≡ part p forms.Other (trees.Binary p binaries.Less y e) ∷ vs
 compares v q p e u y f (word r m ∷ ns) vs a_word h z = rw z refl
 compares v q p e u y f (word r m ∷ ns) vs a_pair h z = rw z refl
@@ -237,7 +237,7 @@ compares v q p e u y f (part r g t ∷ ns) vs i h z = cc
 compares v q p e u y f (member b m ∷ ns) vs i h z = cc
 compares v q p e u y f (owner b r m ∷ ns) vs i h z = cc
 
--- a name behind a tested expression
+-- a name after a tested expression
 pub tests : (v : StackItem) (q p : Place) (e u y : Tree) (f : Form) (vs : List StackItem) → IsName v q e u → compared (v ∷ part p f y ∷ vs) ≡ part p forms.Other (trees.InstanceOf p y u) ∷ vs
 tests v q p e u y f vs a_word = refl
 tests v q p e u y f vs a_pair = refl

@@ -1,6 +1,7 @@
 -- Primary expressions.
 use Rattle.std.proofs.Common.{◌≡◌, ◌≢◌, ℕ, Bool, true, false, if◌then◌else◌, List, [], ◌∷◌, Some, refl}
 use Rattle.kr_base.specs.declared.place.Place.{Place}
+use Rattle.kr_base.specs.Places.{nowhere}
 use Rattle.kr_lex.specs.Lexemes.{Lexeme}
 use Rattle.kr_ast.specs.Tree as trees
 use Rattle.kr_ast.specs.Tree.{Tree}
@@ -16,7 +17,7 @@ use Rattle.kr_parse_grammar.specs.declared.goal.Symbol.{Symbol}
 use Rattle.kr_parse_grammar.specs.declared.goal.Symbol.TheVariants.{Take, Want, Build}
 use Rattle.kr_parse_grammar.specs.Terminals.{terminal_of}
 use Rattle.kr_parse_grammar.specs.Values.{StackItem, mark, word, pair, part, tag, is_name}
-use Rattle.kr_parse_grammar.specs.Made.{nowhere, literal}
+use Rattle.kr_parse_grammar.specs.Made.{literal}
 use Rattle.kr_parse_grammar.specs.Grammar.{at}
 use Rattle.kr_parse_grammar.specs.Machine.{ahead, rule, starts_unary, Runs, take, keep, name, leaf, want, build}
 use Rattle.kr_parse_laws.proofs.CompleteSteps.{RunsOf, open_at, step}
@@ -124,7 +125,7 @@ old_claim i r t a b c ka kb d kc = record {
   led = λ x g ss ns ts vs ws ctx k bare z. absurd (let y : terminals.Old ≡ terminals.Identifier = differ (terminal_of a.kind) terminals.Old terminals.Identifier ka z in cc);
 }
 
--- What goes on from a primary expression.
+-- The continuations of a primary expression.
 field_simple : (f : Form) (p : Place) (t : Tree) (a b : Lexeme) (r : List Lexeme) (ts : List Symbol) (vs ws : List StackItem) → terminal_of a.kind ≡ terminals.Dot → terminal_of b.kind ≡ terminals.Identifier
     → Runs (Want goals.Suffixes ∷ ts) (part p forms.Target (trees.FieldAccess p t b.text) ∷ vs) r ws → Runs (Want goals.Suffixes ∷ ts) (part p f t ∷ vs) (a ∷ b ∷ r) ws
 field_simple f p t a b r ts vs ws ka kb k = step goals.Suffixes terminals.Dot ts (part p f t ∷ vs) ws (a ∷ b ∷ r) ka (take a ka (name b kb (go (ahead r) refl)))

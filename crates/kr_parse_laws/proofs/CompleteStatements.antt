@@ -12,7 +12,7 @@ use Rattle.kr_parse_grammar.specs.declared.goal.Symbol.{Symbol}
 use Rattle.kr_parse_grammar.specs.declared.goal.Symbol.TheVariants.{Take, Want, Build}
 use Rattle.kr_parse_grammar.specs.Terminals.{terminal_of}
 use Rattle.kr_parse_grammar.specs.Values.{StackItem, mark, part}
-use Rattle.kr_parse_grammar.specs.Made.{nowhere, jump}
+use Rattle.kr_parse_grammar.specs.Made.{jump}
 use Rattle.kr_parse_grammar.specs.Grammar.{at, EndsOpen}
 use Rattle.kr_parse_grammar.specs.Machine.{ahead, starts_unary, Runs, take, keep, build}
 use Rattle.kr_parse_laws.proofs.CompleteSteps.{open_at, step}
@@ -20,12 +20,13 @@ use Rattle.kr_parse_laws.proofs.CompleteOperators.{expression_starts}
 use Rattle.kr_parse_laws.proofs.CompleteClaims.{Any, Optional, absent, present, Listed, end, next, Parted, last, comma, Plain, ExpressionClaim, starts_local, LocalClaim, StatementExpressionClaim, EvaluatedClaim, NoElse, StatementClaim, BlockStatementClaim, ForInitialClaim}
 use Rattle.kr_parse_laws.proofs.CompleteOperands.{differ}
 use Rattle.kr_parse_laws.proofs.CompleteItems.{statement_starts}
+use Rattle.kr_base.specs.Places.{nowhere}
 
 -- where no expression begins
 no_expression : (k : Terminal) → starts_unary k ≡ false → (ss : List Symbol) (vs ws : List StackItem) (i : List Lexeme) → ahead i ≡ k → Runs (Want goals.StatementExpression ∷ ss) vs i ws → ⊥
 no_expression k h ss vs ws i e d = let z : starts_unary (ahead i) ≡ true = statement_starts ss vs ws i d in let w : starts_unary k ≡ true = rw e at z in (let y : true ≡ false = sym w ∙ h in cc)
 
--- what begins a statement that is no item
+-- the first tokens of a statement that is no item
 abbrev begins_statement : Terminal → Bool
 begins_statement terminals.LeftBrace = true
 begins_statement terminals.Semicolon = true

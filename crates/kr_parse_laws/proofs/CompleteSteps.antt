@@ -19,7 +19,7 @@ abbrev pub RunsOf : Option (List Symbol) → List Symbol → List StackItem → 
 RunsOf None ss vs i ws = ⊥
 RunsOf (Some body) ss vs i ws = Runs (body ++ ss) vs i ws
 
--- the machine goes on from a goal exactly as its rule says
+-- the machine continues from a goal exactly by its rule
 pub opens : {g : Goal} {ss : List Symbol} {vs ws : List StackItem} {i : List Lexeme} → Runs (Want g ∷ ss) vs i ws → RunsOf (rule g (ahead i) (tag vs)) ss vs i ws
 opens {g = g} {vs = vs} {i = i} (want body e d) = rw e d
 
@@ -36,7 +36,7 @@ step g k ss vs ws i e d = go (rule g k (tag vs)) refl d
     go None z x = absurd x
     go (Some body) z x = want body (ap (λ y. rule g y (tag vs)) e ∙ z) x
 
--- the same, where the values on top are known by their tag
+-- a step, if the values on top are known by their tag
 pub step_with : (g : Goal) (k : Terminal) (q : Tag) (ss : List Symbol) (vs ws : List StackItem) (i : List Lexeme) → ahead i ≡ k → tag vs ≡ q → RunsOf (rule g k q) ss vs i ws → Runs (Want g ∷ ss) vs i ws
 step_with g k q ss vs ws i e z d = step g k ss vs ws i e (let x : RunsOf (rule g k (tag vs)) ss vs i ws = rw z d in x)
 

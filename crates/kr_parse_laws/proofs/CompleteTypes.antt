@@ -1,4 +1,4 @@
--- Types, where they stand alone, begin an item or a member, in parentheses, in chains, and behind `instanceof`.
+-- Types: alone, at the start of an item or a member, in parentheses, in chains, and after `instanceof`.
 use Rattle.std.proofs.Common.{◌≡◌, ◌≢◌, Bool, true, false, List, [], ◌∷◌, Some, refl}
 use Rattle.kr_base.specs.declared.place.Place.{Place}
 use Rattle.kr_lex.specs.Lexemes.{Lexeme}

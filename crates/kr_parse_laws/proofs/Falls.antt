@@ -1,4 +1,4 @@
--- What stands for a goal is lighter than the goal.
+-- The symbols of a goal's rule weigh less than the goal.
 use Rattle.std.proofs.Common.{◌≡◌, ℕ, zero, suc, ◌+◌, ◌<◌, ◌≤◌, Bool, true, false, if◌then◌else◌, ltb, List, [], ◌∷◌, ◌++◌, Option, Some, None, refl, arith}
 use Rattle.std.proofs.lemmas.Bool.{ltb-true}
 use Rattle.kr_parse_grammar.specs.declared.terminal.Terminal.{Terminal}
@@ -13,7 +13,7 @@ use Rattle.kr_parse_grammar.specs.Machine.{ends_expression, level_of, infix_body
 use Rattle.kr_parse_grammar.specs.State.{weight_of, debt_of, weight, debt, load}
 use Rattle.kr_parse_laws.specs.Laws.{Termination}
 
--- what symbols owe at most, whatever stands behind them
+-- the most that symbols owe, in any context
 abbrev debt_within : List Symbol → ℕ
 debt_within [] = 80
 debt_within (s ∷ ss) = debt (s ∷ ss)

@@ -1,6 +1,7 @@
 -- Good symbols can be taken, whatever the values are: a short way for each goal.
 use Rattle.std.proofs.Common.{◌≡◌, ◌≢◌, ℕ, Bool, true, false, if◌then◌else◌, List, [], ◌∷◌, ◌++◌, Some, refl, sym, ◌∙◌}
 use Rattle.kr_base.specs.declared.place.Place.{Place}
+use Rattle.kr_base.specs.Places.{nowhere}
 use Rattle.kr_lex.specs.Lexemes.{Lexeme}
 use Rattle.kr_lex.specs.declared.kind.Kind.{Kind}
 use Rattle.kr_lex.specs.declared.kind.Kind.TheVariants as kinds
@@ -22,7 +23,7 @@ use Rattle.kr_parse_grammar.specs.declared.goal.Symbol.{Symbol}
 use Rattle.kr_parse_grammar.specs.declared.goal.Symbol.TheVariants.{Take, Keep, Word, Literal as Leaf, Spell, Want, Build}
 use Rattle.kr_parse_grammar.specs.Terminals.{terminal_of}
 use Rattle.kr_parse_grammar.specs.Values.{StackItem, mark, word, pair, part, member, owner, tag, tag_of_word, tag_of_member}
-use Rattle.kr_parse_grammar.specs.Made.{made, nowhere}
+use Rattle.kr_parse_grammar.specs.Made.{made}
 use Rattle.kr_parse_grammar.specs.Machine.{ahead, rule, spelling, Runs, done, take, keep, name, leaf, spell, want, build}
 use Rattle.kr_parse_grammar.specs.State.{is_inside, closes, ends_primary, ends_type, ends_statement, follows, first_of, first, IsTaken, Good}
 use Rattle.kr_parse_laws.specs.Laws.{Productivity}
@@ -138,14 +139,14 @@ finish_spell s ss d vs = record {
 finish_build : (m : Make) (ss : List Symbol) → Finishes ss → Finishes (Build m ∷ ss)
 finish_build m ss d vs = record { tokens = (d (made m vs)).tokens; left = (d (made m vs)).left; runs = build (d (made m vs)).runs; begins = (d (made m vs)).begins }
 
--- a goal is finished where what stands for it is
+-- a goal can be finished if its rule can
 by_rule : (g : Goal) (body ss : List Symbol) (vs : List StackItem) → rule g (first (body ++ ss)) (tag vs) ≡ Some body → first_of g (first ss) ≡ first (body ++ ss) → is_inside (first (body ++ ss)) ≡ true
     → Finish (body ++ ss) vs → Finish (Want g ∷ ss) vs
 by_rule g body ss vs r e n f =
     let a : ahead f.tokens ≡ first (body ++ ss) = f.begins (inside_apart (first (body ++ ss)) n) in
     record { tokens = f.tokens; left = f.left; runs = want body (rw a r) f.runs; begins = λ _. a ∙ sym e }
 
--- where that begins with what stands behind
+-- where the rule begins with the symbols that follow
 module _ (g : Goal) (body ss : List Symbol) (vs : List StackItem) where
   by_equal : (k : Terminal) → first ss ≡ k → rule g k (tag vs) ≡ Some body → first (body ++ ss) ≡ first ss → first_of g (first ss) ≡ first ss → is_inside k ≡ true
       → Finish (body ++ ss) vs → Finish (Want g ∷ ss) vs

@@ -1,4 +1,4 @@
--- What stands for a goal is good where the goal was.
+-- A rule keeps a good stack good.
 use Rattle.std.proofs.Common.{◌≡◌, ℕ, zero, suc, Bool, true, false, if◌then◌else◌, ltb, List, [], ◌∷◌, ◌++◌, Option, Some, None, refl, arith}
 use Rattle.kr_parse_grammar.specs.declared.terminal.Terminal.{Terminal}
 use Rattle.kr_parse_grammar.specs.declared.terminal.Terminal.TheVariants.{Access, At, Break, Class, Comma, Complement, Compound, Continue, Do, Dot, Else, End, Equal, Extends, Final, For, Greater, Identifier, If, Import, LeftBrace, LeftBracket, LeftParenthesis, Less, Literal, New, Package, Primitive, Question, Return, RightBrace, RightBracket, RightParenthesis, Semicolon, Sign, Star, Static, Step, Super, Void, While, Instanceof, Outside, Contract, Requires, Ensures, Old}

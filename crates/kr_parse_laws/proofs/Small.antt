@@ -20,7 +20,7 @@ extra (Many c) = 3
 extra (Several c) = 2 + extra c
 extra _ = 0
 
--- what stands in lists is small enough
+-- items of lists are small enough
 abbrev IsCounted : Class → Type 0
 IsCounted (Maybe c) = IsCounted c
 IsCounted (Many c) = (extra c ≡ 0) × IsCounted c
@@ -47,7 +47,7 @@ small u (present d) = omega (arith, small u d)
 -- any number
 small _ end = omega arith
 small u (next d e) = omega (arith, u.0, small u.1 d, small u e)
--- one or more, parted by commas
+-- one or more, separated by commas
 small u (last d) = omega (arith, u.0, small u.1 d)
 small u (comma _ d _ e) = omega (arith, u.0, small u.1 d, small u e)
 -- types
@@ -90,7 +90,7 @@ small _ (reference_cast _ _ _ d _ e) = omega (arith, small tt d, small tt e)
 small _ (unsigned d) = omega (arith, small tt d)
 small _ (sign _ _ d) = omega (arith, small tt d)
 small _ (stepped_before _ _ d) = omega (arith, small tt d)
--- expressions with several operands: to the left of an operator nothing looser stands, to the right only what is tighter
+-- binary expressions: nothing looser to the left of an operator, only tighter to its right
 small _ (operand d) = omega (arith, small tt d)
 small _ (binary _ d _ _ _ e _) = omega (arith, small tt d, small tt e)
 small _ (instance_of _ d _ _ e) = omega (arith, small tt d, small tt e)

@@ -1,4 +1,4 @@
--- The machine takes only what is derived.
+-- The machine takes only derivable tokens.
 use Rattle.std.proofs.Common.{◌≡◌, ◌++◌, List, [], ◌∷◌, Option, Some, refl, sym}
 use Rattle.std.proofs.Math.Path.{subst}
 use Rattle.kr_base.specs.declared.place.Place.{Place}
@@ -14,7 +14,7 @@ use Rattle.kr_parse_grammar.specs.declared.goal.Symbol.TheVariants.{Want}
 use Rattle.kr_parse_grammar.specs.Values.{StackItem, part, tag}
 use Rattle.kr_parse_grammar.specs.Machine.{ahead, rule}
 use Rattle.kr_parse_grammar.specs.Grammar as grammar
-use Rattle.kr_parse_grammar.specs.Grammar.{Class, Der, Modified, at, ClassName, ReferenceType, AnyType, Maybe, Many, Several}
+use Rattle.kr_parse_grammar.specs.Grammar.{Der}
 use Rattle.kr_parse_laws.proofs.SoundKinds.{Kinds}
 use Rattle.kr_parse_laws.proofs.SoundMeanings.{Den, DenOf}
 use Rattle.kr_parse_laws.proofs.SoundSteps.{onto}
@@ -117,7 +117,7 @@ den_of o body ss vs i ws e d = subst (λ x. DenOf x ss vs i ws) (sym e) d
 literal_of_token : (a : Lexeme) (r : List Lexeme) → Kinds terminals.Literal a.kind → Der (grammar.Primary forms.Other) (a ∷ r) (literal a) r
 literal_of_token a r h = h a r refl
 
--- what the machine takes is what its symbols stand for
+-- the machine takes only tokens that its symbols denote
 sound : {ss : List Symbol} {vs ws : List StackItem} {i : List Lexeme} → Runs ss vs i ws → Den ss vs i ws
 sound done = (refl, refl)
 sound (take {i = i} {k = k} a p d) = (a, i, refl, kind_of a.kind k p, sound d)
@@ -128,7 +128,7 @@ sound (spell {i = i} a p z d) = (a, i, refl, kind_of a.kind terminals.Identifier
 sound (want {ss = ss} {vs = vs} {ws = ws} {i = i} {g = g} body e d) = means g vs ss i ws (den_of (rule g (ahead i) (tag vs)) body ss vs i ws e (sound d))
 sound (build d) = sound d
 
--- what the machine takes from the start is derived
+-- tokens that the machine accepts are derivable
 pub soundness : Soundness
 soundness i ws d = go (sound d)
   where

@@ -18,13 +18,13 @@ use Rattle.kr_parse_grammar.specs.declared.goal.Symbol.TheVariants.{Want, Build}
 use Rattle.kr_parse_grammar.specs.Values.{StackItem, mark, word, pair, part, member, owner, is_name}
 use Rattle.kr_parse_grammar.specs.Made.{compared, joined}
 use Rattle.kr_parse_grammar.specs.Grammar as grammar
-use Rattle.kr_parse_grammar.specs.Grammar.{Class, Der, Modified, at, ClassName, ReferenceType, AnyType, Maybe, Many, Several}
+use Rattle.kr_parse_grammar.specs.Grammar.{Der, at, ReferenceType, AnyType}
 use Rattle.kr_parse_laws.proofs.SoundMeanings.{Named, NamedBefore, place_of, class_of, operand_of, Tight, Before, Chained, Behind, argument, EndingBefore, Den, Goes}
 use Rattle.kr_parse_laws.proofs.SoundSteps.{from, named_at, named_class, named_operand}
 use Rattle.kr_parse_grammar.specs.TokenMeanings.{binary_of, level}
 use Rattle.kr_parse_laws.proofs.SoundTypes.{generic_of}
 
--- what is known of a chain may be told in other words
+-- the facts on a chain carry over to weaker ones
 pub chained_map : (us : List StackItem) (H I : List Lexeme → Type 0) (K : List StackItem → List Lexeme → Type 0) → ((j : List Lexeme) → I j → H j) → Chained us H K → Chained us I K
 chained_map (word p n ∷ us) H I K m c = chained_map us H I K m c
 chained_map (pair p o n ∷ us) H I K m c = chained_map us H I K m c
@@ -186,7 +186,7 @@ chain_greater v us ss i ws d = go (joins us v (λ a. EndingBefore kinds.Greater 
     go : Joined us v (λ a. EndingBefore kinds.Greater v us i a) (Goes ss ws) → Chained us (λ a. EndingBefore kinds.Greater v us i a) (Goes ss ws)
     go j = fin j (subst (λ s. Den (Want goals.Unary ∷ Want (goals.Operators 8 10) ∷ Build makes.Greater ∷ ss) s i ws) j.is d)
 
--- names, each with `<` behind it, as one comparison
+-- names, each followed by `<`, as one comparison
 record Compared (us : List StackItem) (H : List Lexeme → Type 0) (K : List StackItem → List Lexeme → Type 0) : Type 0 where
   place : Place
   form : Form
@@ -203,7 +203,7 @@ compares (pair w o n ∷ us) H K z =
     let j : Joined us (pair w o n) H K = joins us (pair w o n) H K in record { place = j.place; form = j.form; tree = j.tree; below = j.below; is = j.is; reads = λ a m s. (let x = j.reads a s.0 (s.2.0 ∷ m) s.1 s.2.1 in (s.2.0, x.0, x.1, s.2.2)); ends = λ t r h k. j.ends t r h k }
 compares _ H K z = (let bad : false ≡ true = z in cc)
 
--- an operand behind `<`
+-- an operand after `<`
 pub chain_operand : (us : List StackItem) (R : List Lexeme → Type 0) (f : Form) (w : Place) (t : Tree) (ss : List Symbol) (i : List Lexeme) (ws : List StackItem) → is_name us ≡ true
     → ((m : List Lexeme) → R m → (w ≡ at m) × Der (grammar.Primary f) m t i)
     → Den (Want goals.ChainPrimary ∷ ss) (part w f t ∷ compared us) i ws → Chained us (λ j. (m : List Lexeme) × Before us j m × R m) (Goes ss ws)

@@ -1,4 +1,4 @@
--- The goals in parentheses, of casts and behind `instanceof` mean what stands for them.
+-- The goals in parentheses, of casts and after `instanceof` denote what their rules denote.
 use Rattle.std.proofs.Common.{◌≡◌, inl, inr, List, ◌∷◌, refl, ◌∙◌, le_refl, lit≤}
 use Rattle.kr_base.specs.declared.place.Place.{Place}
 use Rattle.kr_lex.specs.Lexemes.{Lexeme}
@@ -18,7 +18,7 @@ use Rattle.kr_parse_grammar.specs.declared.goal.Symbol.{Symbol}
 use Rattle.kr_parse_grammar.specs.declared.goal.Symbol.TheVariants.{Take, Want, Build}
 use Rattle.kr_parse_grammar.specs.Values.{StackItem, mark, word, pair, part, tag}
 use Rattle.kr_parse_grammar.specs.Grammar as grammar
-use Rattle.kr_parse_grammar.specs.Grammar.{Class, Der, Modified, at, ClassName, ReferenceType, AnyType, Maybe, Many, Several}
+use Rattle.kr_parse_grammar.specs.Grammar.{Der, at, ReferenceType, AnyType}
 use Rattle.kr_parse_laws.proofs.SoundMeanings.{Token, Named, NamedBefore, Primitively, place_of, class_of, operand_of, call_of, Enclosed, Dimensioned, Encloses, Chained, Meaning, Den, Goes, Holds}
 use Rattle.kr_parse_laws.proofs.SoundSteps.{from, onto, begins, three, token_at, named_at, named_before, named_class, named_operand, named_call, paired, from_primary, from_postfix, from_unsigned, encloses_map}
 use Rattle.kr_parse_laws.proofs.SoundTypes.{array_of}
@@ -44,18 +44,18 @@ parens p a j i m t b (o, g, ko, z) d e kb = from g (grammar.parentheses o b ko (
 expression_of : (f : Form) (j r : List Lexeme) (t : Tree) → Der (grammar.Primary f) j t r → Der grammar.Expression j t r
 expression_of f j r t d = grammar.conditional (grammar.operation (grammar.operand (grammar.unsigned (grammar.postfix (grammar.primary d)))))
 
--- an element of what a name stands for
+-- an element of the array that a name denotes
 pub element : (v : StackItem) (j i l s : List Lexeme) (u : Tree) (b : Lexeme) → NamedBefore kinds.LeftBracket v j i → Der grammar.Expression i u l → l ≡ b ∷ s
     → b.kind ≡ kinds.RightBracket → Der (grammar.Primary forms.Target) j (trees.ArrayAccess (place_of v) (operand_of v) u) s
 element v j i l s u b (c, h, kc) x y kb = rw (named_at v j (c ∷ i) h) (grammar.array_access c b (named_operand v j (c ∷ i) h) (λ z. cc) kc (onto y x) kb)
 
--- an array type behind a name and `[`
+-- an array type after a name and `[`
 pub named_array : (v : StackItem) (j i m : List Lexeme) (b : Lexeme) → NamedBefore kinds.LeftBracket v j i → i ≡ b ∷ m → b.kind ≡ kinds.RightBracket
     → Der ReferenceType j (trees.ArrayType (place_of v) (class_of v)) m
 named_array v j i m b (c, h, kc) e kb =
     array_of (place_of v) j (c ∷ i) i m (class_of v) c b (named_at v j (c ∷ i) h) (grammar.reference_type (grammar.class_type (named_class v j (c ∷ i) h))) refl kc e kb
 
--- an expression in parentheses and what stands behind it
+-- an expression in parentheses and its continuation
 closed : (p : Place) (R : List Lexeme → Type 0) (t : Tree) (m : List Lexeme) (vs : List StackItem) (ss : List Symbol) (ws : List StackItem)
     → ((a j : List Lexeme) → Token kinds.LeftParenthesis p a j → R j → Der (grammar.Primary forms.Other) a t m)
     → Den (Want goals.Suffixes ∷ Want goals.Postfixes ∷ ss) (part p forms.Other t ∷ vs) m ws → Encloses p R vs (Goes ss ws)
@@ -80,7 +80,7 @@ means_primitive_cast terminals.LeftBracket q (part w f t ∷ mark x p ∷ vs) ss
 means_primitive_cast _ q (part w f t ∷ mark x p ∷ vs) ss i ws d = absurd d
 means_primitive_cast k q _ ss i ws d = tt
 
--- what a name in parentheses goes on with
+-- the continuation of a name in parentheses
 enclosed_token : (x : Kind) (v : StackItem) (p : Place) (vs : List StackItem) (ss : List Symbol) (ws : List StackItem) (i m : List Lexeme) (b : Lexeme) → i ≡ b ∷ m → b.kind ≡ x
     → Encloses p (λ j. NamedBefore x v j m) vs (Goes ss ws) → Encloses p (λ j. Named v j i) vs (Goes ss ws)
 enclosed_token x v p vs ss ws i m b y kb d = encloses_map p (λ j. NamedBefore x v j m) (λ j. Named v j i) vs (Goes ss ws) (λ j s. named_before x v j i m b y kb s) d

@@ -1,7 +1,8 @@
--- The goals of expressions mean what stands for them.
+-- The goals of expressions denote what their rules denote.
 use Rattle.std.proofs.Common.{◌≡◌, ◌≢◌, ◌≤◌, ◌<◌, ◌+◌, ℕ, Bool, true, false, if◌then◌else◌, nat_lt, List, [], ◌∷◌, Some, None, refl, sym, ◌∙◌, arith, le_refl, lit≤}
 use Rattle.std.proofs.Math.Path.{subst}
 use Rattle.kr_base.specs.declared.place.Place.{Place}
+use Rattle.kr_base.specs.Places.{nowhere}
 use Rattle.kr_lex.specs.Lexemes.{Lexeme}
 use Rattle.kr_lex.specs.declared.kind.Kind.{Kind}
 use Rattle.kr_lex.specs.declared.kind.Kind.TheVariants as kinds
@@ -19,9 +20,9 @@ use Rattle.kr_parse_grammar.specs.declared.goal.Symbol.{Symbol}
 use Rattle.kr_parse_grammar.specs.declared.goal.Symbol.TheVariants.{Take, Keep, Want, Build}
 use Rattle.kr_parse_grammar.specs.Values.{StackItem, mark, word, pair, part, tag}
 use Rattle.kr_parse_grammar.specs.TokenMeanings.{primitive_of}
-use Rattle.kr_parse_grammar.specs.Made.{nowhere, assigned, the_primitive, the_unary, the_step_before, the_step_behind, the_binary}
+use Rattle.kr_parse_grammar.specs.Made.{assigned, the_primitive, the_unary, the_step_before, the_step_behind, the_binary}
 use Rattle.kr_parse_grammar.specs.Grammar as grammar
-use Rattle.kr_parse_grammar.specs.Grammar.{Class, Der, Modified, at, ClassName, ReferenceType, AnyType, Maybe, Many, Several}
+use Rattle.kr_parse_grammar.specs.Grammar.{Der, at, ClassName, AnyType}
 use Rattle.kr_parse_laws.proofs.SoundKinds.{Kinds, IsBinary, IsCompound}
 use Rattle.kr_parse_laws.proofs.SoundMeanings.{Token, Named, NamedBefore, place_of, class_of, IsTarget, Operand, Tight, Enclosed, Bracketed, Creates, Den, DenOf, Goes, Holds}
 use Rattle.kr_parse_laws.proofs.SoundSteps.{from, onto, begins, both, three, four, behind, named_at, named_before, named_class, named_operand, named_call, paired, target_of, creation_tag, from_primary, from_postfix, from_unsigned}
@@ -62,7 +63,7 @@ means_primary_name terminals.LeftParenthesis q (word p n ∷ vs) ss i ws (b, m, 
 means_primary_name k q (word p n ∷ vs) ss i ws d = plain_primary_name p n vs ss i ws d
 means_primary_name k q _ ss i ws d = tt
 
--- what stands behind a primary expression
+-- the continuation of a primary expression
 access_of : (f : Form) (p : Place) (j i m r : List Lexeme) (t u : Tree) (a b : Lexeme) → p ≡ at j → Der (grammar.Primary f) j t i → f ≢ forms.ArrayCreation → i ≡ a ∷ m
     → a.kind ≡ kinds.LeftBracket → Der grammar.Expression m u (b ∷ r) → b.kind ≡ kinds.RightBracket
     → Der (grammar.Primary forms.Target) j (trees.ArrayAccess p t u) r

@@ -1,4 +1,4 @@
--- What the kind of a token is known to be where its terminal is known.
+-- The facts on a token's kind that its terminal implies.
 use Rattle.std.proofs.Common.{◌≡◌, ℕ, true, List, ◌∷◌, Some, refl}
 use Rattle.std.proofs.Math.Path.{subst}
 use Rattle.kr_base.specs.declared.place.Place.{Place}

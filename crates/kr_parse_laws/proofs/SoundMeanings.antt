@@ -1,4 +1,4 @@
--- What the goals stand for, by the values behind them: what may still come in their place, and what it makes.
+-- The denotation of goals, by the values so far: the tokens that may come in their place, and the values that result.
 use Rattle.std.proofs.Common.{◌≡◌, ◌⊎◌, ◌≤◌, ◌++◌, ℕ, Bool, false, if◌then◌else◌, List, [], ◌∷◌, Option, Some, None}
 use Rattle.kr_base.specs.declared.place.Place.{Place}
 use Rattle.kr_lex.specs.Lexemes.{Lexeme}
@@ -24,26 +24,26 @@ use Rattle.kr_parse_grammar.specs.Grammar as grammar
 use Rattle.kr_parse_grammar.specs.Grammar.{Class, Der, Modified, Heading, at, EndsOpen, ClassName, ReferenceType, AnyType, Maybe, Many, Several}
 use Rattle.kr_parse_laws.proofs.SoundKinds.{Kinds}
 
--- a tree is put on the values, and the rest goes on
+-- a tree is pushed on the values, and the rest continues
 abbrev pub Gives : (Place → Form → Tree → List Lexeme → Type 0) → List StackItem → (List StackItem → List Lexeme → Type 0) → Type 0
 Gives P vs K = (p : Place) × (f : Form) × (t : Tree) × (r : List Lexeme) × P p f t r × K (part p f t ∷ vs) r
 
--- from j to r a token of this kind stands, at this place
+-- from j to r there is a token of this kind, at this place
 abbrev pub Token : Kind → Place → List Lexeme → List Lexeme → Type 0
 Token x p j r = (a : Lexeme) × (j ≡ a ∷ r) × (a.kind ≡ x) × (p ≡ a.place)
 
--- from j to r a name stands
+-- from j to r there is a name
 abbrev pub Named : StackItem → List Lexeme → List Lexeme → Type 0
 Named (word p n) j r = (a : Lexeme) × (j ≡ a ∷ r) × (a.kind ≡ kinds.Identifier) × (p ≡ a.place) × (n ≡ a.text)
 Named (pair p o n) j r =
     (a : Lexeme) × (d : Lexeme) × (b : Lexeme) × (j ≡ a ∷ d ∷ b ∷ r) × (a.kind ≡ kinds.Identifier) × (d.kind ≡ kinds.Dot) × (b.kind ≡ kinds.Identifier) × (p ≡ a.place) × (o ≡ a.text) × (n ≡ b.text)
 Named _ j r = ⊥
 
--- and behind it a token of this kind
+-- a name followed by a token of this kind
 abbrev pub NamedBefore : Kind → StackItem → List Lexeme → List Lexeme → Type 0
 NamedBefore x v j r = (b : Lexeme) × Named v j (b ∷ r) × (b.kind ≡ x)
 
--- from j to r a primitive type stands
+-- from j to r there is a primitive type
 abbrev pub Primitively : Place → Tree → List Lexeme → List Lexeme → Type 0
 Primitively q t j r = (a : Lexeme) × (j ≡ a ∷ r) × (primitive_of a.kind ≡ Some (the_primitive a.kind)) × (q ≡ a.place) × (t ≡ trees.PrimitiveType a.place (the_primitive a.kind))
 
@@ -58,19 +58,19 @@ class_of (word p n) = trees.NamedType p n
 class_of (pair p o n) = trees.QualifiedType p o n
 class_of _ = trees.Nil
 
--- as an operand
+-- the name as an operand
 abbrev pub operand_of : StackItem → Tree
 operand_of (word p n) = trees.Variable p n
 operand_of (pair p o n) = trees.FieldAccess p (trees.Variable p o) n
 operand_of _ = trees.Nil
 
--- and before arguments
+-- the name of a call, before its arguments
 abbrev pub call_of : StackItem → Tree → Tree
 call_of (word p n) u = trees.Call p n u
 call_of (pair p o n) u = trees.MethodCall p (trees.Variable p o) n u
 call_of _ u = trees.Nil
 
--- what a form tells of a tree
+-- the fact that a form states of a tree
 abbrev pub IsTarget : Form → List Lexeme → Tree → List Lexeme → Type 0
 IsTarget forms.Target j t r = Der (grammar.Primary forms.Target) j t r
 IsTarget _ j t r = Unit {0}
@@ -99,14 +99,14 @@ Apart t r = EndsOpen t → ahead r ≡ terminals.Else → ⊥
 abbrev pub Declared : List Lexeme → Tree → List Lexeme → Type 0
 Declared h t r = (m : Modifiers) × (j : List Lexeme) × Modified h m j × (m.overrides ≡ false) × Der (grammar.ClassDeclaration false) j t r
 
--- what a constructor's body begins with, and the rest of it
+-- the first part of a constructor's body, and the rest
 abbrev pub Built : List Lexeme → Tree → Tree → List Lexeme → Type 0
 Built i s t r = (k : List Lexeme) × Der (Maybe grammar.ConstructorCall) i s k × Der (Many grammar.BlockStatement) k t r
 
 abbrev pub Body : (Tree → Tree → List Lexeme → Type 0) → List StackItem → (List StackItem → List Lexeme → Type 0) → Type 0
 Body P vs K = (p : Place) × (q : Place) × (f : Form) × (g : Form) × (s : Tree) × (t : Tree) × (r : List Lexeme) × P s t r × K (part q g t ∷ part p f s ∷ vs) r
 
--- a list goes on behind its first
+-- a list continues after its first item
 abbrev pub More : Class → Tree → List Lexeme → List StackItem → (List StackItem → List Lexeme → Type 0) → Type 0
 More c t i vs K = Gives (λ q g u r. (j : List Lexeme) → Der c j t i → Der (Several c) j u r) vs K
 
@@ -127,27 +127,27 @@ Dimensioned p t i u r = ((j : List Lexeme) → p ≡ at j → Der AnyType j t i 
 abbrev pub TypeFrom : StackItem → List Lexeme → List StackItem → (List StackItem → List Lexeme → Type 0) → Type 0
 TypeFrom v i vs K = Gives (λ q f t r. (q ≡ place_of v) × ((j : List Lexeme) → Named v j i → Der AnyType j t r)) vs K
 
--- a creation behind `new` and what R says
+-- a creation after `new` and R
 abbrev pub Creates : Place → (List Lexeme → Type 0) → List StackItem → (List StackItem → List Lexeme → Type 0) → Type 0
 Creates p R vs K = Gives (λ q f t r. (q ≡ p) × ((h j : List Lexeme) → Token kinds.New p h j → R j → Der (grammar.Primary f) h t r)) vs K
 
--- an operand behind `(` and what R says
+-- an operand after `(` and R
 abbrev pub Encloses : Place → (List Lexeme → Type 0) → List StackItem → (List StackItem → List Lexeme → Type 0) → Type 0
 Encloses p R vs K = Gives (λ q f t r. (q ≡ p) × ((h j : List Lexeme) → Token kinds.LeftParenthesis p h j → R j → Operand grammar.Unsigned f h t r)) vs K
 
--- a comparison or a test behind what H says
+-- a comparison or a test after H
 abbrev pub Compares : (List Lexeme → Type 0) → Place → List StackItem → (List StackItem → List Lexeme → Type 0) → Type 0
 Compares H q vs K = (t : Tree) × (r : List Lexeme) × ((j : List Lexeme) → H j → Der (grammar.Operation 7) j t r) × K (part q forms.Other t ∷ vs) r
 
--- What stands from j to i, before what comes next in a chain: names, each with `<` behind it, and below them an operand
--- that is tested, or nothing.
+-- From j to i, before the next item of a chain: names, each followed by `<`, and below them an operand that is tested,
+-- or nothing.
 abbrev pub Before : List StackItem → List Lexeme → List Lexeme → Type 0
 Before (word p n ∷ us) j i = (m : List Lexeme) × Before us j m × NamedBefore kinds.Less (word p n) m i
 Before (pair p o n ∷ us) j i = (m : List Lexeme) × Before us j m × NamedBefore kinds.Less (pair p o n) m i
 Before (part q f x ∷ us) j i = (y : ℕ) × (a : Lexeme) × Der (grammar.Operation y) j x (a ∷ i) × (7 ≤ y) × (q ≡ at j) × (a.kind ≡ kinds.Instanceof)
 Before us j i = j ≡ i
 
--- what a chain becomes from j on, of which H tells: a type where its names stood, or a comparison
+-- the result of a chain from j on, given H: a type instead of its names, or a comparison
 abbrev pub Chained : List StackItem → (List Lexeme → Type 0) → (List StackItem → List Lexeme → Type 0) → Type 0
 Chained (word p n ∷ us) H K = Chained us H K
 Chained (pair p o n ∷ us) H K = Chained us H K
@@ -164,7 +164,7 @@ Behind (word p n ∷ us) X = X
 Behind (pair p o n ∷ us) X = X
 Behind _ X = Unit {0}
 
--- what may be an argument, and what is a type by itself
+-- an argument, or a type by itself
 abbrev pub argument : List StackItem → Class
 argument us = if is_name us then AnyType else ReferenceType
 
@@ -172,7 +172,7 @@ argument us = if is_name us then AnyType else ReferenceType
 abbrev pub Ending : StackItem → List StackItem → List Lexeme → List Lexeme → Type 0
 Ending v us i j = (m : List Lexeme) × Before us j m × Named v m i
 
--- and a token behind it
+-- an ending followed by a token
 abbrev pub EndingBefore : Kind → StackItem → List StackItem → List Lexeme → List Lexeme → Type 0
 EndingBefore x v us i j = (m : List Lexeme) × Before us j m × NamedBefore x v m i
 
@@ -288,7 +288,7 @@ Meaning goals.AfterTested (part p forms.Type t ∷ part q f x ∷ vs) i K = K (p
 Meaning goals.AfterTested (part p forms.Other t ∷ vs) i K = K (part p forms.Other t ∷ vs) i
 Meaning _ _ i K = Unit {0}
 
--- what the symbols stand for
+-- the denotation of symbols
 abbrev pub Den : List Symbol → List StackItem → List Lexeme → List StackItem → Type 0
 Den [] vs i ws = (i ≡ []) × (vs ≡ ws)
 Den (Take k ∷ ss) vs i ws = (a : Lexeme) × (j : List Lexeme) × (i ≡ a ∷ j) × Kinds k a.kind × Den ss vs j ws
@@ -304,10 +304,10 @@ abbrev pub DenOf : Option (List Symbol) → List Symbol → List StackItem → L
 DenOf None ss vs i ws = ⊥
 DenOf (Some body) ss vs i ws = Den (body ++ ss) vs i ws
 
--- these symbols go on
+-- the symbols continue
 abbrev pub Goes : List Symbol → List StackItem → List StackItem → List Lexeme → Type 0
 Goes ss ws vs i = Den ss vs i ws
 
--- what stands for a goal means what the goal means
+-- a goal's rule denotes what the goal denotes
 abbrev pub Holds : Goal → Terminal → Tag → List StackItem → Type 0
 Holds g k q vs = (ss : List Symbol) (i : List Lexeme) (ws : List StackItem) → DenOf (rule g k q) ss vs i ws → Den (Want g ∷ ss) vs i ws

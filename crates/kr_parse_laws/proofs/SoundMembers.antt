@@ -1,7 +1,8 @@
--- The goals of files, classes and members mean what stands for them.
+-- The goals of files, classes and members denote what their rules denote.
 use Rattle.std.proofs.Common.{◌≡◌, ℕ, Bool, true, false, if◌then◌else◌, List, ◌∷◌, refl, sym, ap, ◌∙◌}
 use Rattle.std.proofs.Math.Path.{subst}
 use Rattle.kr_base.specs.declared.place.Place.{Place}
+use Rattle.kr_base.specs.Places.{nowhere}
 use Rattle.kr_lex.specs.Lexemes.{Lexeme}
 use Rattle.kr_lex.specs.declared.kind.Kind.{Kind}
 use Rattle.kr_lex.specs.declared.kind.Kind.TheVariants as kinds
@@ -20,9 +21,9 @@ use Rattle.kr_parse_grammar.specs.declared.goal.Make.TheVariants as makes
 use Rattle.kr_parse_grammar.specs.declared.goal.Symbol.{Symbol}
 use Rattle.kr_parse_grammar.specs.declared.goal.Symbol.TheVariants.{Take, Want, Build}
 use Rattle.kr_parse_grammar.specs.Values.{StackItem, mark, word, part, member, owner, tag, no_modifiers}
-use Rattle.kr_parse_grammar.specs.Made.{nowhere, the_primitive}
+use Rattle.kr_parse_grammar.specs.Made.{the_primitive}
 use Rattle.kr_parse_grammar.specs.Grammar as grammar
-use Rattle.kr_parse_grammar.specs.Grammar.{Class, Der, Modified, at, ClassName, ReferenceType, AnyType, Maybe, Many, Several}
+use Rattle.kr_parse_grammar.specs.Grammar.{Class, Der, Modified, at, AnyType, Maybe, Many, Several}
 use Rattle.kr_parse_laws.proofs.SoundMeanings.{Token, Named, Declared, Built, Den, Holds}
 use Rattle.kr_parse_laws.proofs.SoundSteps.{from, onto, both, three, four, token_at, named_at, paired}
 use Rattle.std.proofs.Common.{◌&&◌, not}
@@ -145,7 +146,7 @@ means_field_or_method terminals.Semicolon q (word w n ∷ part p f t ∷ member 
 means_field_or_method _ q (word w n ∷ part p f t ∷ member b m ∷ vs) ss i ws d = absurd d
 means_field_or_method k q _ ss i ws d = tt
 
--- what a word is where a constructor may stand
+-- the tag of a word in a position for a constructor
 plain_modifiers : (m : Modifiers) → is_plain m ≡ true → m ≡ no_modifiers
 plain_modifiers m e = go m.is_static m.is_final m.overrides e
   where
@@ -254,7 +255,7 @@ means_method_ahead terminals.Identifier q (member b m ∷ part e g v ∷ vs) ss 
 means_method_ahead _ q (member b m ∷ part e g v ∷ vs) ss i ws d = absurd d
 means_method_ahead k q _ ss i ws d = tt
 
--- a method with contracts, and the members behind it
+-- a method with contracts, and the members after it
 contracted_of : (n : List ℕ) (c : Bool) (m : Modifiers) (i h l r : List Lexeme) (v t u : Tree) → m ≡ no_modifiers → Der (Many grammar.Contract) i v h
     → ((o : List ℕ) (x : Bool) (s j : List Lexeme) → Der (Many grammar.Contract) s v j → Modified j m h → Der (grammar.Member o x) s t l) → Der (grammar.Members n c) l u r → Der (grammar.Members n c) i (trees.Cons t u) r
 contracted_of n c m i h l r v t u z ks g x = grammar.member (g n c i h ks (subst (λ f. Modified h f h) (sym z) grammar.nothing)) x
@@ -290,7 +291,7 @@ means_classes terminals.End q vs ss i ws d = (nowhere, forms.Other, trees.Nil, i
 means_classes terminals.Semicolon q vs ss i ws (a, m, e, ka, (p, f, t, r, x, d)) = (p, f, t, r, from e (grammar.skip_class a ka x), d)
 means_classes k q vs ss i ws d = (d.0, forms.Other, trees.Cons d.2 d.5.2, d.5.3, another_of i d.3 d.5.3 d.2 d.5.2 (d.4 i no_modifiers grammar.nothing refl) d.5.4, d.5.5)
 
--- what stands before the classes
+-- the text before the classes
 pub means_dotted : (k : Terminal) (q : Tag) (vs : List StackItem) → Holds goals.Dotted k q vs
 means_dotted terminals.Dot q vs ss i ws (a, m, e, ka, (b, l, e2, kb, (r, x, d))) = (r, subst (λ j. grammar.Dotted j r) (sym (both e e2)) (grammar.dot a b ka kb x), d)
 means_dotted k q vs ss i ws d = (i, grammar.no_more, d)

@@ -1,7 +1,8 @@
--- The goals of locals and statements mean what stands for them.
+-- The goals of locals and statements denote what their rules denote.
 use Rattle.std.proofs.Common.{◌≡◌, ℕ, List, ◌∷◌, refl, sym, ◌∙◌}
 use Rattle.std.proofs.Math.Path.{subst}
 use Rattle.kr_base.specs.declared.place.Place.{Place}
+use Rattle.kr_base.specs.Places.{nowhere}
 use Rattle.kr_lex.specs.Lexemes.{Lexeme}
 use Rattle.kr_lex.specs.declared.kind.Kind.{Kind}
 use Rattle.kr_lex.specs.declared.kind.Kind.TheVariants as kinds
@@ -18,10 +19,10 @@ use Rattle.kr_parse_grammar.specs.declared.goal.Make.TheVariants as makes
 use Rattle.kr_parse_grammar.specs.declared.goal.Symbol.{Symbol}
 use Rattle.kr_parse_grammar.specs.declared.goal.Symbol.TheVariants.{Take, Word, Want, Build}
 use Rattle.kr_parse_grammar.specs.Values.{StackItem, mark, word, pair, part, tag}
-use Rattle.kr_parse_grammar.specs.Made.{nowhere, assigned, jump, the_step_before, the_step_behind}
+use Rattle.kr_parse_grammar.specs.Made.{assigned, jump, the_step_before, the_step_behind}
 use Rattle.kr_parse_grammar.specs.Machine.{ahead, rule}
 use Rattle.kr_parse_grammar.specs.Grammar as grammar
-use Rattle.kr_parse_grammar.specs.Grammar.{Class, Der, Modified, at, ClassName, ReferenceType, AnyType, Maybe, Many, Several}
+use Rattle.kr_parse_grammar.specs.Grammar.{Der, at, AnyType, Several}
 use Rattle.kr_parse_laws.proofs.SoundKinds.{Kinds}
 use Rattle.kr_parse_laws.proofs.SoundMeanings.{Gives, Token, Named, NamedBefore, place_of, class_of, operand_of, call_of, Enclosed, Apart, ItemOf, Initials, Den, DenOf, Goes, Holds}
 use Rattle.kr_parse_laws.proofs.SoundSteps.{from, onto, begins, both, named_at, named_before, named_class, named_operand, named_call, paired, target_of, invocation_of, local_tag, as_target}
@@ -79,7 +80,7 @@ means_item terminals.Primitive q vs ss i ws (p, f, t, l, (z, x), (b, s, e2, kb, 
 means_item terminals.Identifier q vs ss i ws (a, m, e, ka, (p, f, t, r, h, d)) = (p, f, t, r, h i (a, e, ka, refl, refl), d)
 means_item k q vs ss i ws d = (d.0, forms.Other, trees.ExpressionStatement d.0 d.2, d.3, evaluated_of d.0 i d.3 d.2 d.4.0 d.4.1, d.5)
 
--- what a name at the head of an item goes on with
+-- the continuation of a name at the start of an item
 item_local : (v : StackItem) (vs : List StackItem) (ss : List Symbol) (ws : List StackItem) (i m : List Lexeme) (a : Lexeme) → i ≡ a ∷ m → a.kind ≡ kinds.Identifier
     → Den (Want goals.AfterLocalName ∷ ss) (word a.place a.text ∷ part (place_of v) forms.Type (class_of v) ∷ vs) m ws
     → Gives (λ q f t r. (j : List Lexeme) → Named v j i → ItemOf f j t r) vs (Goes ss ws)

@@ -11,10 +11,10 @@ use Rattle.kr_parse_grammar.specs.declared.value.Form.TheVariants as forms
 use Rattle.kr_parse_grammar.specs.declared.value.Tag.TheVariants as tags
 use Rattle.kr_parse_grammar.specs.Values.{StackItem, word, pair, part, tag, is_name}
 use Rattle.kr_parse_grammar.specs.Grammar as grammar
-use Rattle.kr_parse_grammar.specs.Grammar.{Class, Der, at, ClassName, ReferenceType, AnyType, Maybe, Many, Several, simple_name, qualified_name, variable, field_access, call, method_call, operand, unsigned, postfix, primary}
+use Rattle.kr_parse_grammar.specs.Grammar.{Class, Der, at, ClassName, simple_name, qualified_name, variable, field_access, call, method_call, unsigned, postfix, primary}
 use Rattle.kr_parse_laws.proofs.SoundMeanings.{Token, Named, NamedBefore, place_of, class_of, operand_of, call_of, IsTarget, Operand, Enclosed, Encloses}
 
--- the same tokens in another spelling
+-- equal tokens
 pub from : {c : Class} {i j r : List Lexeme} {t : Tree} → i ≡ j → Der c j t r → Der c i t r
 from {c = c} {r = r} {t = t} e d = subst (λ x. Der c x t r) (sym e) d
 
@@ -48,7 +48,7 @@ named_at _ j r h = absurd h
 named_onto : (v : StackItem) (j m r : List Lexeme) → m ≡ r → Named v j m → Named v j r
 named_onto v j m r e h = subst (λ x. Named v j x) e h
 
--- a name and the token behind it
+-- a name followed by a token
 pub named_before : (x : Kind) (v : StackItem) (j i m : List Lexeme) (b : Lexeme) → i ≡ b ∷ m → b.kind ≡ x → Named v j i → NamedBefore x v j m
 named_before x v j i m b e kb s = (b, named_onto v j i (b ∷ m) e s, kb)
 
@@ -58,7 +58,7 @@ named_class (word p n) j r (a, e, k, z, y) = rw (z, y) (from e (simple_name a k)
 named_class (pair p o n) j r (a, d, b, e, k, l, m, z, y, x) = rw (z, y, x) (from e (qualified_name a d b k l m))
 named_class _ j r h = absurd h
 
--- as an operand
+-- a name as an operand
 pub named_operand : (v : StackItem) (j r : List Lexeme) → Named v j r → Der (grammar.Primary forms.Target) j (operand_of v) r
 named_operand (word p n) j r (a, e, k, z, y) = rw (z, y) (from e (variable a k))
 named_operand (pair p o n) j r (a, d, b, e, k, l, m, z, y, x) = rw (z, y, x) (from e (field_access d b (variable a k) l m))

@@ -1,4 +1,4 @@
--- The goals of names with `<` between them, and those behind `instanceof`, mean what stands for them.
+-- The goals of names with `<` between them, and those after `instanceof`, denote what their rules denote.
 use Rattle.std.proofs.Common.{◌≡◌, inl, inr, ℕ, List, ◌∷◌, refl, ◌∙◌, lit≤}
 use Rattle.kr_base.specs.declared.place.Place.{Place}
 use Rattle.kr_lex.specs.Lexemes.{Lexeme}
@@ -20,7 +20,7 @@ use Rattle.kr_parse_grammar.specs.declared.goal.Symbol.TheVariants.{Take, Want, 
 use Rattle.kr_parse_grammar.specs.Values.{StackItem, word, pair, part, tag}
 use Rattle.kr_parse_grammar.specs.Made.{the_primitive, compared, joined}
 use Rattle.kr_parse_grammar.specs.Grammar as grammar
-use Rattle.kr_parse_grammar.specs.Grammar.{Class, Der, Modified, at, ClassName, ReferenceType, AnyType, Maybe, Many, Several}
+use Rattle.kr_parse_grammar.specs.Grammar.{Der, at, AnyType}
 use Rattle.kr_parse_laws.proofs.SoundMeanings.{Named, NamedBefore, place_of, class_of, operand_of, call_of, Tight, Enclosed, Compares, Before, Chained, Behind, argument, Ending, EndingBefore, Meaning, Den, Goes, Holds}
 use Rattle.kr_parse_laws.proofs.SoundSteps.{from, onto, begins, named_at, named_before, named_class, named_operand, named_call, paired, from_primary}
 use Rattle.kr_parse_laws.proofs.SoundTypes.{array_of}
@@ -39,7 +39,7 @@ means_chain_argument k q (word w n ∷ us) ss i ws d = chain_less (word w n) us 
 means_chain_argument k q (pair w o n ∷ us) ss i ws d = chain_less (pair w o n) us ss i ws d
 means_chain_argument k q _ ss i ws d = tt
 
--- what a name in a chain goes on with
+-- the continuation of a name in a chain
 chain_token : (x : Kind) (v : StackItem) (us : List StackItem) (ss : List Symbol) (ws : List StackItem) (i m : List Lexeme) (b : Lexeme) → i ≡ b ∷ m → b.kind ≡ x
     → Chained us (λ j. EndingBefore x v us m j) (Goes ss ws) → Chained us (λ j. Ending v us i j) (Goes ss ws)
 chain_token x v us ss ws i m b y kb d = chained_map us (λ j. EndingBefore x v us m j) (λ j. Ending v us i j) (Goes ss ws) (λ j s. (s.0, s.1, named_before x v s.0 i m b y kb s.2)) d
@@ -177,7 +177,7 @@ means_chain_closing k (part p forms.Type t ∷ part q f x ∷ us) ss i ws d = in
 means_chain_closing k (part p forms.Type t ∷ us) ss i ws d = inl (p, t, i, λ j s. from s.1 s.3, d)
 means_chain_closing k _ ss i ws d = tt
 
--- the type behind `instanceof`
+-- the type after `instanceof`
 pub means_tested : (k : Terminal) (q : Tag) (vs : List StackItem) → Holds goals.Tested k q vs
 means_tested terminals.Primitive q (part w f x ∷ vs) ss i ws (a, m, e, ka, (b, l, e2, kb, (c, s, e3, kc, (p1, g, u, r, (z, h), d)))) =
     (trees.InstanceOf w x u, r, λ j o. test_of w f x vs j i r u o (h.1 i (begins e) (array_of a.place i m l s (trees.PrimitiveType a.place (the_primitive a.kind)) b c (begins e) (from e (grammar.primitive_type a ka)) e2 kb e3 kc)), d)
@@ -185,7 +185,7 @@ means_tested terminals.Identifier q (part w f x ∷ vs) ss i ws (a, m, e, ka, (t
 means_tested _ q (part w f x ∷ vs) ss i ws d = absurd d
 means_tested k q _ ss i ws d = tt
 
--- the chain behind `instanceof`
+-- the chain after `instanceof`
 tested_chain : (v : StackItem) (p : Place) (f : Form) (x : Tree) (vs : List StackItem) (ss : List Symbol) (ws : List StackItem) (i m : List Lexeme) (b : Lexeme) → i ≡ b ∷ m → b.kind ≡ kinds.Less
     → Chained (part p f x ∷ vs) (λ j. EndingBefore kinds.Less v (part p f x ∷ vs) m j) (λ us r. Meaning goals.AfterTested us r (Goes ss ws))
     → Compares (λ j. Ending v (part p f x ∷ vs) i j) p vs (Goes ss ws)

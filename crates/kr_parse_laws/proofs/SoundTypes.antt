@@ -1,6 +1,7 @@
--- The goals of types mean what stands for them.
+-- The goals of types denote what their rules denote.
 use Rattle.std.proofs.Common.{◌≡◌, List, ◌∷◌, refl, ◌∙◌}
 use Rattle.kr_base.specs.declared.place.Place.{Place}
+use Rattle.kr_base.specs.Places.{nowhere}
 use Rattle.kr_lex.specs.Lexemes.{Lexeme}
 use Rattle.kr_lex.specs.declared.kind.Kind.TheVariants as kinds
 use Rattle.kr_ast.specs.Tree as trees
@@ -11,9 +12,8 @@ use Rattle.kr_parse_grammar.specs.declared.value.Form.TheVariants as forms
 use Rattle.kr_parse_grammar.specs.declared.value.Tag.{Tag}
 use Rattle.kr_parse_grammar.specs.declared.goal.Goal.TheVariants as goals
 use Rattle.kr_parse_grammar.specs.Values.{StackItem, word, pair, part}
-use Rattle.kr_parse_grammar.specs.Made.{nowhere}
 use Rattle.kr_parse_grammar.specs.Grammar as grammar
-use Rattle.kr_parse_grammar.specs.Grammar.{Class, Der, Modified, at, ClassName, ReferenceType, AnyType, Maybe, Many, Several}
+use Rattle.kr_parse_grammar.specs.Grammar.{Der, at, ClassName, ReferenceType, AnyType}
 use Rattle.kr_parse_laws.proofs.SoundMeanings.{Holds}
 use Rattle.kr_parse_laws.proofs.SoundSteps.{from, onto, begins, both, named_at, named_class, paired}
 

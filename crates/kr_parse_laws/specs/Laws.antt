@@ -1,4 +1,4 @@
--- Between crates: what holds of the grammar and its machine.
+-- Between crates: the theorems on the grammar and its machine.
 use Rattle.std.specs.Prelude.{◌≡◌, ◌+◌, ◌*◌, ◌<◌, ◌≤◌, List, [], ◌∷◌, ◌++◌, Some, length}
 use Rattle.kr_base.specs.declared.place.Place.{Place}
 use Rattle.kr_lex.specs.Lexemes.{Lexeme}
@@ -22,11 +22,11 @@ OneTree = (i : List Lexeme) (t u : Tree) → Derives i t → Derives i u → t �
 abbrev pub SmallTrees : Type 0
 SmallTrees = (i : List Lexeme) (t : Tree) → Derives i t → size t ≤ 3 * length i + 1
 
--- what the machine takes from the start is derived
+-- tokens that the machine accepts are derivable
 abbrev pub Soundness : Type 0
 Soundness = (i : List Lexeme) (ws : List StackItem) → Runs start [] i ws → (p : Place) × (f : Form) × (t : Tree) × (ws ≡ part p f t ∷ []) × Derives i t
 
--- what is derived the machine takes from the start
+-- the machine accepts derivable tokens
 abbrev pub Completeness : Type 0
 Completeness = (i : List Lexeme) (t : Tree) → Derives i t → (p : Place) × (f : Form) × Runs start [] i (part p f t ∷ [])
 
@@ -34,10 +34,10 @@ Completeness = (i : List Lexeme) (t : Tree) → Derives i t → (p : Place) × (
 abbrev pub Productivity : Type 0
 Productivity = (ss : List Symbol) (vs : List StackItem) → Good ss → (i : List Lexeme) × (ws : List StackItem) × Runs ss vs i ws
 
--- what stands for a goal is good where the goal was
+-- a rule keeps a good stack good
 abbrev pub Preservation : Type 0
 Preservation = (g : Goal) (k : Terminal) (q : Tag) (body ss : List Symbol) → rule g k q ≡ Some body → Good (Want g ∷ ss) → Good (body ++ ss)
 
--- and lighter
+-- a rule makes the stack lighter
 abbrev pub Termination : Type 0
 Termination = (g : Goal) (k : Terminal) (q : Tag) (body ss : List Symbol) → rule g k q ≡ Some body → load (body ++ ss) < load (Want g ∷ ss)

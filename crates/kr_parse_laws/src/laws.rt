@@ -1,4 +1,4 @@
-// What holds of the grammar and its machine.
+// Theorems on the grammar and its machine.
 ghost use Rattle.kr_parse_laws.specs.Laws.{OneTree, SmallTrees, Soundness, Completeness, Productivity, Preservation, Termination};
 
 /// A list of tokens has at most one tree.
@@ -11,17 +11,18 @@ pub fn small_trees()
     ensures { SmallTrees }
 {}
 
-/// What the machine takes from the start is derived.
+/// Tokens that the machine accepts are derivable.
 pub fn soundness()
     ensures { Soundness }
 {}
 
-/// What is derived the machine takes from the start.
+/// The machine accepts derivable tokens.
 pub fn completeness()
     ensures { Completeness }
 {}
 
-/// The machine can always go on: good symbols can be taken, and stay good and fall where a goal is replaced.
+/// The machine never gets stuck: good symbols can be taken, and replacing a goal keeps them good and makes them
+/// lighter.
 pub fn productivity()
     ensures taken { Productivity }
     ensures kept { Preservation }

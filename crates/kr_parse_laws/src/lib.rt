@@ -1,5 +1,5 @@
-//! What holds of the grammar and its machine: the machine takes exactly what is derived, it can always go on, and a list
-//! of tokens has at most one tree.
+//! Theorems on the grammar and its machine: the machine accepts exactly the derivable tokens, it never gets stuck on
+//! them, and tokens have at most one tree.
 #![tactic(auto)]
 
 mod laws;

@@ -1,4 +1,4 @@
--- What the plans put in the place of values is what is to be made of these.
+-- The plans' values are the results of the reductions.
 use Rattle.std.proofs.Common.{◌≡◌, ℕ, Bool, true, List, [], ◌∷◌, None, refl, sym, ap, arith, subst}
 use Rattle.std.proofs.lemmas.Bool.{false≢true}
 use Rattle.kr_base.specs.declared.place.Place.{Place}

@@ -61,7 +61,7 @@ none_behind [] k h = refl
 none_behind (v ∷ vs) zero h = absurd (omega arith)
 none_behind (v ∷ vs) (suc k) h = none_behind vs k (omega arith)
 
--- a value below another, in the place of those that were there
+-- a value below another, replacing those that were there
 pub tucked : (xs : List Kept) (b c n m : ℕ) (v a : Kept) → b + c ≡ length xs → 2 ≤ c → n ≡ b + 1 → m ≡ b + 2 → take m (set (set xs n a) b v) ≡ take b xs ++ v ∷ a ∷ []
 tucked [] b c n m v a e l p q = absurd (omega arith)
 tucked (x ∷ []) zero c n m v a e l p q = absurd (omega arith)

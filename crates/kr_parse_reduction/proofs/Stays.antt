@@ -1,4 +1,4 @@
--- Of other values nothing is made.
+-- Other values have no reduction.
 use Rattle.std.proofs.Common.{◌≡◌, false, List, ◌∷◌, refl, sym}
 use Rattle.std.proofs.lemmas.Bool.{false≢true}
 use Rattle.kr_ast.specs.Arena.{Arena}

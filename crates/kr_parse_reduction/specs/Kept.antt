@@ -1,6 +1,7 @@
--- Between crates: what is read off the values that a parser keeps.
+-- Between crates: the parts of the parser's values.
 use Rattle.std.specs.Prelude.{ℕ, Bool, true, false, if◌then◌else◌, List, [], ◌∷◌, Option, Some, None, slice_get}
 use Rattle.kr_base.specs.declared.place.Place.{Place}
+use Rattle.kr_base.specs.Places.{nowhere}
 use Rattle.kr_lex.specs.declared.kind.Kind.{Kind}
 use Rattle.kr_lex.specs.declared.kind.Kind.TheVariants.{Semicolon}
 use Rattle.kr_ast.specs.declared.node.Name.{Name}
@@ -8,7 +9,6 @@ use Rattle.kr_parse_grammar.specs.declared.value.Form.{Form}
 use Rattle.kr_parse_grammar.specs.declared.value.Form.TheVariants.{Other}
 use Rattle.kr_parse_grammar.specs.declared.value.Modifiers.{Modifiers}
 use Rattle.kr_parse_grammar.specs.Values.{no_modifiers}
-use Rattle.kr_parse_grammar.specs.Made.{nowhere}
 use Rattle.kr_parse_reduction.specs.declared.value.Kept.{Kept}
 use Rattle.kr_parse_reduction.specs.declared.value.Kept.TheVariants.{Mark, Word, Pair, Part, Member, Owner}
 use Rattle.kr_parse_reduction.specs.declared.value.Sort.{Sort}

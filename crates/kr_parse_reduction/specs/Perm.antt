@@ -1,4 +1,4 @@
--- Between crates: the same nodes in another order.
+-- Between crates: permutations of nodes.
 use Rattle.std.specs.Prelude.{ℕ, List, [], ◌∷◌}
 
 pub data Perm : List ℕ → List ℕ → Type 0 where

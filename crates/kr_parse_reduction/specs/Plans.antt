@@ -1,6 +1,8 @@
--- Between crates: what takes the place of the values on top: the tree of one node above theirs, or some of these values again.
+-- Between crates: the replacement of the values on top: the tree of one node above theirs, or some of these values
+-- again.
 use Rattle.std.specs.Prelude.{ℕ, Bool, true, false, List, [], ◌∷◌, Option, Some, None, slice_get}
 use Rattle.kr_base.specs.declared.place.Place.{Place}
+use Rattle.kr_base.specs.Places.{nowhere}
 use Rattle.kr_lex.specs.declared.kind.Kind.{Kind}
 use Rattle.kr_lex.specs.declared.kind.Kind.TheVariants as kinds
 use Rattle.kr_ast.specs.declared.node.Node.{Node}
@@ -12,7 +14,7 @@ use Rattle.kr_parse_grammar.specs.declared.value.Modifiers.{Modifiers}
 use Rattle.kr_parse_grammar.specs.declared.goal.Make.{Make}
 use Rattle.kr_parse_grammar.specs.declared.goal.Make.TheVariants as makes
 use Rattle.kr_parse_grammar.specs.Values.{no_modifiers}
-use Rattle.kr_parse_grammar.specs.Made.{nowhere, the_primitive, the_unary, the_step_before, the_step_behind, the_binary, the_compound}
+use Rattle.kr_parse_grammar.specs.Made.{the_primitive, the_unary, the_step_before, the_step_behind, the_binary, the_compound}
 use Rattle.kr_parse_reduction.specs.declared.value.Kept.{Kept}
 use Rattle.kr_parse_reduction.specs.declared.value.Kept.TheVariants.{Word, Pair, Part, Member, Owner}
 use Rattle.kr_parse_reduction.specs.declared.value.Sort.{Sort}
@@ -134,7 +136,7 @@ assignment k t u = nodes.CompoundAssignment (the_compound k) t u
 abbrev pub nothing : Plan
 nothing = plain 0 nowhere nodes.Nil
 
--- The node above the values, and what it takes: a row for each kind, in groups.
+-- The node above the values, and the values that it takes: a row for each kind, in groups.
 abbrev pub types : Make → List Kept → Plan
 types makes.TypeOfMark vs = tree 1 (place_at vs 0) forms.Type (nodes.PrimitiveType (the_primitive (kind_at vs 0)))
 types makes.TypeOfName vs = tree 1 (place_at vs 0) forms.Type (type_node (slice_get vs 0))
@@ -273,7 +275,7 @@ single makes.Variable vs = variable (slice_get vs 0)
 single makes.CallOfName vs = call (slice_get vs 1) (node_at vs 0)
 single _ vs = None
 
--- of two nodes the lower one, of a name
+-- the lower one of a name's two nodes
 abbrev pub lower : Make → List Kept → Plan
 lower makes.Generic vs = tree 0 (place_at vs 1) forms.Type (type_node (slice_get vs 1))
 lower makes.Diamond vs = tree 0 (place_at vs 0) forms.Type (type_node (slice_get vs 0))
@@ -281,7 +283,7 @@ lower makes.CallOfName vs = plain 0 (place_at vs 1) (nodes.Variable (outer_at vs
 lower makes.Variable vs = plain 0 (place_at vs 0) (nodes.Variable (outer_at vs 0))
 lower _ vs = nothing
 
--- and the upper one
+-- the upper one of a name's two nodes
 abbrev pub upper : Make → List Kept → Plan
 upper makes.Generic vs = tree 3 (place_at vs 2) forms.Type (nodes.GenericType (node_at vs 0) (node_at vs 1))
 upper makes.Diamond vs = tree 2 (place_at vs 1) forms.Type (nodes.DiamondType (node_at vs 0))
@@ -295,7 +297,7 @@ below makes.ConsBelow vs = plain 3 (place_at vs 2) (nodes.Cons (node_at vs 2) (n
 below makes.EndMembers vs = plain 2 nowhere nodes.Nil
 below _ vs = nothing
 
--- and under how many others that value stood
+-- the depth of the value that stays
 abbrev pub staying : Make → ℕ
 staying makes.ConsBelow = 0
 staying makes.EndMembers = 1

@@ -1,4 +1,4 @@
--- Between crates: what is kept of the tokens, as the machine's values.
+-- Between crates: the parser's values as the machine's.
 use Rattle.std.specs.Prelude.{◌≡◌, ℕ, ◌+◌, ◌≤◌, List, [], ◌∷◌, ◌++◌, Option, Some, None, length, take, drop}
 use Rattle.kr_ast.specs.declared.node.Name.{Name}
 use Rattle.kr_ast.specs.Tree.{size}
@@ -44,7 +44,7 @@ sizes [] = 0
 sizes (part p f t ∷ vs) = size t + sizes vs
 sizes (v ∷ vs) = sizes vs
 
--- every node belongs to the tree of one value, the last node is the top of one, and every name stands in the text
+-- every node belongs to the tree of one value, the last node is the top of one, and every name is in the text
 pub record AreBuilt (a : Arena) (vs : List Kept) : Type 0 where
   pub roots : AreRoots a.entries (nodes_of vs)
   pub named : AreNamesIn a.text (names_of vs)
@@ -71,7 +71,7 @@ planned a vs s o = shown a (listed o) ++ part s.place s.form (tree_of a.text (tr
 abbrev pub moving : Move → List Kept
 moving m = m.top ∷ listed m.below
 
--- Values may take the place of others: they have the same nodes.
+-- Values may replace others: they have the same nodes.
 pub record FitsMove (text : List ℕ) (vs : List Kept) (m : Move) : Type 0 where
   pub within : m.taken ≤ length vs
   pub same : Perm (nodes_of (take m.taken vs)) (nodes_of (moving m))

@@ -1,5 +1,5 @@
-//! What is made of the values on top of the parser's stack: of each kind of production which values it takes, and the node
-//! or the values that take their place.
+//! The reductions of the values on top of the parser's stack: for each kind of production, the values that it takes and
+//! the node or values that replace them.
 #![tactic(auto)]
 
 mod moves;

@@ -5,7 +5,7 @@ ghost use Rattle.kr_parse_reduction.specs.Plans.{one, over, member, modified, ow
 use crate::value::{Kept, ValueStack, no_modifiers};
 use kr_parse_grammar::{Form, Make, Modifiers};
 
-/// A value that takes the place of so many others, maybe with one of these below it.
+/// A value that replaces `count` others, or one of these.
 #[derive(Clone, Copy)]
 pub struct Move {
     pub taken: usize,
@@ -23,7 +23,7 @@ const fn one(taken: usize, top: Kept) -> Move
     }
 }
 
-/// A value in the place of two, below it the one that was on top.
+/// Replaces two values by one, below the value that was on top.
 fn over(top: Kept, values: &ValueStack) -> Move
     ensures { result ≡ over top values.now }
 {

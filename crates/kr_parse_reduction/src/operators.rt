@@ -1,4 +1,4 @@
-// The operators that kept tokens stand for.
+// The operators of kept tokens.
 ghost use Rattle.std.specs.Prelude.{◌≡◌};
 ghost use Rattle.kr_parse_grammar.specs.Made.{the_primitive, the_unary, the_step_before, the_step_behind, the_binary, the_compound};
 
@@ -28,7 +28,7 @@ pub(crate) fn unary_of(kind: Kind) -> UnaryOperator
     }
 }
 
-/// Of a token behind its operand.
+/// The operator of a token after its operand.
 pub(crate) fn step_behind_of(kind: Kind) -> StepOperator
     ensures { result ≡ the_step_behind kind }
 {
@@ -75,7 +75,7 @@ pub(crate) fn binary_of(kind: Kind) -> BinaryOperator
     }
 }
 
-/// Of a compound assignment.
+/// The operator of a compound assignment.
 pub(crate) fn compound_of(kind: Kind) -> BinaryOperator
     ensures { result ≡ the_compound kind }
 {

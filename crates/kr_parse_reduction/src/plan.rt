@@ -1,4 +1,4 @@
-// The node that is put above some values.
+// The node to be added above some values.
 ghost use Rattle.std.specs.Prelude.{◌≡◌, Some, None};
 ghost use Rattle.kr_parse_reduction.specs.Plans.{tree, plain, nothing, type_node, jump_node, assignment, types, lists, declarations, loops, branches, contracts, statements, locals, comparisons, infixes, prefixes, creations, selections, plan, variable, call, single, lower, upper, below, staying};
 
@@ -11,7 +11,7 @@ use kr_base::Place;
 use kr_lex::Kind;
 use kr_parse_grammar::{Form, Make};
 
-/// A node that takes the place of so many values, with its place and the form that its tree has.
+/// A node that replaces some values, with its place and the form of its tree.
 #[derive(Clone, Copy)]
 pub struct Plan {
     pub taken: usize,
@@ -37,7 +37,7 @@ const fn plain(taken: usize, place: Place, node: Node) -> Plan
     tree(taken, place, Form::Other, node)
 }
 
-/// Of what isn't made so: the empty list, above no values.
+/// The plan of other productions: the empty list, above no values.
 const fn nothing() -> Plan
     ensures { result ≡ nothing }
 {
@@ -104,7 +104,7 @@ fn types(make: Make, values: &ValueStack) -> Plan
     }
 }
 
-/// What is selected of an expression.
+/// Field accesses, array accesses and calls.
 fn selections(make: Make, values: &ValueStack) -> Plan
     ensures { result ≡ selections make values.now }
 {
@@ -456,7 +456,7 @@ fn declarations(make: Make, values: &ValueStack) -> Plan
     }
 }
 
-/// Contracts, and what stands in them alone.
+/// Contracts, and the expressions that only contracts have.
 fn contracts(make: Make, values: &ValueStack) -> Plan
     ensures { result ≡ contracts make values.now }
 {
@@ -486,7 +486,7 @@ fn contracts(make: Make, values: &ValueStack) -> Plan
     }
 }
 
-/// Lists, and what is absent.
+/// Lists, and absent parts.
 fn lists(make: Make, values: &ValueStack) -> Plan
     ensures { result ≡ lists make values.now }
 {
@@ -564,7 +564,7 @@ pub fn single(make: Make, values: &ValueStack) -> Option<Plan>
     }
 }
 
-/// Of two nodes the lower one, of a name.
+/// The lower one of a name's two nodes.
 pub fn lower(make: Make, values: &ValueStack) -> Plan
     ensures { result ≡ lower make values.now }
 {
@@ -589,7 +589,7 @@ pub fn lower(make: Make, values: &ValueStack) -> Plan
     }
 }
 
-/// And the upper one.
+/// The upper one of a name's two nodes.
 pub fn upper(make: Make, values: &ValueStack) -> Plan
     ensures { result ≡ upper make values.now }
 {
@@ -652,7 +652,7 @@ pub fn below(make: Make, values: &ValueStack) -> Plan
     }
 }
 
-/// Under how many others that value stood.
+/// The depth of the value that stays.
 pub fn staying(make: Make) -> usize
     ensures { result ≡ staying make }
 {

@@ -1,6 +1,6 @@
-// What the parser keeps of the tokens behind it.
+// The parser's values for the tokens so far.
 ghost use Rattle.std.specs.Prelude.{◌≡◌, ◌∷◌, [], true, false, ◌<◌, ◌≤◌, Some, None, slice_set, length, drop, OnOk, OnErr, slice_get};
-ghost use Rattle.kr_parse_grammar.specs.Made.{nowhere};
+ghost use Rattle.kr_base.specs.Places.{nowhere};
 ghost use Rattle.kr_parse_grammar.specs.Values.{no_modifiers};
 ghost use Rattle.kr_parse_reduction.specs.Kept.{no_name, place_in, kind_in, node_in, form_in, name_in, outer_in, modifiers_in, nested_in, value_in, place_at, kind_at, node_at, form_at, name_at, outer_at, modifiers_at, nested_at, value_at, is_of, are};
 
@@ -11,7 +11,7 @@ use kr_parse_grammar::{Form, Modifiers};
 use std::alloc::Global;
 use std::marker::Model;
 
-/// What waits to become part of a tree.
+/// A value that waits to become part of a tree.
 #[derive(Clone, Copy)]
 pub enum Kept {
     /// a token of whose spelling nothing is needed
@@ -30,13 +30,13 @@ pub enum Kept {
         outer: Name,
         name: Name,
     },
-    /// a tree, and where its first token stands
+    /// a tree, and the place of its first token
     Part {
         place: Place,
         form: Form,
         node: u32,
     },
-    /// the modifiers of the member that comes
+    /// the modifiers of the next member
     Member {
         is_nested: bool,
         modifiers: Modifiers,
@@ -129,7 +129,7 @@ impl Kept {
         }
     }
 
-    /// The token that a mark stands for.
+    /// The token of a mark.
     fn kind(&self) -> Kind
         ensures { result ≡ kind_in (Some self.now) }
     {
@@ -263,7 +263,7 @@ impl ValueStack {
         Ok(())
     }
 
-    /// The value under so many others.
+    /// The value at a depth.
     pub fn peek(&self, depth: usize) -> Option<Kept>
         ensures { result ≡ slice_get self.now depth }
     {
@@ -284,7 +284,7 @@ impl ValueStack {
         self.items.truncate(left);
     }
 
-    /// Puts a value in the place of so many on top, below one of these.
+    /// Replaces `count` values by one, below the topmost `depth` of them.
     #[inline(always)]
     pub fn tuck(&mut self, count: usize, depth: usize, value: Kept)
         requires within { count ≤ length self.old }
@@ -299,7 +299,7 @@ impl ValueStack {
         self.items.truncate(bottom + 2);
     }
 
-    /// Leaves a mark in the place of a value.
+    /// Replaces a value by a mark.
     pub fn mark(&mut self, depth: usize)
         requires { depth < length self.old }
         ensures { self.new ≡ slice_set self.old depth (value_in None) }
@@ -308,7 +308,7 @@ impl ValueStack {
         self.items[at] = value_in(None);
     }
 
-    /// The value under so many others, where there are more.
+    /// The value at a depth, which must exist.
     pub fn top(&self, depth: usize) -> &Kept
         requires { depth < length self.now }
         ensures { slice_get self.now depth ≡ Some result.now }
@@ -334,7 +334,7 @@ impl ValueStack {
         true
     }
 
-    /// The place of the value under so many others.
+    /// The place of the value at a depth.
     #[inline(always)]
     pub fn place(&self, depth: usize) -> Place
         ensures { result ≡ place_at self.now depth }
@@ -346,7 +346,7 @@ impl ValueStack {
         }
     }
 
-    /// The token that a mark stands for.
+    /// The token of the mark at a depth.
     pub fn kind(&self, depth: usize) -> Kind
         ensures { result ≡ kind_at self.now depth }
     {

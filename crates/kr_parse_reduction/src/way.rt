@@ -5,7 +5,7 @@ ghost use Rattle.kr_parse_reduction.specs.Plans.{sorts, way};
 use crate::value::Sort;
 use kr_parse_grammar::Make;
 
-/// By what steps something is made.
+/// The steps of a reduction.
 #[derive(Clone, Copy)]
 pub enum Way {
     /// a node above the values
@@ -14,14 +14,14 @@ pub enum Way {
     Name,
     /// a node below a value that stays on top
     Under,
-    /// the two values on top, the other way round
+    /// the two values on top, swapped
     Swap,
     /// values again
     Values,
     Method,
     /// a method with contracts
     ContractedMethod,
-    /// of names that stood with `<` between them
+    /// names that had `<` between them
     Compare,
 }
 

@@ -8,7 +8,7 @@ use std::alloc::{AllocError, Global};
 
 const NONE: Frame = Frame { front: "", end: "" };
 
-/// What the parser says of each front of a source, and of the whole one.
+/// The parser's result for each prefix of a source, and for the whole.
 pub(crate) fn of_fronts(alloc: Global, source: &[u8]) -> Result<String, AllocError> {
     let mut text = String::new(alloc);
     push_fronts(alloc, &mut text, source)?;
@@ -33,7 +33,7 @@ enum Change {
     Swapped,
 }
 
-/// Which token stands at a place where one token is swapped with the next.
+/// The token at an index when one token is swapped with the next.
 fn swapped(changed: usize, at: usize) -> usize {
     if at == changed {
         at.saturating_add(1)
@@ -52,7 +52,7 @@ fn push_token(text: &mut Vec<u8>, tokens: &Tokens, at: usize) -> Result<(), Allo
     Ok(())
 }
 
-/// Appends what stands at a token's place.
+/// Appends the place of a token.
 fn push_place(
     text: &mut Vec<u8>,
     tokens: &Tokens,
@@ -90,7 +90,7 @@ fn push_changed(
     Ok(())
 }
 
-/// Whether a text has a tree, or is refused by the grammar within it or right behind it.
+/// Whether a text has a tree, or is refused by the grammar within it or right after it.
 fn is_text_within(alloc: Global, text: &[u8]) -> bool {
     match tokens_of(alloc, text) {
         Ok(tokens) => is_within(alloc, &tokens, text.len()),
@@ -98,7 +98,7 @@ fn is_text_within(alloc: Global, text: &[u8]) -> bool {
     }
 }
 
-/// The same of the tokens with a change.
+/// Whether the tokens with a change have a tree, or are refused within the text or right after it.
 fn is_changed_within(
     alloc: Global,
     tokens: &Tokens,
@@ -130,7 +130,7 @@ fn counted(alloc: Global, tokens: &Tokens) -> Result<String, AllocError> {
     )
 }
 
-/// How many changes of one token have a tree, or are refused within the text or right behind it.
+/// How many changes of one token give a tree, or are refused within the text or right after it.
 pub(crate) fn of_changes(alloc: Global, source: &[u8]) -> Result<String, AllocError> {
     match tokens_of(alloc, source) {
         Ok(tokens) => counted(alloc, &tokens),

@@ -1,4 +1,4 @@
-// A small tree, put together and read.
+// A small tree, built and read.
 ghost use Rattle.std.specs.Prelude.{◌≡◌, ◌∷◌, [], length, IfOk};
 ghost use Rattle.kr_ast.specs.Arena.{AreNamesIn};
 

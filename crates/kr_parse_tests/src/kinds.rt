@@ -1,4 +1,4 @@
-// What a node is called: its kind, with its operator, its value or its modifiers.
+// The label of a node: its kind, with its operator, its value or its modifiers.
 
 use kr_ast::{BinaryOperator, Node, Primitive, StepOperator, UnaryOperator};
 use std::alloc::{AllocError, Global};
@@ -126,7 +126,7 @@ fn name_of_binary(operator: BinaryOperator) -> &'static str {
     }
 }
 
-/// What a node is called.
+/// The label of a node.
 pub(crate) fn kind(alloc: Global, node: Node) -> Result<String, AllocError> {
     match node {
         Node::PrimitiveType { primitive } => String::from_str(alloc, name_of_primitive(primitive)),

@@ -1,5 +1,5 @@
-//! What the lexer and the parser say of texts. Each line that is read has a word for what is asked, and a text; the answer
-//! stands below it. In a text a back quote and two hexadecimal digits are a byte.
+//! Results of the lexer and the parser for texts. Each input line has a word for the question and a text; the answer is
+//! printed after it. In a text a back quote and two hexadecimal digits are a byte.
 #![tactic(auto)]
 
 mod changes;

@@ -1,4 +1,4 @@
-// A line: what is asked, and the text.
+// A line: the question and the text.
 
 use crate::changes::{of_changes, of_fronts};
 use crate::forest::of_sum;
@@ -7,7 +7,7 @@ use crate::trees::of_tree;
 use crate::verdicts::of_source;
 use std::alloc::{AllocError, Global};
 
-/// What stands around a text.
+/// The text around a text.
 #[derive(Clone, Copy)]
 pub(crate) struct Frame {
     pub(crate) front: &'static str,
@@ -47,7 +47,7 @@ fn digit(byte: u8) -> u8 {
     }
 }
 
-/// Appends what stands behind a back quote: the byte of two digits, and the rest.
+/// Appends the part after a back quote: the byte of two digits, and the rest.
 fn push_piece(bytes: &mut Vec<u8>, piece: &[u8]) -> Result<(), AllocError> {
     if piece.len() >= 2 {
         bytes.push((digit(piece[0]) << 4) | digit(piece[1]))?;
@@ -92,7 +92,7 @@ fn push_many(bytes: &mut Vec<u8>, front: &str, piece: &str, end: &str) -> Result
     bytes.extend_from_slice(end.as_bytes())
 }
 
-/// The same of a text whose parts stand between strokes.
+/// Decodes a text whose parts are between strokes.
 fn many(alloc: Global, text: &str) -> Result<Vec<u8>, AllocError> {
     let mut bytes = Vec::new(alloc);
     if let Some((front, rest)) = text.split_once('|') {
@@ -103,7 +103,7 @@ fn many(alloc: Global, text: &str) -> Result<Vec<u8>, AllocError> {
     Ok(bytes)
 }
 
-/// What is said of a text in its frame.
+/// The answer for a text in its frame.
 fn told(
     alloc: Global,
     asked: &str,
@@ -130,7 +130,7 @@ fn told(
     }
 }
 
-/// What is asked, the form of the text, and the text.
+/// The question, the form of the text, and the text.
 fn split(line: &str) -> (&str, &str, &str) {
     match line.split_once(' ') {
         None => (line, "", ""),

@@ -1,4 +1,4 @@
-// What the lexer says: the tokens, or the place and the rule.
+// The lexer's result: the tokens, or the place and the rule.
 
 use kr_lex::{Kind, LexRefusal, Token, Tokens, lex, one_list_law, spelling, unbroken_law};
 use std::alloc::{AllocError, Global};
@@ -13,7 +13,7 @@ pub(crate) fn tokens_of(alloc: Global, source: &[u8]) -> Result<Tokens, LexRefus
     lex(alloc, 7, &source[..length])
 }
 
-/// Appends the spellings of the tokens, parted by spaces.
+/// Appends the spellings of the tokens, separated by spaces.
 fn push_spellings(text: &mut Vec<u8>, tokens: &Tokens) -> Result<(), AllocError> {
     for at in 0..tokens.len() {
         if at > 0 {
@@ -43,7 +43,7 @@ pub(crate) fn refused(alloc: Global, refusal: LexRefusal) -> Result<String, Allo
     }
 }
 
-/// What the lexer says of a source.
+/// The lexer's result for a source.
 pub(crate) fn spellings(alloc: Global, source: &[u8]) -> Result<String, AllocError> {
     match tokens_of(alloc, source) {
         Ok(tokens) => spelled(alloc, &tokens),
@@ -93,7 +93,7 @@ fn push_tokens(alloc: Global, text: &mut String, tokens: &Tokens) -> Result<(), 
     text.push_str(behind.as_str())
 }
 
-/// Each token of a source, and the place behind it.
+/// Each token of a source, and the place after it.
 pub(crate) fn of_tokens(alloc: Global, source: &[u8]) -> Result<String, AllocError> {
     one_list_law();
     unbroken_law();

@@ -1,4 +1,4 @@
-// Trees as text: each node's kind with its operator, the column where it stands, its names and its parts.
+// Trees as text: each node's kind with its operator, its column, its names and its parts.
 ghost use Rattle.kr_ast.specs.Arena.{AreNamesIn};
 
 use crate::kinds::kind;
@@ -47,7 +47,7 @@ fn push_head(
     push_names(text, tree, names.as_slice())
 }
 
-/// Appends the texts of a node's parts, parted by spaces.
+/// Appends the texts of a node's parts, separated by spaces.
 fn push_parts(text: &mut String, texts: &[String], parts: &[u32]) -> Result<(), AllocError> {
     for part in parts {
         if text.len() > 0 {
@@ -60,7 +60,7 @@ fn push_parts(text: &mut String, texts: &[String], parts: &[u32]) -> Result<(), 
     Ok(())
 }
 
-/// Appends `(KIND COLUMN NAME .. PART ..)`; the items of a list behind one another, and `.` at its end.
+/// Appends `(KIND COLUMN NAME .. PART ..)`; the items of a list in order, and `.` at its end.
 fn push_node(
     alloc: Global,
     text: &mut String,

@@ -14,7 +14,7 @@ fn code_of(rule: ParseRule) -> &'static str {
     }
 }
 
-/// What the parser says of tokens.
+/// The parser's result for tokens.
 pub(crate) fn verdict(alloc: Global, tokens: &Tokens, origin: u32) -> Result<String, AllocError> {
     match parse(alloc, tokens) {
         Ok(_) => String::from_str(alloc, "tree"),
@@ -27,7 +27,7 @@ pub(crate) fn verdict(alloc: Global, tokens: &Tokens, origin: u32) -> Result<Str
     }
 }
 
-/// What the parser says of a source.
+/// The parser's result for a source.
 pub(crate) fn of_source(alloc: Global, frame: Frame, source: &[u8]) -> Result<String, AllocError> {
     match tokens_of(alloc, source) {
         Ok(tokens) => verdict(alloc, &tokens, frame.origin()),
@@ -35,7 +35,7 @@ pub(crate) fn of_source(alloc: Global, frame: Frame, source: &[u8]) -> Result<St
     }
 }
 
-/// Whether the tokens have a tree, or are refused by the grammar within so many columns or right behind them.
+/// Whether the tokens have a tree, or are refused by the grammar within these columns or right after them.
 pub(crate) fn is_within(alloc: Global, tokens: &Tokens, length: usize) -> bool {
     match parse(alloc, tokens) {
         Ok(_) => true,

@@ -5,6 +5,7 @@ use Rattle.std.proofs.lemmas.List.{take-set, drop-set-lt}
 use Rattle.std.proofs.Math.ListN.{length-set}
 use Rattle.std.proofs.lemmas.Bool.{false≢true, cases_lt}
 use Rattle.kr_base.specs.declared.place.Place.{Place}
+use Rattle.kr_base.specs.Places.{nowhere}
 use Rattle.kr_ast.specs.declared.node.Name.{Name}
 use Rattle.kr_ast.specs.declared.node.Node.TheVariants as nodes
 use Rattle.kr_ast.specs.declared.node.BinaryOperator.TheVariants as binaries
@@ -14,7 +15,7 @@ use Rattle.kr_ast.specs.Arena.{Arena, name_in, tree_of, tree_at, names, AreNames
 use Rattle.kr_parse_grammar.specs.declared.value.Form.{Form}
 use Rattle.kr_parse_grammar.specs.declared.value.Form.TheVariants as forms
 use Rattle.kr_parse_grammar.specs.Values.{StackItem, mark, part}
-use Rattle.kr_parse_grammar.specs.Made.{compared, joined, nowhere}
+use Rattle.kr_parse_grammar.specs.Made.{compared, joined}
 use Rattle.kr_lex.specs.declared.kind.Kind.TheVariants.{Semicolon}
 use Rattle.kr_parse_reduction.specs.declared.value.Kept.{Kept}
 use Rattle.kr_parse_reduction.specs.declared.value.Kept.TheVariants.{Mark, Word, Pair, Part, Member, Owner}
@@ -350,7 +351,7 @@ nodes_bare (Pair p o m ∷ vs) (suc n) h = nodes_bare vs n (λ i l. h (suc i) (o
 nodes_bare (Member b m ∷ vs) (suc n) h = nodes_bare vs n (λ i l. h (suc i) (omega arith))
 nodes_bare (Owner b p m ∷ vs) (suc n) h = nodes_bare vs n (λ i l. h (suc i) (omega arith))
 
--- what is on top takes the place of the names
+-- the value on top replaces the names
 abbrev pub AllMove : Arena → Arena → List Kept → List Kept → ℕ → Type 0
 AllMove a b vs ws n = let m : Move = record { taken = n; top = value_at ws 0; below = None } in FitsMove b.text ws m × (shown b (moved m ws) ≡ compared (shown a vs))
 

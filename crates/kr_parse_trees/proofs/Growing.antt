@@ -1,4 +1,4 @@
--- A node more, a name more, and values in another order: what is kept shows as before.
+-- Values look the same after adding a node or a name, and after a permutation.
 use Rattle.std.proofs.Common.{◌≡◌, ℕ, inl, inr, zero, suc, ◌+◌, ◌-◌, ◌<◌, ◌≤◌, List, [], ◌∷◌, ◌++◌, length, take, drop, get_or, Option, Some, None, refl, sym, ap, ◌∙◌, arith, subst, append_assoc, length-append, length-drop}
 use Rattle.std.proofs.lemmas.List.{take-append-drop, take-append-le, drop-append-le}
 use Rattle.std.proofs.lemmas.Grind.{common_steps}
@@ -86,7 +86,7 @@ pub length_trees : (text : List ℕ) (es : List Entry) → length (trees text es
 unfolding trees
 length_trees text es = length_grow (entry_tree text) [] es ∙ (omega arith)
 
--- What shows in an arena shows in another.
+-- The trees and names of one arena are also in another.
 pub record Extends (a b : Arena) : Type 0 where
   pub text : (n : Name) → n.start ≤ n.end → n.end ≤ length a.text → name_in b.text n ≡ name_in a.text n
   pub tree : (i : ℕ) → i < length a.entries → tree_at b.text b.entries i ≡ tree_at a.text a.entries i
@@ -203,7 +203,7 @@ put_built a b vs us s o i h f at long text more roots e =
       g,
     )
 
--- what a node needs of its parts and names
+-- the requirements of a node on its parts and names
 pub put_free : (a : Arena) (vs : List Kept) (s : Plan) (o : Option Kept) → AreBuilt a vs → Fits a.text vs s o → AreFree a.entries (parts s.node)
 put_free a vs s o h f = free_front a.entries (parts s.node) (nodes_of (listed o) ++ nodes_of (drop s.taken vs)) (roots_apart a vs s o h f).free
 
@@ -287,7 +287,7 @@ one_root a (Member b m ∷ vs) p f t h e = cc
 one_root a (Owner b q n ∷ vs) p f t h e = cc
 one_root a (Part q g r ∷ v ∷ vs) p f t h e = absurd (no_more _ _ _ _ e)
 
--- what the pushes leave
+-- the stack after the pushes
 pub stacked_none : (s : Plan) (i : ℕ) (vs us ws : List Kept) → ws ≡ drop s.taken vs → us ≡ Part s.place s.form i ∷ ws → us ≡ stacked s None i vs
 stacked_none s i vs us ws d e = e ∙ ap (λ (xs : List Kept). Part s.place s.form i ∷ xs) d
 
@@ -302,7 +302,7 @@ moved_some m v vs us xs ws b d e g =
 pub leaf_fits : (text : List ℕ) (vs : List Kept) (p : Place) (f : Form) (n : Node) → parts n ≡ [] → names n ≡ [] → Fits text vs (tree 0 p f n) None
 leaf_fits text vs p f n e g = record { within = omega arith; same = rw e done; named = rw g tt }
 
--- the same nodes in another order
+-- the same nodes, permuted
 pub built_perm : (a : Arena) (vs us : List Kept) → AreBuilt a vs → Perm (nodes_of vs) (nodes_of us) → AreNamesIn a.text (names_of us) → AreBuilt a us
 built_perm a vs us h p n =
     let w : ℕ → ℕ = λ i. size (tree_at a.text a.entries i) in

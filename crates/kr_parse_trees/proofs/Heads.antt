@@ -16,7 +16,7 @@ use Rattle.kr_parse_reduction.specs.Shown.{shown, names_of, AreBuilt, Fits, stac
 use Rattle.kr_parse_reduction.proofs.Roots.{perm_refl, reverse_two}
 use Rattle.kr_parse_reduction.proofs.Planned.{on_part, on_name, on_member, on_owner, PlanMakes}
 
--- of a word
+-- the single node of a word
 abbrev pub SingleMakes : Make → Arena → List Kept → Option Plan → Type 0
 SingleMakes m a vs None = Unit {0}
 SingleMakes m a vs (Some s) = PlanMakes m a vs s
@@ -38,7 +38,7 @@ single_makes _ a vs e = λ h. tt
 pub one_name : (m : Make) (a : Arena) (vs : List Kept) (s : Plan) → are (sorts m) vs ≡ true → AreBuilt a vs → Some s ≡ single m vs → PlanMakes m a vs s
 one_name m a vs s e h g = subst (SingleMakes m a vs) (sym g) (single_makes m a vs e h.named)
 
--- the upper node fits the values behind the lower one, and makes what is to be made of those before it
+-- the upper node fits the values after the lower one, and results in the reduction of the earlier values
 abbrev pub UpperMakes : Make → Arena → List Kept → Arena → List Kept → Plan → Type 0
 UpperMakes m a vs b ws u = Fits b.text ws u None × (planned b ws u None ≡ made m (shown a vs))
 

@@ -1,4 +1,4 @@
--- What the moves put in the place of values is what is to be made of these.
+-- The moves' values are the results of the reductions.
 use Rattle.std.proofs.Common.{◌≡◌, ℕ, ◌≤◌, true, List, [], ◌∷◌, length, drop, refl, sym, ap, arith, subst}
 use Rattle.std.proofs.lemmas.Bool.{false≢true}
 use Rattle.kr_ast.specs.Arena.{Arena, AreNamesIn}
@@ -70,7 +70,7 @@ pub swap_room : (vs : List Kept) → are (sorts makes.Swap) vs ≡ true → 2 �
 swap_room (v ∷ w ∷ us) e = omega arith
 swap_room _ e = absurd (false≢true e)
 
--- the two values on top, the other way round
+-- the two values on top, swapped
 pub swap_makes : (a : Arena) (vs us : List Kept) → are (sorts makes.Swap) vs ≡ true → AreBuilt a vs → us ≡ value_at vs 1 ∷ value_at vs 0 ∷ drop 2 vs
     → AreBuilt a us × (shown a us ≡ made makes.Swap (shown a vs))
 swap_makes a (v ∷ w ∷ ts) us e h g = (move_built a (v ∷ w ∷ ts) us (over w (v ∷ w ∷ ts)) h (swap_fits a v w ts h.named) g, ap (shown a) g)

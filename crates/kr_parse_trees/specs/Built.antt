@@ -1,4 +1,4 @@
--- Between crates: what the builder's values and nodes are.
+-- Between crates: the builder's values and nodes.
 use Rattle.std.specs.Prelude.{◌≡◌, List, [], ◌∷◌, length}
 use Rattle.kr_base.specs.declared.place.Place.{Place}
 use Rattle.kr_ast.specs.declared.node.Node.{Node}

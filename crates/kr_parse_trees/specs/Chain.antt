@@ -36,7 +36,7 @@ operand text _ = Nil
 abbrev pub is_tree_at : List Kept → ℕ → Bool
 is_tree_at vs i = is_of sort.Part (value_at vs i)
 
--- the values without the one on top, a mark in the place of the one at a depth
+-- the values without the topmost, and with a mark instead of the one at a depth
 abbrev pub without : List Kept → ℕ → List Kept
 without vs i = drop 1 (slice_set vs i (value_in None))
 
@@ -48,8 +48,7 @@ test_of a vs i = part (place_at vs i) Other (InstanceOf (place_at vs i) (tree_at
 abbrev pub less_of : Arena → List Kept → ℕ → StackItem
 less_of a vs i = part (place_at vs 0) Other (Binary (place_at vs 0) Less (tree_at a.text a.entries (node_at vs 0)) (operand a.text (value_at vs i)))
 
--- The values from depth j on, as comparisons, stand on top of the others, which are as they were but for those that are
--- used up.
+-- The values from depth j on, as comparisons, are on top of the others, which are unchanged except those used up.
 pub record Folding (a : Arena) (vs : List Kept) (b : Arena) (ws : List Kept) (j bottom past : ℕ) : Type 0 where
   pub place : Place
   pub form : Form

@@ -1,9 +1,9 @@
-// Puts trees together from what the parser keeps.
+// Builds trees from the parser's values.
 //
-// The hints on inlining are for speed: a node above its values is made most often, and goes from these into the forest with
-// no copy between; what is rarer stands apart.
-ghost use Rattle.std.specs.Prelude.{◌≡◌, ◌<◌, ◌≤◌, ◌++◌, ◌∷◌, [], IfOk, ℕ, true, Some, None, length};
-ghost use Rattle.kr_ast.specs.Arena.{parts, names, tree_at, tree_of};
+// The hints on inlining are for speed: a node above its values is the most frequent case, and reaches the forest
+// without a copy; rarer cases are kept out of line.
+ghost use Rattle.std.specs.Prelude.{◌≡◌, ◌<◌, ◌≤◌, ◌∷◌, [], IfOk, ℕ, true, Some, None};
+ghost use Rattle.kr_ast.specs.Arena.{parts, names};
 ghost use Rattle.kr_parse_grammar.specs.declared.value.Form.TheVariants.{Other};
 ghost use Rattle.kr_parse_grammar.specs.Made.{made};
 ghost use Rattle.kr_parse_grammar.specs.Values.{mark, word, part};
@@ -61,7 +61,7 @@ impl Builder {
         Ok(())
     }
 
-    /// Puts a node without parts or names, and its tree on the values.
+    /// Adds a node without parts or names, and pushes its tree.
     #[inline(never)]
     pub fn put_leaf(&mut self, place: Place, node: Node) -> Result<(), NoMemory>
         requires built { IsBuilt self.old }
@@ -74,7 +74,7 @@ impl Builder {
         Ok(())
     }
 
-    /// Puts a node above its parts, and its tree in the place of the values taken.
+    /// Adds a node above its parts, and replaces the taken values by its tree.
     #[inline(always)]
     pub(crate) fn put(&mut self, plan: Plan) -> Result<(), NoMemory>
         requires built { IsBuilt self.old }
@@ -94,7 +94,7 @@ impl Builder {
         Ok(())
     }
 
-    /// Puts a node above its parts, and its tree in the place of the values taken, below one of these.
+    /// Adds a node above its parts, and replaces the taken values by its tree, below the topmost `depth` of them.
     #[inline(always)]
     fn put_below(&mut self, under: Plan, depth: usize) -> Result<(), NoMemory>
         requires built { IsBuilt self.old }
@@ -116,7 +116,7 @@ impl Builder {
         Ok(())
     }
 
-    /// Puts values in the place of others.
+    /// Replaces values by others.
     #[inline(always)]
     pub(crate) fn put_again(&mut self, change: Move) -> Result<(), NoMemory>
         requires built { IsBuilt self.old }
@@ -242,7 +242,7 @@ impl Builder {
         Ok(())
     }
 
-    /// Values in the place of others.
+    /// Replaces values by others.
     #[inline(never)]
     fn build_values(&mut self, make: Make) -> Result<(), NoMemory>
         requires built { IsBuilt self.old }
@@ -256,7 +256,7 @@ impl Builder {
         Ok(())
     }
 
-    /// The two values on top, the other way round.
+    /// Swaps the two values on top.
     fn swap(&mut self)
         requires built { IsBuilt self.old }
         requires values { are (sorts Make.Swap) self.old.values ≡ true }
@@ -288,7 +288,7 @@ impl Builder {
         }
     }
 
-    /// Makes what is to be made of the values on top.
+    /// Reduces the values on top.
     #[inline(never)]
     pub fn build(&mut self, make: Make) -> Result<(), NoMemory>
         requires { IsBuilt self.old }

@@ -1,4 +1,4 @@
-// Names that stood with `<` between them, as comparisons.
+// Names that had `<` between them, as comparisons.
 ghost use Rattle.std.specs.Prelude.{◌≡◌, ◌<◌, ◌≤◌, ◌++◌, ◌∷◌, [], IfOk, Some, true, false, length, take, drop, ℕ, ◌+◌};
 ghost use Rattle.kr_ast.specs.Arena.{AreNamesIn};
 ghost use Rattle.kr_parse_grammar.specs.Made.{compared};
@@ -17,7 +17,7 @@ use kr_parse_grammar::Form;
 use kr_parse_reduction::{Kept, Move, Sort, tree, type_node};
 
 impl Builder {
-    /// Whether the value under so many others is a name.
+    /// Whether the value at a depth is a name.
     fn is_name(&self, depth: usize) -> bool
         ensures { result ≡ is_named self.now.values depth }
     {
@@ -28,7 +28,7 @@ impl Builder {
         }
     }
 
-    /// Whether the value under so many others is a tree.
+    /// Whether the value at a depth is a tree.
     fn is_tree(&self, depth: usize) -> bool
         ensures { result ≡ is_tree_at self.now.values depth }
     {
@@ -55,7 +55,7 @@ impl Builder {
         depth
     }
 
-    /// Puts the expression that a name is on top.
+    /// Pushes the expression that a name is.
     fn put_operand(&mut self, value: Kept) -> Result<(), NoMemory>
         requires built { IsBuilt self.old }
         requires named { AreNamesIn self.old.forest.text (names_of (value ∷ [])) }
@@ -83,7 +83,7 @@ impl Builder {
         }
     }
 
-    /// Tests the tree at a depth by the type on top. Where the tree stood, a mark stays.
+    /// Tests the tree at a depth by the type on top. A mark stays in the tree's place.
     fn put_test(&mut self, depth: usize) -> Result<(), NoMemory>
         requires built { IsBuilt self.old }
         requires top { are (Sort.Part ∷ []) self.old.values ≡ true }
@@ -110,7 +110,7 @@ impl Builder {
         Ok(())
     }
 
-    /// Puts the lowest name on top, or the test that it is of the tree below it. Answers how many values that uses up.
+    /// Pushes the lowest name, or the test of the tree below it. Returns how many values that uses up.
     fn put_lowest(&mut self, depth: usize) -> Result<usize, NoMemory>
         requires built { IsBuilt self.old }
         requires name { is_named self.old.values depth ≡ true }
@@ -132,7 +132,7 @@ impl Builder {
         Ok(next)
     }
 
-    /// Compares what is on top with the name under so many others.
+    /// Compares the value on top with the name at a depth.
     fn put_less(&mut self, depth: usize) -> Result<(), NoMemory>
         requires built { IsBuilt self.old }
         requires top { are (Sort.Part ∷ []) self.old.values ≡ true }
@@ -154,7 +154,7 @@ impl Builder {
         Ok(())
     }
 
-    /// Puts the comparisons of the names from a depth on on top. Answers how many values they use up, if there are any.
+    /// Pushes the comparisons of the names from a depth on. Returns how many values they use up, if there are any.
     fn compare(&mut self, start: usize) -> Result<Option<usize>, NoMemory>
         requires built { IsBuilt self.old }
         requires from { start ≤ length self.old.values }

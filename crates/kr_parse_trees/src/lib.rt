@@ -1,4 +1,4 @@
-//! Puts syntax trees together: what is kept of the tokens, and what is made of the values on top of it.
+//! Builds syntax trees: the values of tokens, and their reductions.
 #![tactic(auto)]
 
 mod builder;

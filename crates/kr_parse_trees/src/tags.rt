@@ -1,4 +1,4 @@
-// What the values on top are.
+// The shape of the values on top.
 ghost use Rattle.std.specs.Prelude.{◌≡◌, ◌∷◌, [], true};
 ghost use Rattle.kr_parse_grammar.specs.Values.{tag, tag_of_form, tag_of_member, is_plain};
 ghost use Rattle.kr_parse_reduction.specs.Kept.{are};
@@ -40,7 +40,7 @@ fn is_plain(modifiers: Modifiers) -> bool
 }
 
 impl Builder {
-    /// A word on top: the name of the class where a constructor may stand, or another one.
+    /// The tag of a word on top: the class's name in a position for a constructor, or another word.
     fn tag_of_word(&self) -> Tag
         requires built { IsBuilt self.now }
         requires top { are (Sort.Word ∷ []) self.now.values ≡ true }
@@ -79,7 +79,7 @@ impl Builder {
         }
     }
 
-    /// What the values on top are, where a choice depends on them.
+    /// The shape of the values on top, as far as a choice depends on it.
     pub fn tag(&self) -> Tag
         requires { IsBuilt self.now }
         ensures { result ≡ tag (values_of self.now) }

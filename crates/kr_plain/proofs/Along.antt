@@ -4,8 +4,8 @@ use Rattle.std.specs.Prelude.{IsTrue, nat_eq, ◌↔◌}
 use Rattle.std.proofs.lemmas.Bool.{cases_eq}
 use Rattle.std.proofs.lemmas.Bool.Decides.{nat_tests}
 use Rattle.std.proofs.lemmas.List.{drop_more}
-use Rattle.kr_iso.specs.Choices.{AllowedPath, IsAllowed, PathIn}
-use Rattle.kr_mean.specs.Choices.{AllowedAlong, IsNextChoice}
+use Rattle.kr_iso.specs.Choices.{AllowedPath, PathIn}
+use Rattle.kr_mean.specs.Choices.{AllowedAlong, IsNextChoice, IsAllowed}
 use Rattle.kr_mean.specs.Space.{Space}
 use Rattle.kr_mean.specs.Readings.{AllBelow}
 use Rattle.kr_step.proofs.Paths.{allowed_more}
@@ -46,7 +46,7 @@ module _ (S : Space) (v : List ℕ) (all : List ℕ) (k : ℕ) (path : List (ℕ
   pub stops : (IsAllowed S path slot (get_or v slot 0) → ⊥) → AllowedAlong S v [] all → ⊥
   stops n x = n (subst (λ (ss : List ℕ). AllowedAlong S v path ss) rest_is (g.left x)).0
 
--- what the next choice says of an index
+-- the next choice, by an index
 pub none_is : (S : Space) (path : List (ℕ × ℕ)) (s i : ℕ) → i < S.size s → IsNextChoice S path s i None → IsAllowed S path s i → ⊥
 none_is S path s i h n a = n i (omega arith) h a
 

@@ -1,12 +1,12 @@
--- Entries put in order, and the ends of lists of entries.
+-- Entries inserted in order, and the ends of lists of entries.
 use Rattle.std.proofs.Common.{◌≡◌, ℕ, zero, suc, ◌<◌, ◌≤◌, ◌⊎◌, inl, inr, List, [], ◌∷◌, length, get_or, take, refl, sym, ap, ◌∙◌, subst, arith, Bool, true, false}
 use Rattle.std.specs.List.{insert as put}
 use Rattle.std.specs.Prelude.{if◌then◌else◌}
+use Rattle.std.proofs.lemmas.Bool.{cases_Bool}
 use Rattle.kr_base.specs.declared.entry.Entry.{Entry}
 use Rattle.kr_base.specs.Cuts.{is_before}
 use Rattle.kr_base.specs.Entries.{is_spent, through_spent}
 use Rattle.kr_mean.specs.Entries.{insert}
-use Rattle.kr_laws_slots.proofs.Membership.{bool_cases}
 use Rattle.kr_laws_slots.proofs.CutOrder.{tested, before_not_self, before_trans, is_before_no}
 use Rattle.kr_plain.specs.Keys.{before_count, through_count}
 
@@ -25,7 +25,7 @@ not_back a b t = is_before_no b a (λ h. elim (tested a b) [ inl x ↦ before_no
 -- an entry goes to where those before it end
 pub put_there : {R : Type 0} (e d : Entry R) (es : List (Entry R)) → (length es ≤ before_count e.key es) ⊎ (is_before e.key (get_or es (before_count e.key es) d).key ≡ true) → put es (before_count e.key es) e ≡ insert e es
 put_there e d [] h = refl
-put_there {R} e d (f ∷ es) h = go (bool_cases (is_before f.key e.key)) h (put_there e d es)
+put_there {R} e d (f ∷ es) h = go (cases_Bool (is_before f.key e.key)) h (put_there e d es)
   where
     go : (is_before f.key e.key ≡ true) ⊎ (is_before f.key e.key ≡ false)
         → (length (f ∷ es) ≤ before_count e.key (f ∷ es)) ⊎ (is_before e.key (get_or (f ∷ es) (before_count e.key (f ∷ es)) d).key ≡ true)
@@ -45,7 +45,7 @@ put_there {R} e d (f ∷ es) h = go (bool_cases (is_before f.key e.key)) h (put_
 -- one of its key is there already
 pub there_already : {R : Type 0} (e d : Entry R) (es : List (Entry R)) → before_count e.key es < length es → is_before e.key (get_or es (before_count e.key es) d).key ≡ false → insert e es ≡ es
 there_already e d [] h n = absurd (omega (arith, h))
-there_already {R} e d (f ∷ es) h n = go (bool_cases (is_before f.key e.key)) h n (there_already e d es)
+there_already {R} e d (f ∷ es) h n = go (cases_Bool (is_before f.key e.key)) h n (there_already e d es)
   where
     go : (is_before f.key e.key ≡ true) ⊎ (is_before f.key e.key ≡ false) → before_count e.key (f ∷ es) < suc (length es) → is_before e.key (get_or (f ∷ es) (before_count e.key (f ∷ es)) d).key ≡ false
         → (before_count e.key es < length es → is_before e.key (get_or es (before_count e.key es) d).key ≡ false → insert e es ≡ es) → insert e (f ∷ es) ≡ f ∷ es
@@ -61,7 +61,7 @@ take_through {R} (e ∷ es) = go (is_spent e.mark) (take_through es)
     go true h = refl
     go false h = ap (λ (l : List (Entry R)). e ∷ l) h
 
--- the same, by way of a copy of the list and the count
+-- likewise, by way of a copy of the list and the count
 pub already : {R : Type 0} (e d : Entry R) (es xs : List (Entry R)) (n : ℕ) → xs ≡ es → n ≡ before_count e.key xs → n < length xs → is_before e.key (get_or xs n d).key ≡ false → es ≡ insert e es
 already {R} e d es xs n q r h b =
     subst (λ (l : List (Entry R)). l ≡ insert e l) q

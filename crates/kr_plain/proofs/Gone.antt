@@ -21,7 +21,7 @@ pub record Keeps {T : Type 0} (S : Space) (order : List ℕ → List ℕ) (mark 
   pub sound : (e : Entry T) → Has e entries → (v : List ℕ) × IsKept S order a b v × (entry_of order mark v ≡ e)
   pub complete : (v : List ℕ) → gone v → IsKept S order a b v → Has (entry_of order mark v) entries
 
--- all those before the one that stands were tried; or all were
+-- all those before the current one were tried; or all were
 abbrev pub Trying : {T : Type 0} → Space → (List ℕ → List ℕ) → (List ℕ → Mark T) → Bound → Bound → Bool → List ℕ → List (Entry T) → Type 0
 Trying S order mark a b true v found = IsVector S v × Keeps S order mark a b (λ u. Before u v) found
 Trying S order mark a b false v found = Keeps S order mark a b (λ u. Unit {0}) found
@@ -33,7 +33,7 @@ left_over S false v = 0
 
 -- ---- the beginning
 
-abbrev zeros : ℕ → List ℕ
+abbrev pub zeros : ℕ → List ℕ
 zeros n = replicate n 0
 
 zeros_length : (n : ℕ) → length (zeros n) ≡ n
@@ -45,7 +45,7 @@ zero_at zero s = refl
 zero_at (suc n) zero = refl
 zero_at (suc n) (suc s) = zero_at n s
 
-none_before : (u : List ℕ) (n : ℕ) → length u ≡ n → Before u (zeros n) → ⊥
+pub none_before : (u : List ℕ) (n : ℕ) → length u ≡ n → Before u (zeros n) → ⊥
 none_before [] zero e b = b
 none_before [] (suc n) e b = omega (arith, e)
 none_before (x ∷ u) zero e b = b

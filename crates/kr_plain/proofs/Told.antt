@@ -7,7 +7,7 @@ use Rattle.kr_mean.specs.Problem.{Problem, DomainObject, all_objects}
 use Rattle.kr_mean.specs.Program.{Program}
 use Rattle.kr_space_layout.specs.Bounds.{Bounds, bare, problem_with}
 
--- what is reachable is the same with every program
+-- reachable slots don't depend on the program
 met_same : (program : Program) (b : Bounds) (v : List ℕ) (n : ℕ) → met_within (bare b) v n ≡ met_within (problem_with program b) v n
 met_same program b v zero = refl
 met_same program b v (suc n) = ap (λ (os : List DomainObject). objects_at (bare b) v (root_slots (bare b) ++ flat_map (slots_in (bare b) v) os)) (met_same program b v n)

@@ -15,10 +15,10 @@ use Rattle.kr_laws_pruning.specs.Laws.{PlainLaw}
 use Rattle.kr_laws_pruning.proofs.Listed.{one_entry}
 use Rattle.kr_laws_pruning.proofs.Sorting.{same_entries, ascends_sorted, among_sorted, sorted_has}
 use Rattle.kr_step.specs.declared.candidates.Ending.{Ending}
-use Rattle.kr_step_span.specs.Scans.{RunsOn, ending_of}
-use Rattle.kr_step_span.proofs.Carried.{listed, turned}
+use Rattle.kr_step.specs.Scans.{RunsOn, ending_of}
+use Rattle.kr_step.proofs.Carried.{listed, turned}
 use Rattle.kr_plain.specs.Plain as plain
-use Rattle.kr_plain.specs.Plain.{told_entry, told_mark, mark_by, IsKept}
+use Rattle.kr_plain.specs.Plain.{told_entry, told_mark, mark_by}
 use Rattle.kr_plain.proofs.Gone.{Keeps}
 
 -- ---- entries of a span, without their rows

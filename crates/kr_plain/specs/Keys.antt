@@ -4,7 +4,7 @@ use Rattle.kr_base.specs.declared.entry.Entry.{Entry}
 use Rattle.kr_base.specs.Cuts.{is_before}
 use Rattle.kr_base.specs.Entries.{is_spent}
 
--- the entries at the front whose keys stand before one
+-- the entries at the front whose keys are before one
 abbrev pub before_count : {R : Type 0} → List ℕ → List (Entry R) → ℕ
 before_count k [] = zero
 before_count k (e ∷ es) = if is_before e.key k then suc (before_count k es) else zero

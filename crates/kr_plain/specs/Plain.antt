@@ -1,4 +1,4 @@
--- Between crates: what going over every vector comes to.
+-- Between crates: the result of going over every vector.
 use Rattle.std.specs.Prelude.{◌≡◌, ℕ, ◌<◌, ◌⊎◌, List, Bool, true, false}
 use Rattle.std.proofs.Common.{get_or}
 use Rattle.kr_base.specs.declared.span.Bound.{Bound}
@@ -16,7 +16,7 @@ use Rattle.kr_value.specs.declared.value.Value.{Value}
 use Rattle.kr_step.specs.declared.candidates.Ending.{Ending}
 use Rattle.kr_step.specs.declared.candidates.Ending.TheVariants.{Valid, Invalid, Spent}
 
--- an entry with what is told of its row
+-- an entry with the report of its row
 abbrev pub told_mark : {R T : Type 0} → (R → T) → Mark R → Mark T
 told_mark told (marks.Valid row) = marks.Valid (told row)
 told_mark told marks.Invalid = marks.Invalid
@@ -33,7 +33,7 @@ bare e = told_entry (λ row. tt) e
 abbrev pub structured : Entry Row → Entry (List (ℕ × Value))
 structured e = told_entry (λ row. row.structure) e
 
--- the mark of a run that ends so, where this is told of a valid one
+-- the mark of a run that ends so, with the report of a valid one
 abbrev pub mark_for : {T : Type 0} → T → Ending → Mark T
 mark_for told Valid = marks.Valid told
 mark_for told Invalid = marks.Invalid
@@ -51,7 +51,7 @@ Follows space v false w = (u : List ℕ) → IsVector space u → Before v u →
 abbrev pub IsKept : Space → (List ℕ → List ℕ) → Bound → Bound → List ℕ → Type 0
 IsKept space order a b v = IsListed space order v × (is_within a b (key_along v (order v)) ≡ true)
 
--- the entry of a vector that is kept stands among the entries then; without one nothing changes
+-- the entry of a vector that is kept is among the entries then; without one nothing changes
 abbrev pub Tries : {T : Type 0} → Space → (List ℕ → List ℕ) → (List ℕ → Mark T) → Bound → Bound → List ℕ → List (Entry T) → List (Entry T) → Type 0
 Tries space order mark a b v old new =
     (IsKept space order a b v × (new ≡ insert (entry_of order mark v) old)) ⊎ ((IsKept space order a b v → ⊥) × (new ≡ old))

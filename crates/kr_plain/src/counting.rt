@@ -3,11 +3,11 @@ ghost use Rattle.std.specs.Prelude.{◌≡◌};
 ghost use Rattle.kr_mean.specs.Space.{IsVector};
 ghost use Rattle.kr_plain.specs.Plain.{Follows};
 
-use kr_step::Candidates;
+use kr_step::Candidate;
 
-/// Goes to the next candidate: the last slot that can take a greater index takes the next one, and those behind it go back
-/// to 0. False where there is none.
-pub(crate) fn count_on<C: Candidates>(candidates: &mut C) -> bool
+/// Goes to the next candidate: the last slot that can take a greater index takes the next one, and those after it go back to 0.
+/// False where there is none.
+pub(crate) fn count_on<C: Candidate>(candidates: &mut C) -> bool
     requires { IsVector (C.space candidates.old) (C.vector candidates.old) }
     ensures space { C.space candidates.new ≡ C.space candidates.old }
     ensures order { C.order candidates.new ≡ C.order candidates.old }

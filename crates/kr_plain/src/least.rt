@@ -1,14 +1,14 @@
 // Whether a candidate is the least of its class.
 ghost use Rattle.std.specs.Prelude.{◌≡◌, ◌<◌, ◌+◌, ◌↔◌, [], IfOk, IsTrue};
-ghost use Rattle.kr_iso.specs.Choices.{AllowedPath, IsAllowed, PathIn};
-ghost use Rattle.kr_mean.specs.Choices.{AllowedAlong};
+ghost use Rattle.kr_iso.specs.Choices.{AllowedPath, PathIn};
+ghost use Rattle.kr_mean.specs.Choices.{AllowedAlong, IsAllowed};
 ghost use Rattle.kr_mean.specs.Isomorphism.{IsLeast};
 ghost use Rattle.kr_mean.specs.Readings.{AllBelow};
 ghost use Rattle.kr_mean.specs.Space.{IsVector};
 
 use kr_base::{NoMemory, Steps};
 use kr_iso::{Slots, choice_law, next_choice};
-use kr_step::{Candidates, Ending};
+use kr_step::{Candidate, Ending};
 use std::alloc::Global;
 use std::sync::ledger::Ledger;
 
@@ -27,7 +27,7 @@ fn is_allowed<S: Slots>(slots: &S, path: &[(u32, u32)], slot: u32, index: u32) -
 }
 
 /// Whether each choice along the order of the last run is allowed after those before it.
-pub(crate) fn is_allowed_along<C: Candidates>(
+pub(crate) fn is_allowed_along<C: Candidate>(
     alloc: Global,
     candidates: &C,
 ) -> Result<bool, NoMemory>
@@ -47,9 +47,9 @@ pub(crate) fn is_allowed_along<C: Candidates>(
     Ok(true)
 }
 
-/// Whether the candidate that stands is least: no other names for its objects give a smaller key. It takes one run, and
-/// then a look at each choice along the order, and no renaming.
-pub fn is_least<C: Candidates, L: Ledger>(
+/// Whether the current candidate is least: no other names for its objects give a smaller key. It takes one run, and then a look
+/// at each choice along the order, and no renaming.
+pub fn is_least<C: Candidate, L: Ledger>(
     alloc: Global,
     candidates: &mut C,
     runs: &mut Steps<L>,

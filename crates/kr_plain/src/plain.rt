@@ -2,29 +2,29 @@
 ghost use Rattle.std.specs.Prelude.{◌≡◌, ◌<◌, ◌^◌, ◌+◌, List, ℕ, length, map, replicate, IfOk, OnOk};
 ghost use Rattle.kr_base.specs.declared.span.Bound.TheVariants.{At};
 ghost use Rattle.kr_base.specs.Entries.{entries_in};
-ghost use Rattle.kr_mean.specs.Entries.{all_entries, row_of};
+ghost use Rattle.kr_mean.specs.Entries.{all_entries, row_of, vectors};
 ghost use Rattle.kr_mean.specs.Problem.{Problem, slots};
 ghost use Rattle.kr_mean.specs.Space.{IsVector, space_of};
 ghost use Rattle.kr_mean.specs.WellFormed.{IsWellFormed};
 ghost use Rattle.kr_mean.specs.declared.row.Row.{Row};
-ghost use Rattle.kr_step_span.specs.Scans.{RunsOn};
+ghost use Rattle.kr_step.specs.Scans.{RunsOn};
 ghost use Rattle.kr_space_layout.specs.Bounds.{bare as unnamed, problem_with};
 ghost use Rattle.kr_plain.specs.Plain.{Tries, bare, mark_by, structured, told_entry};
 
 use crate::counting::count_on;
-use crate::keeping::{end_at_spent, insert_entry, is_inside};
+use crate::keeping::{end_at_spent, insert_entry};
 use crate::listed::{is_listed, last_key};
 use crate::telling::{Nothing, Structures, Telling};
 use kr_base::{Entry, Mark, NoMemory, Span, Steps};
 use kr_laws_pruning::plain_law;
 use kr_mean::Structure;
 use kr_space_layout::Layout;
-use kr_step::{Candidates, Ending};
+use kr_step::{Candidate, Ending};
 use std::alloc::Global;
 use std::sync::ledger::Ledger;
 
-/// What is told of the candidate that stands, whose run ends so.
-fn mark_for<C: Candidates, T: Telling>(
+/// The report of the current candidate, whose run ends so.
+fn mark_for<C: Candidate, T: Telling>(
     alloc: Global,
     ending: Ending,
     telling: &T,
@@ -41,8 +41,8 @@ fn mark_for<C: Candidates, T: Telling>(
     }
 }
 
-/// Runs the candidate that stands, and keeps its entry where it is listed and the span has its key.
-fn try_one<C: Candidates, T: Telling, L: Ledger>(
+/// Runs the current candidate, and keeps its entry where it is listed and the span has its key.
+fn try_one<C: Candidate, T: Telling, L: Ledger>(
     alloc: Global,
     candidates: &mut C,
     telling: &T,
@@ -67,16 +67,16 @@ fn try_one<C: Candidates, T: Telling, L: Ledger>(
         return Ok(());
     }
     let key = last_key(alloc, candidates)?;
-    if !is_inside(span, &key) {
+    if !key.is_within(&span.after, &span.upto) {
         return Ok(());
     }
     let mark = mark_for(alloc, ending, telling, candidates)?;
     insert_entry(found, Entry { key, mark })
 }
 
-/// The entries of a span, up to and with the first spent one: their keys, and what is told of them. Every candidate is run,
-/// each once.
-fn list_told<C: Candidates, T: Telling, L: Ledger>(
+/// The entries of a span, up to and with the first spent one: their keys, and the reports of valid ones. Every candidate is
+/// run, each once.
+fn list_told<C: Candidate, T: Telling, L: Ledger>(
     alloc: Global,
     candidates: &mut C,
     telling: &T,
@@ -85,7 +85,8 @@ fn list_told<C: Candidates, T: Telling, L: Ledger>(
 ) -> Result<Vec<Entry<T::Told>>, NoMemory>
     requires first { C.vector candidates.old ≡ replicate (C.space candidates.old).slots 0 }
     requires fits { T.fits telling.now (C.space candidates.old) }
-    ensures { IfOk result (λ found. (problem : Problem) → RunsOn problem (C.space candidates.old) (C.order candidates.old) (C.ending candidates.old) →
+    ensures runs { OnOk result (runs.new ≡ runs.old + length (vectors (C.space candidates.old))) }
+    ensures entries { IfOk result (λ found. (problem : Problem) → RunsOn problem (C.space candidates.old) (C.order candidates.old) (C.ending candidates.old) →
         (told : Row → T.Told) → ((v : List ℕ) → IsVector (C.space candidates.old) v → told (row_of problem v) ≡ T.told telling.now v) →
         found.items ≡ map (told_entry told) (entries_in (At span.now.after) span.now.upto (all_entries problem))) }
 {
@@ -102,8 +103,8 @@ fn list_told<C: Candidates, T: Telling, L: Ledger>(
 }
 
 /// The entries of a span, up to and with the first spent one: their keys, how their runs end, and the structures of valid ones.
-/// Every candidate is run, each once; the candidate of index 0 in every slot has to stand.
-pub fn list_plain<C: Candidates, L: Ledger>(
+/// Every candidate is run, each once; the candidate has index 0 in every slot.
+pub fn list_plain<C: Candidate, L: Ledger>(
     alloc: Global,
     candidates: &mut C,
     layout: &Layout,
@@ -114,7 +115,8 @@ pub fn list_plain<C: Candidates, L: Ledger>(
     requires space { C.space candidates.old ≡ space_of (unnamed layout.now) }
     requires well { IsWellFormed (unnamed layout.now) }
     requires small { length (slots (unnamed layout.now)) < 2 ^ 31 }
-    ensures { IfOk result (λ found. (problem : Problem) → problem ≡ problem_with problem.program layout.now → RunsOn problem (C.space candidates.old) (C.order candidates.old) (C.ending candidates.old) →
+    ensures runs { OnOk result (runs.new ≡ runs.old + length (vectors (C.space candidates.old))) }
+    ensures entries { IfOk result (λ found. (problem : Problem) → problem ≡ problem_with problem.program layout.now → RunsOn problem (C.space candidates.old) (C.order candidates.old) (C.ending candidates.old) →
         found.items ≡ map structured (entries_in (At span.now.after) span.now.upto (all_entries problem))) }
 {
     let telling = Structures { layout };
@@ -122,15 +124,16 @@ pub fn list_plain<C: Candidates, L: Ledger>(
     Ok(found)
 }
 
-/// The same without structures: for candidates that aren't laid out.
-pub fn list_keys<C: Candidates, L: Ledger>(
+/// Likewise without structures: for candidates that aren't laid out.
+pub fn list_keys<C: Candidate, L: Ledger>(
     alloc: Global,
     candidates: &mut C,
     span: &Span,
     runs: &mut Steps<L>,
 ) -> Result<Vec<Entry<()>>, NoMemory>
     requires { C.vector candidates.old ≡ replicate (C.space candidates.old).slots 0 }
-    ensures { IfOk result (λ found. (problem : Problem) → RunsOn problem (C.space candidates.old) (C.order candidates.old) (C.ending candidates.old) →
+    ensures runs { OnOk result (runs.new ≡ runs.old + length (vectors (C.space candidates.old))) }
+    ensures entries { IfOk result (λ found. (problem : Problem) → RunsOn problem (C.space candidates.old) (C.order candidates.old) (C.ending candidates.old) →
         found.items ≡ map bare (entries_in (At span.now.after) span.now.upto (all_entries problem))) }
 {
     let telling = Nothing { alloc };

@@ -97,7 +97,7 @@ pub fn is_renaming(layout: &Layout, perm: &Perm) -> bool
     true
 }
 
-/// The same slot of the renamed object.
+/// The corresponding slot of the renamed object.
 fn slot_for(layout: &Layout, perm: &Perm, slot: u32) -> u32
     requires well { IsWellFormed (bare layout.now) }
     requires small { length (slots (bare layout.now)) < 2 ^ 31 }

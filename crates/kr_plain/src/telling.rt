@@ -1,4 +1,4 @@
-// What is told of a valid candidate.
+// Reports of valid candidates.
 ghost use Rattle.std.specs.Prelude.{◌≡◌, ◌<◌, ◌^◌, List, ℕ, IfOk, length};
 ghost use Rattle.kr_mean.specs.Entries.{structure_of};
 ghost use Rattle.kr_mean.specs.Problem.{slots};
@@ -7,24 +7,23 @@ ghost use Rattle.kr_mean.specs.WellFormed.{IsWellFormed};
 ghost use Rattle.kr_space_layout.specs.Bounds.{bare};
 
 use kr_base::NoMemory;
-use kr_build::Walk;
-use kr_build_structure::structure_of;
+use kr_build::{Walk, structure_of};
 use kr_mean::Structure;
 use kr_space_layout::Layout;
-use kr_step::Candidates;
+use kr_step::Candidate;
 use std::alloc::Global;
 
-/// What the entry of a valid candidate has beside its key.
+/// The report in a valid candidate's entry beside its key.
 pub(crate) trait Telling {
     type Told: Drop;
 
-    /// That it can be told of the candidates of a space.
+    /// That it can report on the candidates of a space.
     ghost fits: { Self → Space → Type 0 };
 
-    /// What is told of a vector.
+    /// The report of a vector.
     ghost told: { Self → List ℕ → Self.Told };
 
-    fn tell<C: Candidates>(&self, alloc: Global, candidates: &C) -> Result<Self::Told, NoMemory>
+    fn tell<C: Candidate>(&self, alloc: Global, candidates: &C) -> Result<Self::Told, NoMemory>
         requires fits { fits self.now (C.space candidates.now) }
         requires vector { IsVector (C.space candidates.now) (C.vector candidates.now) }
         ensures { IfOk result (λ value. value ≡ told self.now (C.vector candidates.now)) };
@@ -43,7 +42,7 @@ impl Telling for Nothing {
 
     ghost told = { λ s v. tt };
 
-    fn tell<C: Candidates>(&self, alloc: Global, candidates: &C) -> Result<(), NoMemory> {
+    fn tell<C: Candidate>(&self, alloc: Global, candidates: &C) -> Result<(), NoMemory> {
         let _ = alloc;
         let _ = candidates;
         Ok(())
@@ -70,8 +69,8 @@ impl<'l> Telling for Structures<'l> {
 
     ghost told = { λ s v. structure_of (bare s.layout.now) v };
 
-    fn tell<C: Candidates>(&self, alloc: Global, candidates: &C) -> Result<Structure, NoMemory> {
+    fn tell<C: Candidate>(&self, alloc: Global, candidates: &C) -> Result<Structure, NoMemory> {
         let mut walk = Walk::new(alloc);
-        structure_of(alloc, self.layout, &mut walk, candidates)
+        structure_of(alloc, self.layout, &mut walk, candidates.current())
     }
 }

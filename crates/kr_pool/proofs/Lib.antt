@@ -1,2 +1,5 @@
+pub mod Alternation
+pub mod Collected
+pub mod Handed
+pub mod Owned
 pub mod Scanned
-pub mod Closed

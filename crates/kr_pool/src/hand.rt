@@ -1,13 +1,12 @@
-// What a worker has at hand: its seat, what a full board left with it, and the lease under which it goes on.
-ghost use Rattle.std.specs.Prelude.{◌≡◌, ◌≤◌, true, length, IfOk, map, reverse};
+// A worker's seat, the part that a full board gave back, and the lease under which it goes on.
+ghost use Rattle.std.specs.Prelude.{◌≡◌, ◌+◌, ◌<◌, ◌≤◌, true, length, vec_len, vec_capacity, IfOk, map, reverse};
 ghost use Rattle.kr_base.specs.Bounds.{less};
 ghost use Rattle.kr_base.specs.declared.span.Bound.TheVariants.{At};
 ghost use Rattle.kr_board.specs.Parts.{IsPart};
 
 use kr_base::NoMemory;
 use kr_board::Lease;
-use kr_pool_desk::Run;
-use kr_pool_shared::Seat;
+use kr_pool_desk::{Crew, Run, Seat};
 use kr_survey::Part;
 use std::alloc::Global;
 use std::marker::{Model, PhantomData};
@@ -109,18 +108,50 @@ impl<R, N: Run<R>> Hand<R, N> {
     }
 }
 
-/// The seats from the last to the first, with nothing kept.
+/// The seats from the last to the first, with nothing kept. The seats' place is left, empty.
 pub fn hands_of<R: Drop, N: Run<R>>(
     alloc: Global,
-    seats: Vec<Seat<N>>,
+    seats: &mut Vec<Seat<N>>,
 ) -> Result<Vec<Hand<R, N>>, NoMemory>
-    ensures count { IfOk result (λ hands. length hands.items ≡ length seats.items) }
-    ensures seats { IfOk result (λ hands. reverse (map (λ h. h.seat) hands.items) ≡ seats.items) }
+    ensures count { IfOk result (λ hands. length hands.items ≡ length seats.old.items) }
+    ensures seats { IfOk result (λ hands. reverse (map (λ h. h.seat) hands.items) ≡ seats.old.items) }
+    ensures none { IfOk result (λ hands. length seats.new.items ≡ 0) }
+    ensures room { vec_capacity seats.old ≤ vec_capacity seats.new }
 {
     let mut hands = Vec::new(alloc);
-    let mut seats = seats;
     while let Some(seat) = seats.pop() {
         hands.push(Hand::new(seat))?;
     }
     Ok(hands)
+}
+
+/// All seats again, in a place that has room for them. It takes no memory.
+pub fn seats_of<R: Drop, N: Run<R>>(
+    place: Vec<Seat<N>>,
+    first: Seat<N>,
+    hands: Vec<Hand<R, N>>,
+) -> Vec<Seat<N>>
+    requires none { length place.items ≡ 0 }
+    requires room { length hands.items + 1 ≤ vec_capacity place }
+    ensures { length result.items ≡ length hands.items + 1 }
+{
+    let mut seats = place;
+    let mut hands = hands;
+    add_seat(&mut seats, first);
+    while let Some(hand) = hands.pop() {
+        add_seat(&mut seats, hand.seat);
+    }
+    seats
+}
+
+/// Adds a seat, for which there is room.
+fn add_seat<N: Crew>(seats: &mut Vec<Seat<N>>, seat: Seat<N>)
+    requires { vec_len seats.old < vec_capacity seats.old }
+    ensures len { length seats.new.items ≡ length seats.old.items + 1 }
+    ensures room { vec_capacity seats.old ≤ vec_capacity seats.new }
+{
+    match seats.push(seat) {
+        Ok(()) => {}
+        Err(_) => unreachable!(),
+    }
 }

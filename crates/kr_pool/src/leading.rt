@@ -1,4 +1,4 @@
-// What the caller does in a round that it leads: its own seat works a part at a time, so that it can drain between two parts.
+// The caller's work in a round that it leads: a part at a time, so that it can drain between two parts.
 ghost use Rattle.std.specs.Prelude.{◌≡◌, IfSome};
 ghost use Rattle.kr_pool_desk.specs.Leasing.{IsLeaseOf};
 
@@ -6,8 +6,7 @@ use crate::hand::{Hand, Open};
 use crate::turns::{Turn, report_part, scan_once};
 use kr_board::Lease;
 use kr_io::Gate;
-use kr_pool_desk::Run;
-use kr_pool_shared::Shared;
+use kr_pool_desk::{Run, Shared};
 use kr_survey::Survey;
 use std::sync::Wait;
 use std::sync::ledger::Ledger;
@@ -80,8 +79,8 @@ impl Leading {
         }
     }
 
-    // What came of the report of what the seat kept, where that has room now, or else of a part that it scans; none where there was
-    // nothing to do.
+    // Reports the part that the seat kept, if that has room now, or else scans one and reports it; none where there was nothing to
+    // do.
     fn next_turn<R: Drop, N: Run<R>, D: Ledger, S: Survey<Row = R>, G: Gate, W: Wait>(
         &mut self,
         rt: &W,

@@ -2,18 +2,31 @@
 #![tactic(auto)]
 
 mod alone;
+mod came;
+mod collector;
 mod hand;
+mod handing;
+mod laws;
+mod lead;
 mod leading;
 mod listing;
+mod rounds;
 mod scanning;
+mod shares;
+mod sharing;
 mod turns;
 mod working;
 
-pub use alone::scan_one;
-pub use hand::{Hand, Kept, Open, hands_of};
+pub use alone::Alone;
+pub use collector::Collector;
+pub use hand::{Hand, hands_of};
+pub use handing::{hand_listing, hand_over};
 pub use kr_io::{Gate, OpenGate};
-pub use kr_pool_desk::{Crew, Run};
-pub use kr_pool_shared::{Seat, Shared};
+pub use kr_pool_desk::{Crew, Run, Seat, Shared};
+pub use laws::whole_log_law;
+pub use lead::Lead;
 pub use leading::{Leading, scratch_for};
-pub use listing::{list_shared, list_traced};
+pub use listing::list_shared;
+pub use rounds::Rounds;
+pub use shares::share;
 pub use working::{Round, work_all, work_at};

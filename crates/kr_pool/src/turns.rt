@@ -7,8 +7,7 @@ use crate::hand::Kept;
 use crate::scanning::scan_part;
 use kr_base::NoMemory;
 use kr_board::{Lease, Reported};
-use kr_pool_desk::Run;
-use kr_pool_shared::{Seat, Shared};
+use kr_pool_desk::{Run, Seat, Shared};
 use kr_survey::{Part, Survey};
 use std::sync::Wait;
 use std::sync::ledger::Ledger;
@@ -16,7 +15,7 @@ use std::sync::ledger::Ledger;
 /// The most entries that a worker scans before it reports.
 const BATCH: u32 = 256;
 
-/// What came of a report: the seat goes on under a lease; it is done with its segment; the part has no room yet, and is kept with
+/// The result of a report: the seat goes on under a lease; it is done with its segment; the part has no room yet, and is kept with
 /// its lease; or memory was refused.
 #[derive(Drop)]
 pub(crate) enum Turn<R, N: Run<R>> {

@@ -1,4 +1,4 @@
-// What a worker does in a round that the caller leads.
+// A worker's part of a round that the caller leads.
 ghost use Rattle.std.specs.Prelude.{◌≡◌, length, true, is_some};
 ghost use Rattle.kr_pool_desk.specs.Leasing.{IsLeaseOf};
 
@@ -7,8 +7,7 @@ use crate::turns::{Turn, report_part, scan_once};
 use kr_base::NoMemory;
 use kr_board::Lease;
 use kr_io::Gate;
-use kr_pool_desk::Run;
-use kr_pool_shared::Shared;
+use kr_pool_desk::{Run, Shared};
 use kr_survey::Survey;
 use std::sync::Wait;
 use std::sync::ledger::Ledger;
@@ -60,7 +59,7 @@ fn follow<R: Drop, N: Run<R>, D: Ledger, S: Survey<Row = R>, W: Wait>(
     unreachable!()
 }
 
-// What a seat kept is reported first, and then it goes on under that lease.
+// Reports the part that the seat kept, and goes on under its lease.
 fn report_kept<R: Drop, N: Run<R>, D: Ledger, S: Survey<Row = R>, W: Wait>(
     rt: &W,
     shared: &Shared<R, N, D>,
@@ -136,7 +135,7 @@ fn awaits_room<R: Drop, N: Run<R>, D: Ledger, W: Wait>(
     }
 }
 
-// The same, with what was kept first.
+// Reports the part that was kept, and then takes leases.
 fn go_on<R: Drop, N: Run<R>, D: Ledger, S: Survey<Row = R>, G: Gate, W: Wait>(
     rt: &W,
     shared: &Shared<R, N, D>,
@@ -156,7 +155,7 @@ fn go_on<R: Drop, N: Run<R>, D: Ledger, S: Survey<Row = R>, G: Gate, W: Wait>(
     }
 }
 
-// The same again, where what was kept has room.
+// Runs `go_on` until the round ends; while a part does not fit the window, waits for space.
 fn work_on<R: Drop, N: Run<R>, D: Ledger, S: Survey<Row = R>, G: Gate, W: Wait>(
     rt: &W,
     shared: &Shared<R, N, D>,
@@ -209,7 +208,7 @@ pub fn work_at<R: Drop, N: Run<R>, D: Ledger, S: Survey<Row = R>, G: Gate, W: Wa
     shared.leave(rt);
 }
 
-/// What all seats of a round share.
+/// The references that all seats of a round share.
 #[derive(Drop)]
 pub struct Round<'a, R, N: Run<R>, D: Ledger, S, G, W> {
     pub rt: &'a W,

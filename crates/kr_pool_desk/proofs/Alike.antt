@@ -9,7 +9,8 @@ use Rattle.std.specs.List.{fold, count_by}
 use Rattle.kr_core.specs.declared.segment.Segment.{Segment}
 use Rattle.kr_core.specs.declared.event.Event.{Event}
 use Rattle.kr_core.specs.declared.event.Event.TheVariants.{Take, Steal, Report, GiveUp, Drain, StopAt, Look}
-use Rattle.kr_core.specs.States.{State, capped, segment_of}
+use Rattle.kr_base.specs.Causes.{capped}
+use Rattle.kr_core.specs.States.{State, segment_of}
 use Rattle.kr_core.specs.Counts.{EndsSpent, IsSpentFlag, Tells, TellsFrom, IsHonest, HonestRuns}
 use Rattle.kr_pool_desk.specs.Traces.{IsTrace}
 

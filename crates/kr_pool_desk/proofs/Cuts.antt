@@ -6,14 +6,10 @@ use Rattle.kr_base.specs.declared.span.Bound.TheVariants.{At}
 use Rattle.kr_base.specs.declared.span.Span.{Span}
 use Rattle.kr_base.specs.Cuts.{Before}
 use Rattle.kr_base.specs.Bounds.{less}
-use Rattle.kr_base.proofs.Orders.{test_from_before}
+use Rattle.kr_base.proofs.Bounds.{less_from_before}
 use Rattle.kr_core.specs.Openings.{AscendBetween, AreInside}
 use Rattle.kr_pool_desk.specs.Cutting.{first_level, is_inside, cuts_from, cuts_for}
-use Rattle.kr_pool_desk.proofs.Whole.{and-left, and-right}
-
-less_from_before : (j k : List ℕ) → Before j k → less (At j) (At k) ≡ true
-unfolding less
-less_from_before j k h = test_from_before j k h
+use Rattle.kr_core.proofs.Bools.{and-left, and-right}
 
 level-before : (j k : ℕ) → j < k → Before (first_level j) (first_level k)
 level-before j k h = inr (refl, inl h)

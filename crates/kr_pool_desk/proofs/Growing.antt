@@ -79,10 +79,10 @@ granted-quiet seat next (Some g) v = refl
 granted-quiet seat next None (Some g) = refl
 granted-quiet seat next None None = refl
 
-take-quiet : (seat : ℕ) (s : State) → drains (take_event seat s) ≡ 0
+pub take-quiet : (seat : ℕ) (s : State) → drains (take_event seat s) ≡ 0
 take-quiet seat s = granted-quiet seat s.next (first_free s) (first_victim s)
 
-report-quiet : {R : Type 0} (s : Held R) (lease : Lease) (part : Part R) → drains (report_event s lease part) ≡ 0
+pub report-quiet : {R : Type 0} (s : Held R) (lease : Lease) (part : Part R) → drains (report_event s lease part) ≡ 0
 report-quiet {R} s lease part =
     elim (is_none (refusal s lease part)) as (λ b. drains (if b then Report lease.seat lease.segment part.reach (length part.rows) part.tried part.spent else Look lease.seat) ≡ 0) [ true ↦ refl | false ↦ refl ]
 

@@ -70,7 +70,3 @@ drain-kept {R} old new rows n reply is adds =
     let b = ap (λ (l : List R). length l) is in
     let c = front-and-rest old.core.segments old.kept in
     omega (arith, a, b, c)
-
--- a lease given back changes nothing of them
-pub give_up-kept : {R : Type 0} (old new : Held R) (seat n : ℕ) (reply : Reply) → Adds old (GiveUp seat n) reply [] new → new.kept ≡ old.kept
-give_up-kept old new seat n reply adds = adds.kept

@@ -5,14 +5,14 @@ use Rattle.kr_base.specs.declared.span.Bound.{Bound}
 use Rattle.kr_base.specs.declared.span.Bound.TheVariants.{At, End}
 use Rattle.kr_base.specs.declared.span.Span.{Span}
 use Rattle.kr_base.specs.declared.entry.Entry.{Entry}
-use Rattle.kr_base.specs.Bounds.{less}
+use Rattle.kr_base.specs.Bounds.{less, is_same}
 use Rattle.kr_base.proofs.Bounds.{connected}
 use Rattle.kr_survey.specs.declared.part.Part.{Part}
 use Rattle.kr_core.specs.declared.segment.Segment.{Segment}
 use Rattle.kr_core.specs.declared.event.Event.{Event}
 use Rattle.kr_core.specs.declared.event.Event.TheVariants.{Report, Look}
 use Rattle.kr_core.specs.declared.event.Lease.{Lease}
-use Rattle.kr_core.specs.States.{State, Each, is_same, is_owned, is_owned_by, has_remainder, segment_of}
+use Rattle.kr_core.specs.States.{State, Each, is_owned, is_owned_by, has_remainder, segment_of}
 use Rattle.kr_core.specs.Kept.{IsKept}
 use Rattle.kr_core.specs.Leases.{IsHeld, Leases}
 use Rattle.kr_core.specs.Openings.{opening}

@@ -10,3 +10,5 @@ pub mod Honest
 pub mod Alike
 pub mod Laid
 pub mod Keeping
+pub mod Limits
+pub mod Seating

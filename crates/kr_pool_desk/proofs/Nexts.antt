@@ -19,7 +19,8 @@ use Rattle.kr_core.specs.declared.event.Event.{Event}
 use Rattle.kr_core.specs.declared.event.Event.TheVariants.{Drain}
 use Rattle.kr_core.specs.declared.event.Reply.{Reply}
 use Rattle.kr_survey.specs.declared.part.Listing.{Listing}
-use Rattle.kr_core.specs.States.{State, capped, is_closed}
+use Rattle.kr_base.specs.Causes.{capped}
+use Rattle.kr_core.specs.States.{State, is_closed}
 use Rattle.kr_core.specs.Steps.{left}
 use Rattle.kr_core.specs.Openings.{AreInside}
 use Rattle.kr_core.specs.Beside.{fronts, emptied, Others, Measures}
@@ -36,9 +37,10 @@ use Rattle.kr_board.specs.Closing.{front_rows, all_closed, spent_key, IsListing}
 use Rattle.kr_board.proofs.Draining.{listed}
 use Rattle.kr_board.proofs.Sound.{join}
 use Rattle.kr_board.proofs.Staying.{holds}
-use Rattle.kr_pool_desk.specs.Listings.{listed_in}
+use Rattle.kr_survey.specs.Listings.{listed_in}
 use Rattle.kr_pool_desk.specs.Runs.{IsRun}
-use Rattle.kr_pool_desk.proofs.Whole.{and-left, whole_listing}
+use Rattle.kr_core.proofs.Bools.{and-left}
+use Rattle.kr_pool_desk.proofs.Whole.{whole_listing}
 
 abbrev up : {R : Type 0} → List (Entry R) → Segment → List (Entry R)
 up es g = within g.after g.mark es

@@ -16,7 +16,7 @@ use Rattle.kr_board.specs.Held.{Held}
 use Rattle.kr_board.specs.Boards.{IsBoardOf}
 use Rattle.kr_board.specs.Releasing.{IsReleased, given_up_by, given_up}
 use Rattle.kr_pool_desk.specs.Runs.{is_shared, are_shared, IsRun}
-use Rattle.kr_pool_desk.proofs.Whole.{and-left, and-right}
+use Rattle.kr_core.proofs.Bools.{and-left, and-right}
 
 abbrev IsBelow : ℕ → Option ℕ → Type 0
 IsBelow workers None = Unit {0}

@@ -5,12 +5,12 @@ use Rattle.kr_base.specs.declared.span.Bound.{Bound}
 use Rattle.kr_base.specs.declared.span.Bound.TheVariants.{At, End}
 use Rattle.kr_base.specs.declared.span.Span.{Span}
 use Rattle.kr_base.specs.declared.entry.Entry.{Entry}
-use Rattle.kr_base.specs.Bounds.{less}
+use Rattle.kr_base.specs.Bounds.{less, is_cut}
 use Rattle.kr_core.specs.declared.segment.Segment.{Segment}
 use Rattle.kr_core.specs.declared.event.Event.{Event}
 use Rattle.kr_core.specs.declared.event.Event.TheVariants.{StopAt}
 use Rattle.kr_core.specs.declared.event.Reply.{Reply}
-use Rattle.kr_core.specs.States.{State, Each, is_cut, is_owned, has_remainder, is_closed}
+use Rattle.kr_core.specs.States.{State, Each, is_owned, has_remainder, is_closed}
 use Rattle.kr_core.specs.Steps.{may_stop, stopped}
 use Rattle.kr_core.specs.Kept.{IsKept, Adjoin}
 use Rattle.kr_core.specs.Openings.{opening}

@@ -6,32 +6,27 @@ use Rattle.kr_base.specs.declared.span.Bound.TheVariants.{At}
 use Rattle.kr_base.specs.declared.span.Span.{Span}
 use Rattle.kr_base.specs.declared.entry.Entry.{Entry}
 use Rattle.kr_base.specs.Bounds.{less}
-use Rattle.kr_base.specs.Cuts.{Before}
 use Rattle.kr_base.specs.Entries.{Ascends, AllAfter, is_spent, is_within, within, through_spent, entries_in, NoneSpent}
-use Rattle.kr_base.proofs.Bounds.{irreflexive}
-use Rattle.kr_base.proofs.Orders.{test_from_before}
+use Rattle.kr_base.proofs.Bounds.{irreflexive, less_from_before}
 use Rattle.kr_survey.specs.declared.part.Listing.{Listing}
 use Rattle.kr_survey.specs.Scans.{rows_of}
 use Rattle.kr_core.specs.declared.event.Event.{Event}
 use Rattle.kr_core.specs.declared.event.Event.TheVariants.{Take, Steal, Report, GiveUp, Drain, StopAt, Look}
-use Rattle.kr_core.specs.States.{capped}
+use Rattle.kr_base.specs.Causes.{capped}
 use Rattle.kr_core.specs.Openings.{opening}
 use Rattle.kr_core.specs.Counts.{EndsSpent, HonestRuns, IsSpentFlag, Counts, last_stop}
 use Rattle.kr_core.specs.Rows.{drained}
+use Rattle.kr_core.proofs.Bools.{and-left, and-right}
 use Rattle.kr_core.proofs.Ends.{counting_law}
 use Rattle.kr_board.specs.Held.{Held}
-use Rattle.kr_board.specs.Closing.{all_closed, spent_in, Lists as BoardLists}
+use Rattle.kr_board.specs.Closing.{all_closed, Lists as BoardLists}
 use Rattle.kr_board.proofs.Draining.{closed-each}
 use Rattle.kr_pool_desk.specs.Runs.{is_shared, are_shared, IsRun}
-use Rattle.kr_pool_desk.specs.Listings.{listed_in, Lists, ListsFrom}
+use Rattle.kr_survey.specs.Listings.{listed_in, spent_in}
+use Rattle.kr_pool_desk.specs.Listings.{ListsFrom}
 use Rattle.kr_pool_desk.specs.Traces.{is_last_stop, are_by, Finishes}
 
 -- nothing is cut off where the last one alone is spent
-
-less_from_before : (j k : List ℕ) → Before j k → less (At j) (At k) ≡ true
-unfolding less
-less_from_before j k h = test_from_before j k h
-
 none-above : {R : Type 0} (a e : Bound) (k : List ℕ) (es : List (Entry R)) → AllAfter k es → At k ≡ e → within a e es ≡ []
 none-above a e k [] h q = refl
 none-above {R} a e k (x ∷ es) h q =
@@ -82,14 +77,6 @@ through-flag false a e es asc h = through-free (within a e es) h
 
 -- no event is a stop
 
-pub and-left : (a b : Bool) → (a && b) ≡ true → a ≡ true
-and-left true b e = refl
-and-left false b e = absurd (cc (e))
-
-pub and-right : (a b : Bool) → (a && b) ≡ true → b ≡ true
-and-right true b e = e
-and-right false b e = absurd (cc (e))
-
 pub none-stops : (b : Bound) (workers : ℕ) (events : List Event) → are_shared workers events ≡ true → last_stop b events ≡ b
 none-stops b workers [] h = refl
 none-stops b workers (Take seat n ∷ events) h = none-stops b workers events (and-right (is_shared workers (Take seat n)) (are_shared workers events) h)
@@ -114,10 +101,6 @@ whole_listing {R} all span cuts ops workers calls b l k closed is =
       tried = of.tried ∙ ap (λ (es : List (Entry R)). capped (length es)) whole;
       spent = of.spent ∙ ap (λ (es : List (Entry R)). spent_in es) whole;
     }
-
--- nothing was taken out before
-pub lists_all : {R : Type 0} (d : ℕ) (es : List (Entry R)) (l : Listing R) → d ≡ 0 → ListsFrom d es l → Lists es l
-lists_all {R} d es l none k = record { rows = k.rows ∙ ap (λ (n : ℕ). drop n (rows_of es)) none; tried = k.tried; spent = k.spent }
 
 -- events of seats, and at their end a stop
 

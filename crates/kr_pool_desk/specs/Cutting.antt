@@ -1,4 +1,4 @@
--- Between crates: where a span is cut for workers.
+-- To be believed: where a span is cut for workers.
 use Rattle.std.specs.Prelude.{ℕ, ◌-◌, zero, suc, ◌+◌, List, [], ◌∷◌, Bool, ◌&&◌, if◌then◌else◌}
 use Rattle.kr_base.specs.declared.span.Bound.TheVariants.{At}
 use Rattle.kr_base.specs.declared.span.Span.{Span}

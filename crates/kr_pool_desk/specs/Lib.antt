@@ -5,4 +5,7 @@ pub mod Leasing
 pub mod Cutting
 pub mod Traces
 pub mod Laying
+pub mod Limits
 pub mod Stops
+pub mod Seats
+pub mod Tables

@@ -1,4 +1,4 @@
--- Between crates: what a board under a lock keeps: whose it is, and by whom it was moved.
+-- To be believed: what a board under a lock keeps: whose it is, and by whom it was moved.
 use Rattle.std.specs.Prelude.{◌≡◌, ℕ, List, [], ◌∷◌, ◌++◌, Bool, true, false, ◌&&◌, nat_lt, length}
 use Rattle.kr_base.specs.declared.span.Span.{Span}
 use Rattle.kr_base.specs.declared.entry.Entry.{Entry}

@@ -17,7 +17,8 @@ impl Crew for Brand {
     ghost workers = { 0 };
 }
 
-/// Of which entries, span and cuts, with which log at its start, and how many rows may be kept, if there is a bound.
+/// Of which entries, span and cuts, with which log at its start; how many rows may be kept, and how many are wanted, if there
+/// are bounds.
 pub trait Run<R>: Crew {
     ghost all: { List (Entry R) };
 
@@ -28,6 +29,8 @@ pub trait Run<R>: Crew {
     ghost opening: { List Event };
 
     ghost window: { Option ℕ };
+
+    ghost limit: { Option ℕ };
 }
 
 impl<R> Run<R> for Brand {
@@ -40,4 +43,6 @@ impl<R> Run<R> for Brand {
     ghost opening = { [] };
 
     ghost window = { None };
+
+    ghost limit = { None };
 }

@@ -39,7 +39,7 @@ fn is_inside(span: &Span, cut: &Cut) -> bool
     is_above(cut, &span.after) && is_below(cut, &span.upto)
 }
 
-// Adds the cut of a number, where it stands inside the span.
+// Adds the cut of a number, if it is inside the span.
 fn add_level(alloc: Global, cuts: &mut Vec<Cut>, span: &Span, number: u32) -> Result<(), NoMemory>
     ensures { OnOk result (cuts.new.items ≡ cuts.old.items ++ (if is_inside span.now (first_level number) then first_level number ∷ [] else [])) }
 {
@@ -50,7 +50,7 @@ fn add_level(alloc: Global, cuts: &mut Vec<Cut>, span: &Span, number: u32) -> Re
     Ok(())
 }
 
-/// The cuts 0.1, 0.2 and so on below the number of workers that stand strictly inside the span.
+/// The cuts 0.1, 0.2 and so on below the number of workers, those strictly inside the span.
 #[tactic(auto, using(crate::proofs::Cuts::cuts_next))]
 pub fn cuts_for(alloc: Global, span: &Span, workers: u32) -> Result<Vec<Cut>, NoMemory>
     requires { 0 < workers }

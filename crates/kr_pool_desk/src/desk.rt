@@ -1,4 +1,4 @@
-// A board with the count of its calls.
+// The board that workers share, as it lies under their lock.
 ghost use Rattle.std.specs.Prelude.{◌≡◌, ◌+◌, ◌<◌, ◌≤◌, ◌↔◌, [], Some, None, true, false, length, take, drop, IfOk, IfErr, IfSome, IfNone, OnOk, OnErr};
 ghost use Rattle.kr_base.specs.declared.span.Bound.TheVariants.{At};
 ghost use Rattle.kr_base.specs.Bounds.{less};
@@ -10,11 +10,11 @@ ghost use Rattle.kr_core.specs.Openings.{AreInside, opening};
 ghost use Rattle.kr_core.specs.Rows.{drained};
 ghost use Rattle.kr_core.specs.States.{segment_of};
 ghost use Rattle.kr_core.specs.Steps.{may_give_up};
+ghost use Rattle.kr_survey.specs.Listings.{listed_in};
 ghost use Rattle.kr_survey.specs.Scans.{rows_of};
 ghost use Rattle.kr_board.specs.Boards.{IsBoardOf, Adds};
 ghost use Rattle.kr_board.specs.Closing.{all_closed, front_rows};
 ghost use Rattle.kr_board.specs.Parts.{IsPart};
-ghost use Rattle.kr_board.specs.Releasing.{IsReleased, given_up};
 ghost use Rattle.kr_board.specs.Reporting.{IsRefusal, refusal, report_event, reply_of as report_reply};
 ghost use Rattle.kr_board.specs.Splitting.{split_of};
 ghost use Rattle.kr_board.specs.Taking.{IsLater, take_event, reply_of as take_reply};
@@ -22,40 +22,51 @@ ghost use Rattle.kr_board.specs.declared.board.taking.Taken.TheVariants.{Later, 
 ghost use Rattle.kr_board.specs.declared.board.releasing.GivenUp.TheVariants.{Released, Gone};
 ghost use Rattle.kr_pool_desk.specs.Runs.{IsRun, are_shared};
 ghost use Rattle.kr_pool_desk.specs.Leasing.{IsLeaseOf, Takes, Reports};
+ghost use Rattle.kr_survey.specs.Takings.{is_past};
+ghost use Rattle.kr_pool_desk.specs.Limits.{IsWanted, KeepsWindow, begins_within};
 ghost use Rattle.kr_pool_desk.specs.Draining.{last_rows, rows_kept};
 ghost use Rattle.kr_pool_desk.specs.Laying.{LaysOut};
-ghost use Rattle.kr_pool_desk.specs.Stops.{IsStopped};
-ghost use Rattle.kr_pool_desk.specs.Listings.{listed_in, ListsFrom};
-ghost use Rattle.kr_pool_desk.specs.Traces.{Finishes};
+ghost use Rattle.kr_pool_desk.specs.Seats.{calls_of};
 
 use crate::crew::Run;
+use crate::seat::Seat;
+use crate::seats::all_calls;
+use crate::wanted::Wanted;
 use kr_base::{Bound, NoMemory};
-use kr_board::{Board, Event, GivenUp, Lease, Logged, Refused, Reported, Taken, part_law};
+use kr_board::{Board, Event, GivenUp, Lease, Refused, Reported, Taken, part_law};
 use kr_survey::{Part, Rows};
 use std::marker::Model;
-use std::sync::ledger::{Book, Share};
+use std::sync::ledger::{Book, Ledger, Share};
 
-/// A board, and the book of the calls that were logged at it. Contracts see both.
+/// A board; the books of the calls that were logged at it and of the rows that were drained from it; and how many rows are
+/// still wanted. Contracts see the board, and how many calls were logged.
 #[derive(Drop)]
-pub struct Desk<R, N: Run<R>> {
+pub struct Desk<R, N: Run<R>, D: Ledger> {
     pub(crate) board: Board<R>,
     calls: Book<N>,
+    rows: Book<D>,
+    wanted: Wanted,
 }
 
-impl<R, N: Run<R>> Model for Desk<R, N> {
-    ghost use Rattle.std.specs.Prelude.{◌≡◌, ℕ};
+impl<R, N: Run<R>, D: Ledger> Model for Desk<R, N, D> {
+    ghost use Rattle.std.specs.Prelude.{◌≡◌, ℕ, true};
+    ghost use Rattle.kr_core.specs.Rows.{drained};
     ghost use Rattle.kr_board.specs.Held.{Held};
     ghost use Rattle.kr_pool_desk.specs.Runs.{IsRun};
+    ghost use Rattle.kr_core.specs.Openings.{opening};
+    ghost use Rattle.kr_pool_desk.specs.Limits.{IsWanted, KeepsWindow, begins_within};
 
     ghost Value = { Held R × ℕ };
 
     ghost view = { λ d. (d.board, d.calls.total) };
 
-    ghost invariant = { λ d. IsRun N.all N.span N.cuts N.opening N.workers d.board d.calls.total × (d.board.window ≡ N.window) };
+    ghost invariant = { λ d. IsRun N.all N.span N.cuts N.opening N.workers d.board d.calls.total × (d.board.window ≡ N.window)
+        × (drained d.board.log ≡ d.rows.total) × IsWanted N.limit (drained d.board.log) d.wanted × (begins_within N.limit 0 d.board.log ≡ true)
+        × KeepsWindow N.window (opening N.span N.cuts) d.board.log };
 }
 
-// The rows that the last event took out.
-fn last_rows(log: &[Event]) -> u64
+/// The rows that the last event took out.
+pub fn last_rows(log: &[Event]) -> u64
     ensures { result ≡ last_rows log.now }
 {
     match log.last() {
@@ -65,19 +76,54 @@ fn last_rows(log: &[Event]) -> u64
     }
 }
 
-impl<R: Drop, N: Run<R>> Desk<R, N> {
-    /// The board, of which no call was counted yet.
-    pub fn new(board: Board<R>, calls: Book<N>) -> Self
+impl<R: Drop, N: Run<R>, D: Ledger> Desk<R, N, D> {
+    /// The board, of which no call was counted yet, and from which no row was drained.
+    pub fn new(board: Board<R>, calls: Book<N>, rows: Book<D>, limit: Option<u64>) -> Self
         requires ascends { Ascends N.all }
         requires inside { AreInside N.cuts N.span }
         requires board { IsBoardOf N.all N.span N.cuts board }
         requires opening { board.log ≡ N.opening }
         requires shared { are_shared N.workers N.opening ≡ true }
         requires window { board.window ≡ N.window }
-        requires none { calls.total ≡ 0 }
+        requires limit { limit ≡ N.limit }
+        requires undrained { drained N.opening ≡ 0 }
+        requires kept { KeepsWindow N.window (opening N.span N.cuts) N.opening }
+        requires none { (calls.total ≡ 0) × (rows.total ≡ 0) }
         ensures { result.0 ≡ board }
     {
-        Desk { board, calls }
+        Desk {
+            board,
+            calls,
+            rows,
+            wanted: Wanted::new(limit),
+        }
+    }
+
+    /// The board again, once all seats are back. Its log is longer than at the start by as many events as the seats' calls,
+    /// and as many rows were drained as the share counts.
+    pub fn shut(self, seats: Vec<Seat<N>>, tap: &mut Share<D>) -> Board<R>
+        requires all { length seats.items ≡ N.parts }
+        requires some { 0 < N.parts }
+        requires whole { tap.old.parts ≡ D.parts }
+        ensures drained { drained result.log ≡ tap.old.amount }
+        ensures run { IsRun N.all N.span N.cuts N.opening N.workers result (calls_of seats.items) }
+        ensures limit { begins_within N.limit 0 result.log ≡ true }
+        ensures window { result.window ≡ N.window }
+        ensures kept { KeepsWindow N.window (opening N.span N.cuts) result.log }
+        ensures board { result ≡ self.0 }
+    {
+        let Desk {
+            board,
+            mut calls,
+            mut rows,
+            wanted: _,
+        } = self;
+        rows.audit(tap);
+        match all_calls(seats) {
+            None => {}
+            Some(mut all) => calls.audit(&mut all),
+        }
+        board
     }
 
     /// Whether nothing is left to do.
@@ -87,100 +133,55 @@ impl<R: Drop, N: Run<R>> Desk<R, N> {
         self.board.is_finished()
     }
 
-    /// The listing of the run's span behind the rows drained, and the run's log, which has no stop, where nothing is left to
-    /// do, else the desk again. It takes no memory.
-    pub fn close(self) -> Result<Logged<R>, Desk<R, N>>
-        ensures listing { IfOk result (λ logged. ListsFrom (drained self.0.log) (listed_in N.all N.span) logged.listing) }
-        ensures log { IfOk result (λ logged. Finishes N.all (opening N.span N.cuts) N.workers logged.log.items) }
-        ensures unstopped { IfOk result (λ logged. are_shared N.workers logged.log.items ≡ true) }
-        ensures own { IfOk result (λ logged. logged.log.items ≡ self.0.log) }
-        ensures unfinished { OnErr result (all_closed self.0.core ≡ false) }
-        ensures back { IfErr result (λ desk. desk.0 ≡ self.0) }
+    /// Whether more rows than the limit were drained.
+    pub fn is_past(&self) -> bool
+        ensures { result ≡ is_past N.limit (drained self.now.0.log) }
     {
-        let Desk { board, calls } = self;
-        match board.close_with_log() {
-            Ok(logged) => Ok(logged),
-            Err(board) => Err(Desk { board, calls }),
-        }
+        let _ = &self.board;
+        self.wanted.is_past()
     }
 
-    /// Ends an unfinished board where its first segment is scanned to. The run's log.
-    pub fn stop(self) -> Result<Vec<Event>, NoMemory>
-        requires unfinished { all_closed self.0.core ≡ false }
-        ensures log { IfOk result (λ log. Finishes N.all (opening N.span N.cuts) N.workers log.items) }
-        ensures own { IfOk result (λ log. IsStopped self.0 log.items) }
-    {
-        let Desk {
-            mut board,
-            calls: _,
-        } = self;
-        match board.stop() {
-            Err(why) => Err(why),
-            Ok(_) => match board.close_with_log() {
-                Ok(Logged { listing: _, log }) => Ok(log),
-                Err(_) => unreachable!(),
-            },
-        }
-    }
-
-    /// The next rows of the run's span behind those drained, and whether nothing is left then: no work, and no row.
-    pub fn drain(&mut self, calls: &mut Share<N>) -> Result<(Rows<R>, bool), NoMemory>
-        requires part { 0 < calls.old.parts }
-        ensures rows { IfOk result (λ r. r.0 ≡ take (length r.0) (drop (drained self.old.0.log) (rows_of (listed_in N.all N.span)))) }
+    /// The next rows of the run's span after those that the share counts, and whether nothing is left to do then.
+    pub fn drain(
+        &mut self,
+        seat: &mut Seat<N>,
+        tap: &mut Share<D>,
+    ) -> Result<(Rows<R>, bool), NoMemory>
+        requires whole { tap.old.parts ≡ D.parts }
+        requires some { 0 < tap.old.parts }
+        ensures rows { IfOk result (λ r. r.0 ≡ take (length r.0) (drop tap.old.amount (rows_of (listed_in N.all N.span)))) }
         ensures front { IfOk result (λ r. r.0 ≡ front_rows self.old.0) }
         ensures event { IfOk result (λ r. Adds self.old.0 (Drain (length r.0)) Noted [] self.new.0) }
         ensures kept { IfOk result (λ r. rows_kept self.new.0 + length r.0 ≤ rows_kept self.old.0) }
-        ensures drained { IfOk result (λ r. drained self.new.0.log ≡ drained self.old.0.log + length r.0) }
-        ensures counted { IfOk result (λ r. last_rows self.new.0.log ≡ length r.0) }
+        ensures counted { IfOk result (λ r. tap.new.amount ≡ tap.old.amount + length r.0) }
         ensures finished { IfOk result (λ r. r.1 ≡ all_closed self.new.0.core) }
-        ensures last { IfOk result (λ r. r.1 ≡ true → drained self.new.0.log ≡ length (rows_of (listed_in N.all N.span))) }
+        ensures last { IfOk result (λ r. r.1 ≡ true → tap.new.amount ≡ length (rows_of (listed_in N.all N.span))) }
         ensures unchanged { OnErr result (self.new.0 ≡ self.old.0) }
-        ensures parts { calls.new.parts ≡ calls.old.parts }
+        ensures uncounted { OnErr result (tap.new.amount ≡ tap.old.amount) }
+        ensures parts { tap.new.parts ≡ tap.old.parts }
+        ensures number { seat.new.number ≡ seat.old.number }
+        ensures refused { seat.new.refused ≡ seat.old.refused }
     {
+        self.rows.audit(tap);
         match self.board.drain() {
             Err(why) => Err(why),
             Ok(rows) => {
-                self.calls.add(calls, 1);
+                self.board.counts_few();
+                self.calls.add(&mut seat.calls, 1);
+                let count = last_rows(self.board.log());
+                self.rows.add(tap, count);
+                self.wanted = self.wanted.after(count);
                 let finished = self.board.is_finished();
                 Ok((rows, finished))
             }
         }
     }
 
-    /// How many rows the last event took out, if it was a drain.
-    pub fn last_rows(&self) -> u64
-        ensures { result ≡ last_rows self.now.0.log }
-    {
-        last_rows(self.board.log())
-    }
-
-    /// Every lease is given back, which counts for this share.
-    pub fn release_all(&mut self, calls: &mut Share<N>)
-        requires part { 0 < calls.old.parts }
-        ensures released { IsReleased self.old.0 self.new.0 }
-        ensures counted { calls.new.amount ≡ calls.old.amount + length (given_up self.old.0.core.segments) }
-        ensures drained { drained self.new.0.log ≡ drained self.old.0.log }
-        ensures parts { calls.new.parts ≡ calls.old.parts }
-    {
-        let before = self.board.log().len();
-        self.board.release_all();
-        let after = self.board.log().len();
-        self.calls.add(calls, (after - before) as u64);
-    }
-
-    /// The board again, with the book.
-    pub fn into_parts(self) -> (Board<R>, Book<N>)
-        ensures run { IsRun N.all N.span N.cuts N.opening N.workers result.0 result.1.total }
-        ensures board { result.0 ≡ self.0 }
-    {
-        let Desk { board, calls } = self;
-        (board, calls)
-    }
-
     /// A seat takes a lease.
     pub fn take(&mut self, seat: u32, calls: &mut Share<N>) -> Result<Taken, NoMemory>
         requires part { 0 < calls.old.parts }
         requires below { seat < N.workers }
+        requires open { is_past N.limit (drained self.old.0.log) ≡ false }
         ensures lease { IfOk result (Takes seat) }
         ensures event { IfOk result (λ taken. Adds self.old.0 (take_event seat self.old.0.core) (take_reply taken) [] self.new.0) }
         ensures later { IfOk result (λ taken. (taken ≡ Later) ↔ IsLater self.old.0.core) }
@@ -195,6 +196,7 @@ impl<R: Drop, N: Run<R>> Desk<R, N> {
         match self.board.take(seat) {
             Err(refused) => Err(refused),
             Ok(taken) => {
+                self.board.counts_few();
                 self.calls.add(calls, 1);
                 Ok(taken)
             }
@@ -229,13 +231,14 @@ impl<R: Drop, N: Run<R>> Desk<R, N> {
         match self.board.report(lease, part) {
             Err(refused) => Err(refused),
             Ok(reported) => {
+                self.board.counts_few();
                 self.calls.add(calls, 1);
                 Ok(reported)
             }
         }
     }
 
-    /// A seat steals from itself what is behind a cut, if there is one.
+    /// A seat steals from itself the rest after a cut, if there is one.
     pub fn split(
         &mut self,
         seat: u32,
@@ -245,6 +248,7 @@ impl<R: Drop, N: Run<R>> Desk<R, N> {
         requires part { 0 < calls.old.parts }
         requires below { seat < N.workers }
         requires lease { lease.now.seat ≡ seat }
+        requires open { is_past N.limit (drained self.old.0.log) ≡ false }
         ensures seat { IfOk result (λ rest. IfSome rest (λ r. r.seat ≡ seat)) }
         ensures cut { IfOk result (λ rest. IfSome rest (λ r. split_of self.old.0.core lease.now ≡ Some r.mark)) }
         ensures event { IfOk result (λ rest. IfSome rest (λ r. Adds self.old.0 (Steal seat lease.now.segment r.mark self.old.0.core.next) (Leased r) [] self.new.0)) }
@@ -263,6 +267,7 @@ impl<R: Drop, N: Run<R>> Desk<R, N> {
             Err(refused) => Err(refused),
             Ok(None) => Ok(None),
             Ok(Some(rest)) => {
+                self.board.counts_few();
                 self.calls.add(calls, 1);
                 Ok(Some(rest))
             }
@@ -274,6 +279,7 @@ impl<R: Drop, N: Run<R>> Desk<R, N> {
         requires part { 0 < calls.old.parts }
         requires below { seat < N.workers }
         requires lease { IsLeaseOf seat lease }
+        requires open { is_past N.limit (drained self.old.0.log) ≡ false }
         ensures lease { IsLeaseOf seat result.0 }
         ensures laid { LaysOut 1 self.old.0 lease self.new.0 result.0 result.1 }
         ensures drained { drained self.new.0.log ≡ drained self.old.0.log }
@@ -297,13 +303,14 @@ impl<R: Drop, N: Run<R>> Desk<R, N> {
         }
     }
 
-    /// A seat cuts what it has left, and lays rests out for others, unless something can be taken already or the window has no
-    /// room for rows behind its segment. The highest cuts come first, behind which there is often nothing, so it lays out up to
+    /// A seat splits rests off its segment for others, unless something can be taken already or the window has no
+    /// room for rows after its segment. The highest cuts come first, and often nothing follows them, so it splits off up to
     /// three at once. The lease under which it goes on, and whether it cut.
     pub fn lay_out(&mut self, seat: u32, lease: Lease, calls: &mut Share<N>) -> (Lease, bool)
         requires part { 0 < calls.old.parts }
         requires below { seat < N.workers }
         requires lease { IsLeaseOf seat lease }
+        requires open { is_past N.limit (drained self.old.0.log) ≡ false }
         ensures lease { IsLeaseOf seat result.0 }
         ensures laid { LaysOut 3 self.old.0 lease self.new.0 result.0 result.1 }
         ensures drained { drained self.new.0.log ≡ drained self.old.0.log }
@@ -341,6 +348,7 @@ impl<R: Drop, N: Run<R>> Desk<R, N> {
         match self.board.give_up(lease) {
             GivenUp::Gone => GivenUp::Gone,
             GivenUp::Released => {
+                self.board.counts_few();
                 self.calls.add(calls, 1);
                 GivenUp::Released
             }

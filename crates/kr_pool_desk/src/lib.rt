@@ -5,8 +5,17 @@
 mod crew;
 mod cutting;
 mod desk;
+mod pace;
 mod room;
+mod seat;
+mod seats;
+mod shared;
+mod table;
+mod wanted;
 
 pub use crew::{Crew, Run};
 pub use cutting::cuts_for;
-pub use desk::Desk;
+pub use desk::{Desk, last_rows};
+pub use seat::Seat;
+pub use shared::Shared;
+pub use wanted::Wanted;

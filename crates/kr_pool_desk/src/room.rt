@@ -3,8 +3,9 @@
 use crate::crew::Run;
 use crate::desk::Desk;
 use kr_board::Lease;
+use std::sync::ledger::Ledger;
 
-/// A segment behind the foremost that holds more than this part of the window is left for one nearer to the front.
+/// A segment after the first that holds more than this part of the window is left for one nearer to the front.
 const SHARES: u64 = 12;
 
 /// For each open segment before it, up to a most, this part of the window is left to those nearer to the front.
@@ -20,7 +21,7 @@ const MUCH: u64 = 8;
 
 const MANY: u64 = 512;
 
-impl<R: Drop, N: Run<R>> Desk<R, N> {
+impl<R: Drop, N: Run<R>, D: Ledger> Desk<R, N, D> {
     /// Whether some seat holds a segment.
     pub fn has_owned(&self) -> bool {
         for segment in self.board.segments() {
@@ -45,7 +46,7 @@ impl<R: Drop, N: Run<R>> Desk<R, N> {
         before
     }
 
-    // Whether so many rows more, behind so many open segments, leave too little of the window to these.
+    // Whether so many rows more, after so many open segments, leave too little of the window to these.
     fn is_crowded(&self, position: u64, rows: u64) -> bool {
         match self.board.window() {
             None => false,
@@ -61,7 +62,7 @@ impl<R: Drop, N: Run<R>> Desk<R, N> {
         }
     }
 
-    // Whether a part that isn't scanned yet may have no room, behind so many open segments.
+    // Whether a part that isn't scanned yet may have no room, after so many open segments.
     fn has_no_room_for_more(&self, position: u64) -> bool {
         match self.board.window() {
             None => false,
@@ -72,7 +73,7 @@ impl<R: Drop, N: Run<R>> Desk<R, N> {
         }
     }
 
-    // How many rows a segment behind the foremost may hold before its seat looks for one nearer to the front.
+    // Whether a segment after the first holds so many rows that its seat looks for one nearer to the front.
     fn is_over_share(&self, rows: u64) -> bool {
         match self.board.window() {
             None => false,
@@ -80,7 +81,7 @@ impl<R: Drop, N: Run<R>> Desk<R, N> {
         }
     }
 
-    // Whether a segment that holds so many rows, behind so many open ones, is too far from the front to go on with.
+    // Whether a segment that holds so many rows, after so many open ones, is too far from the front to go on with.
     fn is_too_far(&self, position: u64, rows: u64) -> bool {
         position > 0 && (self.is_over_share(rows) || self.has_no_room_for_more(position))
     }

@@ -5,8 +5,8 @@ use crate::gates::{Unruly, gate_for, gathering_of};
 use crate::surveys::{below_one, keys, looked_at};
 use kr_base::{Cut, NoMemory};
 use kr_board::Event;
-use kr_pool::{Gate, OpenGate, list_shared, list_traced};
-use kr_survey::{Listing, Survey};
+use kr_pool::{Collector, Gate, OpenGate, list_shared, share};
+use kr_survey::{End, Halt, Listing, Rows, Survey};
 use std::alloc::Global;
 use std::process::Abort;
 use std::sync::Wait;
@@ -30,7 +30,7 @@ pub(crate) fn after(number: u32) -> u32 {
     }
 }
 
-// The number behind the last, if these rows are the valid keys from a number on.
+// The number after the last, if these rows are the valid keys from a number on.
 pub(crate) fn numbered(rows: &[Cut], number: u32) -> Option<u32> {
     let mut number = number;
     for row in rows {
@@ -138,8 +138,8 @@ fn two_at_once(rt: HostRuntime) -> Result<(), Fail> {
     Ok(())
 }
 
-// Whether these are the events of one worker over four keys: it takes, reports, looks where its segment is done, and once more
-// before it ends.
+// Whether these are the events of one worker over four keys: it takes, reports, and looks where its segment is done, before
+// the rows are drained.
 fn is_alone(log: &[Event]) -> bool {
     log.len() == 4
         && matches!(
@@ -161,15 +161,57 @@ fn is_alone(log: &[Event]) -> bool {
             }
         )
         && matches!(log[2], Event::Look { seat: 0 })
-        && matches!(log[3], Event::Look { seat: 0 })
+        && matches!(log[3], Event::Drain { rows: 4 })
 }
 
-// Whether the listing of four keys by one worker has that log.
+/// How a shared span ended, its rows, and the log.
+#[derive(Drop)]
+pub(crate) struct Taken {
+    pub(crate) end: End,
+    pub(crate) rows: Rows<Cut>,
+    pub(crate) log: Vec<Event>,
+}
+
+/// A span of keys, shared by so many workers within a window.
+pub(crate) fn take_all<
+    S: Survey<Row = Cut> + Sync,
+    G: Gate + Sync,
+    W: Threads + Wait + Sync + Abort,
+>(
+    rt: &W,
+    alloc: Global,
+    survey: &S,
+    workers: u32,
+    window: Option<u64>,
+    gate: &G,
+) -> Result<Taken, NoMemory> {
+    assert!(rt; 0 < workers && workers <= 64);
+    match window {
+        None => {}
+        Some(rows) => assert!(rt; 0 < rows && rows <= 65536),
+    }
+    let span = below_one(alloc)?;
+    let mut rows = Collector::new(alloc);
+    let mut out = ();
+    let shared = share(
+        rt, alloc, survey, span, workers, window, &mut rows, &mut out, gate,
+    );
+    match shared {
+        Err(Halt::Memory(why)) => Err(why),
+        Err(Halt::Sink) => unreachable!(),
+        Ok((end, log)) => Ok(Taken {
+            end,
+            rows: rows.into_rows(),
+            log,
+        }),
+    }
+}
+
+// Whether four keys shared by one worker have that log.
 fn logged<W: Threads + Wait + Sync + Abort>(rt: &W, alloc: Global) -> Result<bool, NoMemory> {
     let survey = keys(rt, alloc, 4, 9)?;
-    let span = below_one(alloc)?;
-    let logged = list_traced(rt, alloc, &survey, span, 1, &OpenGate)?;
-    Ok(is_listing(&logged.listing, 4, 4) && is_alone(logged.log.as_slice()))
+    let taken = take_all(rt, alloc, &survey, 1, None, &OpenGate)?;
+    Ok(is_alone(taken.log.as_slice()))
 }
 
 #[test]
@@ -178,7 +220,7 @@ fn log_of_one(rt: HostRuntime) -> Result<(), Fail> {
     Ok(())
 }
 
-// Whether so many workers list so many keys, of which one is spent, behind an unruly gate; and where none is spent, no key
+// Whether so many workers list so many keys, of which one is spent, with an unruly gate; and where none is spent, no key
 // was scanned twice.
 fn listed<W: Threads + Wait + Sync + Abort + Clock>(
     rt: &W,

@@ -1,15 +1,16 @@
 -- Nodes that are added to those that were found.
-use Rattle.std.proofs.Common.{◌≡◌, ◌≢◌, refl, sym, ap, ◌∙◌, subst, ℕ, zero, suc, ◌+◌, ◌<◌, ◌≤◌, Bool, true, false, cond, List, [], ◌∷◌, ◌++◌, length, take, get_or, All, arith, length-append, ◌⊎◌, inl, inr}
+use Rattle.std.proofs.Common.{◌≡◌, ◌≢◌, refl, sym, ap, ◌∙◌, subst, ℕ, zero, suc, ◌+◌, ◌<◌, ◌≤◌, Bool, true, false, List, [], ◌∷◌, ◌++◌, length, get_or, arith, ◌⊎◌, inl, inr}
 use Rattle.std.proofs.Math.ListN.{set}
 use Rattle.std.proofs.lemmas.List.{get_or-set_other}
 use Rattle.std.proofs.lemmas.List.Sums.{sum_by-set, sum_by-le}
-use Rattle.std.proofs.lemmas.List.Elements.{All-cons, All-nil, All-push, All-more, All-contains, All-contains_itself, All-weaker, Contains-append_left, Contains-append_right, Contains-append_cases, Contains-get_or, Contains-push, Contains-push_cases}
+use Rattle.std.proofs.lemmas.List.Elements.{All-cons, All-nil, All-push, All-contains, All-contains_itself, All-weaker, Contains-append_left, Contains-append_right, Contains-push}
 use Rattle.std.specs.Prelude.{Contains, Some, slice_get}
 use Rattle.kr_ast.specs.Arena.{Arena}
 use Rattle.kr_ast.specs.declared.files.NodeId.{NodeId}
 use Rattle.kr_ast.specs.Files.{IsNode}
 use Rattle.kr_pure.specs.declared.found.Found.{Found}
-use Rattle.kr_pure.specs.Found.{AreFound, IsAdded, all_entries, marked, number_of, one_if}
+use Rattle.kr_pure.specs.Found.{AreFound, IsAdded, marked, number_of, one_if}
+use Rattle.kr_types.specs.Programs.{all_entries}
 use Rattle.kr_pure.proofs.Numbers.{one_node}
 
 -- no more are marked than there are marks
@@ -30,7 +31,7 @@ same_or_not zero (suc n) = inr (λ e. omega (arith, e))
 same_or_not (suc m) zero = inr (λ e. omega (arith, e))
 same_or_not (suc m) (suc n) = elim (same_or_not m n) [ inl e ↦ inl (ap suc e) | inr f ↦ inr (λ e. f (omega (arith, e))) ]
 
--- what is marked after a node is found was found
+-- a node that is marked after one is found was found
 pub known_more : (files : List Arena) (marks : List Bool) (nodes : List NodeId) (at : NodeId) → IsNode files at → ((n : NodeId) → IsNode files n → get_or marks (number_of files n) false ≡ true → Contains nodes n)
     → (n : NodeId) → IsNode files n → get_or (set marks (number_of files at) true) (number_of files n) false ≡ true → Contains (nodes ++ at ∷ []) n
 known_more files marks nodes at here known n there e = go (same_or_not (number_of files n) (number_of files at))
@@ -72,7 +73,7 @@ none_added nodes = record {
   from = All-weaker (Contains nodes) (λ x. Contains nodes x ⊎ Contains [] x) (λ x c. inl c) nodes (All-contains_itself nodes);
 }
 
--- where a node stands
+-- the place of a node
 at_some : (xs : List NodeId) (k : ℕ) (n : NodeId) → k < length xs → get_or xs k n ≡ n → slice_get xs k ≡ Some n
 at_some [] k n l e = absurd (omega (arith, l))
 at_some (x ∷ xs) zero n l e = ap Some e
@@ -89,7 +90,7 @@ contains_at xs k n e = let r = some_at xs k n e in (k, r.0, r.1)
 pub at_contained : (xs : List NodeId) (n : NodeId) → Contains xs n → (k : ℕ) × (slice_get xs k ≡ Some n)
 at_contained xs n c = (c.0, at_some xs c.0 n c.1 c.2)
 
--- what was found stays found
+-- found nodes stay found
 pub stays : (old more new : List NodeId) → IsAdded old more new → (n : NodeId) → Contains old n → Contains new n
 stays old more new a n c = let k = at_contained old n c in contains_at new k.0 n (a.kept k.0 n k.1)
 

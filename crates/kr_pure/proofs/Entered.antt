@@ -7,13 +7,13 @@ use Rattle.std.proofs.lemmas.List.{take_more}
 use Rattle.std.proofs.lemmas.List.Elements.{All-nil, All-cons, All-append}
 use Rattle.kr_ast.specs.Tree.{Tree}
 use Rattle.kr_classes_table.specs.Types.{JavaType}
-use Rattle.kr_classes_table.specs.Table.{Constructor, Field, Method, items, own_fields}
+use Rattle.kr_classes_table.specs.Table.{Constructor, Field, Method, items, own_fields, is_instance}
 use Rattle.kr_types_meaning.specs.Scopes.{Scope, in_contract}
 use Rattle.kr_ast.specs.declared.files.NodeId.{NodeId}
 use Rattle.kr_types_meaning.specs.Running.{running}
 use Rattle.kr_types.specs.declared.program.Program.{Program}
 use Rattle.kr_mean.specs.Program as meaning
-use Rattle.kr_mean.specs.Program.{class_scope, constructor_of, constructor_scope, instance_only, method_scope, program_with}
+use Rattle.kr_mean.specs.Program.{class_scope, constructor_of, constructor_scope, method_scope, program_with}
 use Rattle.kr_mean.specs.Code.{Node, code, code_of_all, code_of_class, code_of_constructor, code_of_method}
 use Rattle.kr_mean.specs.Runs.{contract_nodes}
 use Rattle.kr_pure.proofs.Nodes.{maybe, statements, super_call}
@@ -24,7 +24,7 @@ use Rattle.kr_code_members.specs.declared.nodes.ConstructorNode.{ConstructorNode
 use Rattle.kr_code_members.specs.declared.nodes.FieldNode.{FieldNode}
 use Rattle.kr_code_members.specs.declared.nodes.MethodNode.{MethodNode}
 use Rattle.kr_code_members.specs.declared.nodes.MemberNodes.{MemberNodes}
-use Rattle.kr_classes_roster.specs.Rosters.{all_methods, method_numbered}
+use Rattle.kr_classes_members.specs.Rosters.{all_methods, method_numbered}
 use Rattle.std.proofs.lemmas.Option.{slice_get_read}
 use Rattle.kr_pure.specs.declared.conditions.Side.{Side}
 use Rattle.kr_pure.specs.Entries.{Enter, IsEntry, class_entries, code_at, constructor_entries, initial_entry, line_code, part_of, stated}
@@ -42,7 +42,7 @@ both_entered p xs ys es fs a b = record {
 pub one_entered : (p : Program) (e : NodeId) (ns : List Node) → IsEntry p e → code_at p e ≡ ns → Enter p ns (e ∷ [])
 one_entered p e ns h is = record { stand = All-cons (IsEntry p) e [] h (All-nil (IsEntry p)); code = append-nil (code_at p e) ∙ is }
 
--- the same code, at the same entries
+-- equal code, at equal entries
 pub entered_same : (p : Program) (xs ys : List Node) (es : List NodeId) → xs ≡ ys → Enter p xs es → Enter p ys es
 entered_same p xs ys es e h = subst (λ (zs : List Node). Enter p zs es) e h
 
@@ -67,7 +67,7 @@ module _ (p : Program) (arrays : List JavaType) where
 
   -- ---- classes
 
-  initial_entered : (f : Field) (n : FieldNode) → IsFieldNode p f n → Enter p (flat_map (λ (g : Field). code (class_scope mean g.class) g.initial) (instance_only f)) (initial_entry n)
+  initial_entered : (f : Field) (n : FieldNode) → IsFieldNode p f n → Enter p (flat_map (λ (g : Field). code (class_scope mean g.class) g.initial) (is_instance f)) (initial_entry n)
   initial_entered f n h = go f.is_static refl
     where
       go : (b : Bool) → f.is_static ≡ b → Enter p (flat_map (λ (g : Field). code (class_scope mean g.class) g.initial) (if b then [] else f ∷ [])) (if n.is_static then [] else record { file = n.file; node = n.initial } ∷ [])
@@ -79,13 +79,13 @@ module _ (p : Program) (arrays : List JavaType) where
           subst (λ (b : Bool). Enter p (code (class_scope mean f.class) f.initial ++ []) (if b then [] else record { file = n.file; node = n.initial } ∷ [])) (sym (h.is_static ∙ e))
           (one_entered p (record { file = n.file; node = n.initial }) (code (class_scope mean f.class) f.initial ++ []) entry same)
 
-  initials_entered : (fs : List Field) (ns : List FieldNode) → AllZip (IsFieldNode p) fs ns → Enter p (flat_map (λ (g : Field). code (class_scope mean g.class) g.initial) (flat_map instance_only fs)) (flat_map initial_entry ns)
+  initials_entered : (fs : List Field) (ns : List FieldNode) → AllZip (IsFieldNode p) fs ns → Enter p (flat_map (λ (g : Field). code (class_scope mean g.class) g.initial) (flat_map is_instance fs)) (flat_map initial_entry ns)
   initials_entered [] [] h = none_entered p
   initials_entered [] (n ∷ ns) h = absurd h
   initials_entered (f ∷ fs) [] h = absurd h
   initials_entered (f ∷ fs) (n ∷ ns) h =
-      entered_same p _ _ _ (sym (flat_map-append (λ (g : Field). code (class_scope mean g.class) g.initial) (instance_only f) (flat_map instance_only fs)))
-      (both_entered p (flat_map (λ (g : Field). code (class_scope mean g.class) g.initial) (instance_only f)) (flat_map (λ (g : Field). code (class_scope mean g.class) g.initial) (flat_map instance_only fs)) (initial_entry n) (flat_map initial_entry ns)
+      entered_same p _ _ _ (sym (flat_map-append (λ (g : Field). code (class_scope mean g.class) g.initial) (is_instance f) (flat_map is_instance fs)))
+      (both_entered p (flat_map (λ (g : Field). code (class_scope mean g.class) g.initial) (is_instance f)) (flat_map (λ (g : Field). code (class_scope mean g.class) g.initial) (flat_map is_instance fs)) (initial_entry n) (flat_map initial_entry ns)
       (initial_entered f n h.0) (initials_entered fs ns h.1))
 
   constructor_entered : (c : ℕ) (k : Constructor) (n : ConstructorNode) → IsConstructorNode p c k n → Enter p (code_of_constructor mean c k) (constructor_entries (Some n))
@@ -107,7 +107,7 @@ module _ (p : Program) (arrays : List JavaType) where
 
   pub class_entered : (c : ℕ) (n : ClassNodes) → IsClassNodes p c n → Enter p (code_of_class mean c) (class_entries n)
   class_entered c n h =
-      both_entered p (flat_map (λ (f : Field). code (class_scope mean f.class) f.initial) (flat_map instance_only (own_fields (table p) c))) (flat_map (code_of_constructor mean c) (option_to_list (constructor_of mean c))) (flat_map initial_entry n.fields.items) (constructor_entries n.constructor)
+      both_entered p (flat_map (λ (f : Field). code (class_scope mean f.class) f.initial) (flat_map is_instance (own_fields (table p) c))) (flat_map (code_of_constructor mean c) (option_to_list (constructor_of mean c))) (flat_map initial_entry n.fields.items) (constructor_entries n.constructor)
       (initials_entered (own_fields (table p) c) n.fields.items h.fields) (maybe_constructor_entered c (constructor_of mean c) n.constructor h.constructor)
 
   -- ---- contracts
@@ -142,7 +142,7 @@ more_code g before xs i d l =
 pub no_code : (p : Program) (before : List Node) (es : List NodeId) → Enter p before es → Enter p (before ++ []) es
 no_code p before es h = entered_same p before (before ++ []) es (sym (append-nil before)) h
 
--- what is added for one more is said of any code before it
+-- the claim for one more, after any code
 pub one_more_after : {A : Type 0} (p : Program) (g : A → List Node) (before : List Node) (xs : List A) (i : ℕ) (d : A) (old new : List NodeId) → i < length xs → ((ns : List Node) → Enter p ns old → Enter p (ns ++ g (get_or xs i d)) new)
     → Enter p (before ++ flat_map g (take i xs)) old → Enter p (before ++ flat_map g (take (i + 1) xs)) new
 one_more_after p g before xs i d old new l h k = entered_same p _ _ new (sym (more_code g before xs i d l)) (h (before ++ flat_map g (take i xs)) k)

@@ -17,7 +17,7 @@ some [] i l = absurd (omega (arith, l))
 some (x ∷ xs) zero l = (x, refl)
 some (x ∷ xs) (suc i) l = some xs i (omega (arith, l))
 
--- what is known of a file that is there
+-- a file that is there
 pub record IsFile (p : Program) (f : ℕ) (t : TypedFile) : Type 0 where
   pub at : slice_get p.files.items f ≡ Some t
   pub typed : IsTypedFile p.trees.items p.table.types f t

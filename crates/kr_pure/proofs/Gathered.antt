@@ -95,7 +95,7 @@ comes_none s t n h = absurd h
 pub none : (s : Scope) (t : Tree) → steps_of t ≡ [] → code (running s) t ≡ run_of (record { scope = s; tree = t }) ∷ [] → IsSeen s t
 none s t p e = seen s t [] [] p (covers_none s t) (comes_none s t) e
 
--- what is no code
+-- nodes that are no code
 pub nothing : (s : Scope) (t : Tree) → steps_of t ≡ [] → code (running s) t ≡ [] → (IsActing t → ⊥) → IsSeen s t
 nothing s t p e not = seen_through s t [] [] p (covers_none s t) (comes_none s t) e not
 

@@ -1,7 +1,7 @@
 -- Members of lists.
 use Rattle.std.proofs.Common.{◌≡◌, refl, sym, ap, subst, ℕ, zero, suc, ◌≤◌, List, [], ◌∷◌, ◌++◌, length, take, All, arith, ◌⊎◌, inl, inr}
-use Rattle.std.proofs.lemmas.List.Elements.{All-nil, All-cons, All-head, All-tail}
-use Rattle.std.specs.Prelude.{Contains, Some, map, slice_get, flat_map}
+use Rattle.std.proofs.lemmas.List.Elements.{All-head, All-tail}
+use Rattle.std.specs.Prelude.{Contains, Some, slice_get, flat_map}
 use Rattle.kr_mean.specs.Purity.{IsOneOf}
 
 pub one_left : {A : Type 0} (n : A) (xs ys : List A) → IsOneOf n xs → IsOneOf n (xs ++ ys)
@@ -24,7 +24,7 @@ contains_here x xs = (0, omega arith, refl)
 pub contains_behind : {A : Type 0} (x y : A) (xs : List A) → Contains xs y → Contains (x ∷ xs) y
 contains_behind x y xs c = (suc c.0, (let l = c.1 in omega arith), c.2)
 
--- what is in the lists of several is in the list of one of them
+-- an element of the lists of several is in the list of one of them
 pub one_of_part : {A B : Type 0} (f : A → List B) (xs : List A) (n : B) → IsOneOf n (flat_map f xs) → (x : A) × Contains xs x × IsOneOf n (f x)
 one_of_part f [] n h = absurd h
 one_of_part f (x ∷ xs) n h = go (one_of_two n (f x) (flat_map f xs) h) (one_of_part f xs n)
@@ -43,10 +43,6 @@ pub all_at : {A : Type 0} (P : A → Type 0) (xs : List A) (k : ℕ) (x : A) →
 all_at P [] k x a e = absurd (cc)
 all_at P (y ∷ xs) zero x a e = let same : y ≡ x = cc in subst P same (All-head P y xs a)
 all_at P (y ∷ xs) (suc k) x a e = all_at P xs k x (All-tail P y xs a) e
-
-pub unmapped : {A B : Type 0} (f : A → B) (P : B → Type 0) (xs : List A) → All P (map f xs) → All (λ x. P (f x)) xs
-unmapped f P [] a = All-nil (λ x. P (f x))
-unmapped f P (x ∷ xs) a = All-cons (λ y. P (f y)) x xs (All-head P (f x) (map f xs) a) (unmapped f P xs (All-tail P (f x) (map f xs) a))
 
 pub take_past : {A : Type 0} (xs : List A) (n : ℕ) → length xs ≤ n → take n xs ≡ xs
 take_past [] zero l = refl

@@ -3,7 +3,8 @@ use Rattle.std.proofs.Common.{◌≡◌, refl, ap, ◌∙◌, ℕ, zero, suc, �
 use Rattle.kr_ast.specs.Arena.{Arena}
 use Rattle.kr_ast.specs.declared.files.NodeId.{NodeId}
 use Rattle.kr_ast.specs.Files.{IsNode, file_at}
-use Rattle.kr_pure.specs.Found.{all_entries, number_of}
+use Rattle.kr_pure.specs.Found.{number_of}
+use Rattle.kr_types.specs.Programs.{all_entries}
 
 -- the nodes of one file more
 pub one_more : (files : List Arena) (f : ℕ) → f < length files → length (all_entries (take (f + 1) files)) ≡ length (all_entries (take f files)) + length (file_at files f).entries

@@ -1,4 +1,4 @@
--- What a walk that has come to its end has seen is the predicate's code.
+-- A completed walk has seen exactly the predicate's code.
 use Rattle.std.proofs.Common.{◌≡◌, sym, ap, ◌∙◌, subst, ℕ, List, All}
 use Rattle.std.proofs.lemmas.List.Elements.{All-contains, All-weaker}
 use Rattle.std.specs.Prelude.{Contains, Some, slice_get}
@@ -21,7 +21,7 @@ use Rattle.kr_pure.specs.Reach.{AreArenas, ArePredicateCode, IsBelow, IsFollowed
 use Rattle.kr_pure.proofs.Lists.{all_at, one_of_part}
 use Rattle.kr_pure.proofs.Files.{all_file, file_there}
 
--- the walk has come to its end
+-- the walk is complete
 pub record IsReached (problem : Problem) (found : List NodeId) : Type 0 where
   pub there : All (λ n. IsThere problem.program n.file n.node) found
   pub roots : (entries : List NodeId) × Enter problem.program (roots (posed problem)) entries × All (Contains found) entries

@@ -28,9 +28,10 @@ use Rattle.kr_pure.specs.Found.{IsAdded}
 use Rattle.kr_pure.proofs.Adding.{at_contained, contains_at, stays}
 use Rattle.kr_pure.specs.Entries.{Enter, IsEntry, code_at, node_of}
 use Rattle.kr_pure.specs.Reach.{AreArenas, IsBelow, IsFollowed, IsStep, beside}
-use Rattle.kr_pure.proofs.Lists.{part_of_all, unmapped}
+use Rattle.kr_pure.proofs.Lists.{part_of_all}
 use Rattle.kr_pure.proofs.Files.{all_file, file_there, some}
 use Rattle.kr_pure.proofs.Reached.{runs}
+use Rattle.kr_code_members.proofs.Zipped.{unmapped}
 
 -- ---- parts
 
@@ -38,7 +39,7 @@ below_all : (es : List Entry) (i k : ℕ) (cs : List ℕ) → ArePartsFrom es i 
 below_all es i k [] h = All-nil (λ c. c < i)
 below_all es i k (c ∷ cs) h = All-cons (λ c. c < i) c cs h.0.below (below_all es i (k + 1) cs h.1)
 
--- the parts that the walk goes into stand before the node
+-- the parts that the walk goes into come before the node
 pub parts_below : (es : List Entry) (i : ℕ) (n : AstNode) → ArePartsFrom es i 0 (parts n) → All (λ c. c < i) (walk_parts n)
 parts_below es i (nodes.GenericType a b) h = All-nil (λ c. c < i)
 parts_below es i (nodes.DiamondType a) h = All-nil (λ c. c < i)
@@ -92,7 +93,7 @@ module _ (problem : Problem) (is : IsPosed problem) (arenas : AreArenas problem.
         on = refl;
       }
 
-  -- what a node of the predicate's code runs is of the predicate's code
+  -- code that a node of the predicate's code runs is of the predicate's code
   run_below : (n : NodeId) (entries : List NodeId) → IsBelow problem n → Enter problem.program (code_run (posed problem).program (node_of problem.program n)) entries → All (IsBelow problem) entries
   run_below n entries b enter =
       let program = (posed problem).program in
@@ -126,7 +127,7 @@ module _ (problem : Problem) (is : IsPosed problem) (arenas : AreArenas problem.
       from b all m (inl c) = middle b all m (All-contains (λ x. Contains old x ⊎ Contains (map (beside n) (walk_parts e.node)) x) mid m first.from c)
       from b all m (inr c) = All-contains (IsBelow problem) entries m (run_below n entries b enter) c
 
--- what is followed stays followed when more is found
+-- a followed node stays followed when more is found
 pub followed_stays : (problem : Problem) (old new : List NodeId) (n : NodeId) → ((m : NodeId) → Contains old m → Contains new m) → IsFollowed problem old n → IsFollowed problem new n
 followed_stays problem old new n kept h = record {
   parts = λ e at. All-weaker (λ c. Contains old (beside n c)) (λ c. Contains new (beside n c)) (λ c. kept (beside n c)) (walk_parts e.node) (h.parts e at);

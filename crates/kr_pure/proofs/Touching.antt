@@ -1,5 +1,5 @@
 -- Nodes that touch candidates.
-use Rattle.std.proofs.Common.{◌≡◌, refl, sym, ap, ◌∙◌, subst, ℕ, Bool, true, false, List, [], ◌∷◌, ◌++◌, nat_lt, rules, arith, ◌⊎◌, inl, inr}
+use Rattle.std.proofs.Common.{◌≡◌, refl, sym, ap, ◌∙◌, subst, ℕ, Bool, true, false, List, [], ◌∷◌, ◌++◌, rules, arith, ◌⊎◌, inl, inr}
 use Rattle.std.proofs.lemmas.List.Elements.{All-contains, All-push, Contains-append_left, Contains-push, Contains-push_cases}
 use Rattle.std.specs.Prelude.{Contains, Option, Some, None, if◌then◌else◌}
 use Rattle.kr_base.specs.declared.place.Place.{Place}
@@ -9,7 +9,7 @@ use Rattle.kr_ast.specs.Arena.{tree_of}
 use Rattle.kr_ast.specs.Tree as trees
 use Rattle.kr_ast.specs.Tree.{Tree}
 use Rattle.kr_value.specs.declared.object.Class.{Class}
-use Rattle.kr_classes_table.specs.Rules.{is_earlier, less_or}
+use Rattle.kr_classes_table.specs.Rules.{is_earlier}
 use Rattle.kr_types_meaning.specs.Scopes.{Scope}
 use Rattle.kr_ast.specs.declared.files.NodeId.{NodeId}
 use Rattle.kr_mean.specs.Program.{Program}
@@ -23,14 +23,9 @@ use Rattle.kr_pure_effects.specs.Nodes.{TouchesCandidates}
 use Rattle.kr_pure.specs.Entries.{node_of}
 use Rattle.kr_pure.specs.Reach.{ArePredicateCode}
 use Rattle.kr_pure.specs.Touched.{IsFirstTouch, IsLeastTouch, IsTouchAt, sooner}
+use Rattle.kr_classes_table.proofs.Order.{number, level}
 
 -- ---- places
-
-number : (a b c : ℕ) → nat_lt a b ≡ false → nat_lt b c ≡ false → nat_lt a c ≡ false
-number a b c p q = grind (arith, rules)
-
-level : (a b c : ℕ) (r s t : Bool) → (r ≡ false → s ≡ false → t ≡ false) → less_or a b r ≡ false → less_or b c s ≡ false → less_or a c t ≡ false
-level a b c r s t k p q = grind (arith, rules, k)
 
 irreflexive : (p : Place) → is_earlier p p ≡ false
 irreflexive p = grind (arith, rules)
@@ -41,9 +36,9 @@ asymmetric p q b = grind (arith, rules)
 onwards : (p q r : Place) → is_earlier p q ≡ false → is_earlier q r ≡ false → is_earlier p r ≡ false
 onwards p q r = level p.file q.file r.file _ _ _ (level p.line q.line r.line _ _ _ (number p.col q.col r.col))
 
--- ---- what touches
+-- ---- nodes that touch something
 
--- what touches something stands where its node says
+-- the place of a node that touches something
 pub touch_stands : (program : Program) (s : Scope) (text : List ℕ) (look : ℕ → Tree) (p : Place) (n : AstNode) (class : Class) → may_touch program s (tree_of text look p n) class ≡ true → touch_place (tree_of text look p n) ≡ p ∷ []
 touch_stands program s text look p (nodes.Assignment a b) class h = refl
 touch_stands program s text look p (nodes.CompoundAssignment o a b) class h = refl
@@ -127,7 +122,7 @@ module _ (problem : Problem) where
               h.first c.0 p c.1 (subst (λ (m : Node). TouchesCandidates (posed problem) m) c.2 impure.1, ap (λ (m : Node). touch_place m.tree) (sym c.2) ∙ at);
         }
 
--- what the test of a node says of it
+-- the test of a node
 pub tested_none : (problem : Problem) (n : NodeId) (m : Node) → m ≡ node_of problem.program n → (TouchesCandidates (posed problem) m → ⊥) → IsTouchAt problem n None
 tested_none problem n m e h = subst (λ (k : Node). TouchesCandidates (posed problem) k → ⊥) e h
 

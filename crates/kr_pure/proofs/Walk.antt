@@ -1,4 +1,4 @@
--- The walk over a tree's nodes by their numbers sees what stands on paths.
+-- The walk over a tree's nodes by their numbers sees the nodes on paths.
 use Rattle.std.proofs.Common.{◌≡◌, refl, sym, ap, ◌∙◌, subst, ℕ, zero, suc, ◌+◌, ◌<◌, List, [], ◌∷◌, ◌++◌, length, map, arith}
 use Rattle.std.specs.Prelude.{Option, Some, None, option_and_then, slice_get}
 use Rattle.std.proofs.lemmas.Option.{slice_get-map, slice_get_within}
@@ -79,7 +79,7 @@ module _ (g : Setting) (bs : List Binding) (ws : List Within) (a : IsArena g.tre
     );
   }
 
-  -- where a set of nodes has with a node the parts that the walk goes into, it has what stands on paths
+  -- a set of nodes that has with a node the parts that the walk goes into has the nodes on paths
   pub reached : (P : ℕ → Type 0) → ((i j c : ℕ) (e : Entry) → P i → slice_get g.tree.entries i ≡ Some e → slice_get (walk_parts e.node) j ≡ Some c → P c)
       → (path : List ℕ) (r : ℕ) (m : Node) → P r → r < length g.tree.entries → node_on (scope_at g bs ws r) (tree_in g.tree r) path ≡ Some m → (i : ℕ) × P i × (m ≡ node_at g bs ws i)
   reached P closed [] r m p lt e = (r, p, (let z : node_at g bs ws r ≡ m = cc in sym z))

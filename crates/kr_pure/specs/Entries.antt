@@ -43,7 +43,7 @@ abbrev pub constructor_entries : Option ConstructorNode → List NodeId
 constructor_entries None = []
 constructor_entries (Some k) = record { file = k.file; node = k.super_call } ∷ record { file = k.file; node = k.body } ∷ []
 
--- what the creation of an object runs of a class
+-- the code of a class that a creation runs
 abbrev pub class_entries : ClassNodes → List NodeId
 class_entries k = flat_map initial_entry k.fields.items ++ constructor_entries k.constructor
 
@@ -58,7 +58,7 @@ abbrev pub stated : Side → Tree → List Tree
 stated sides.Required t = required_in t
 stated sides.Ensured t = ensured_in t
 
--- the code of the conditions of that side in a line that stands in a scope
+-- the code of the conditions of that side in a line, in a scope
 abbrev pub line_code : Side → Scope → Tree → List Node
 line_code side s t = flat_map (λ e. code (in_contract (part_of side) s) e) (stated side t)
 

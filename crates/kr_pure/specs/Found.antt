@@ -1,14 +1,10 @@
 -- Between crates: nodes of files that are found one after another, each once.
-use Rattle.std.specs.Prelude.{◌≡◌, flat_map, ℕ, ◌+◌, Bool, true, false, List, length, take, All, Contains, Some, slice_get, slice_index_or, sum_by, cond, ◌⊎◌}
-use Rattle.kr_ast.specs.declared.node.Entry.{Entry}
+use Rattle.std.specs.Prelude.{◌≡◌, ℕ, ◌+◌, Bool, true, false, List, length, take, All, Contains, Some, slice_get, slice_index_or, sum_by, cond, ◌⊎◌}
 use Rattle.kr_ast.specs.Arena.{Arena}
 use Rattle.kr_ast.specs.declared.files.NodeId.{NodeId}
 use Rattle.kr_ast.specs.Files.{IsNode}
 use Rattle.kr_pure.specs.declared.found.Found.{Found}
-
--- the nodes of all files, file by file
-abbrev pub all_entries : List Arena → List Entry
-all_entries files = flat_map (λ a. a.entries) files
+use Rattle.kr_types.specs.Programs.{all_entries}
 
 -- a node's number among those of all files
 abbrev pub number_of : List Arena → NodeId → ℕ
@@ -28,7 +24,7 @@ pub record AreFound (files : List Arena) (f : Found) : Type 0 where
   pub count : length f.nodes.items ≡ marked f.marks.items
   pub known : (n : NodeId) → IsNode files n → slice_index_or f.marks.items (number_of files n) false ≡ true → Contains f.nodes.items n
 
--- These are there as well; what stood stays where it was, and nothing else came.
+-- These are there as well; earlier ones keep their positions, and no others are added.
 pub record IsAdded (old more new : List NodeId) : Type 0 where
   pub kept : (k : ℕ) (n : NodeId) → slice_get old k ≡ Some n → slice_get new k ≡ Some n
   pub there : All (Contains new) more

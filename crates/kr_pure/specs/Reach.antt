@@ -26,7 +26,7 @@ beside n i = record { file = n.file; node = i }
 abbrev pub RunsNothing : AstNode → Type 0
 RunsNothing n = (program : Program) (s : Scope) (text : List ℕ) (look : ℕ → Tree) (p : Place) → code_run program (record { scope = s; tree = tree_of text look p n }) ≡ []
 
--- A walk comes to the node from an entry of the predicate's code.
+-- A walk reaches the node from an entry of the predicate's code.
 pub record IsBelow (problem : Problem) (n : NodeId) : Type 0 where
   pub from : ℕ
   pub entry : IsEntry problem.program (beside n from)

@@ -10,7 +10,7 @@ use Rattle.kr_mean.specs.Code.{Node, code}
 use Rattle.kr_mean.specs.Purity.{IsOneOf}
 use Rattle.kr_laws_shapes.specs.Shapes.{AreExpressions, AreStatements, IsExpression, MayBeExpression, MayCallSuper}
 
--- the parts that a walk goes into: what stands in a type is no code
+-- the parts that a walk goes into: nodes in a type are no code
 abbrev pub steps_of : Tree → List Tree
 steps_of (trees.GenericType p h a) = []
 steps_of (trees.DiamondType p h) = []
@@ -26,7 +26,7 @@ node_on s t (j ∷ js) = option_and_then (λ u. node_on (handed s t j) u js) (sl
 abbrev pub run_of : Node → Node
 run_of m = record { scope = running m.scope; tree = m.tree }
 
--- what may write, create or call
+-- nodes that may write, create or call
 abbrev pub IsActing : Tree → Type 0
 IsActing (trees.Assignment p a e) = Unit {0}
 IsActing (trees.CompoundAssignment p o a e) = Unit {0}

@@ -19,7 +19,7 @@ sooner None o = o
 sooner (Some p) None = Some p
 sooner (Some p) (Some q) = if is_earlier q p then Some q else Some p
 
--- the node touches candidates, and stands there; or it touches none
+-- the node touches candidates, and is at this place; or it touches none
 abbrev pub IsTouchAt : Problem → NodeId → Option Place → Type 0
 IsTouchAt problem n None = TouchesCandidates (posed problem) (node_of problem.program n) → ⊥
 IsTouchAt problem n (Some p) = TouchesCandidates (posed problem) (node_of problem.program n) × (touch_place (node_tree problem.program n.file n.node) ≡ p ∷ [])
@@ -35,7 +35,7 @@ abbrev pub IsFirstTouch : Problem → List NodeId → Option Place → Type 0
 IsFirstTouch problem nodes None = All (λ n. IsTouchAt problem n None) nodes
 IsFirstTouch problem nodes (Some p) = IsLeastTouch problem nodes p
 
--- the place is that of the first node that isn't pure; want of memory is free
+-- the place is that of the first node that isn't pure; out of memory is possible at any time
 abbrev pub Refuses : problems.Problem → PureRefusal → Type 0
 Refuses problem (Impure place) = IsFirstImpure problem place
 Refuses problem (NoMemory why) = Unit {0}

@@ -25,11 +25,11 @@ walk_parts n = parts n
 abbrev pub node_at : Setting → List Binding → List Within → ℕ → Node
 node_at g bs ws i = record { scope = scope_at g bs ws i; tree = tree_in g.tree i }
 
--- the node i stands on a path from the node r
+-- the node i is on a path from the node r
 abbrev pub IsOnPath : Setting → List Binding → List Within → ℕ → ℕ → Type 0
 IsOnPath g bs ws r i = (path : List ℕ) × (node_on (scope_at g bs ws r) (tree_in g.tree r) path ≡ Some (node_at g bs ws i))
 
--- A node stands on a path from itself, and with a node the parts that the walk goes into.
+-- A node is on a path from itself, and so are with a node the parts that the walk goes into.
 pub record IsWalked (g : Setting) (bs : List Binding) (ws : List Within) : Type 0 where
   pub root : (r : ℕ) → IsOnPath g bs ws r r
   pub onward : (r i j c : ℕ) (e : Entry) → IsOnPath g bs ws r i → slice_get g.tree.entries i ≡ Some e → slice_get (walk_parts e.node) j ≡ Some c → IsOnPath g bs ws r c

@@ -14,7 +14,7 @@ use kr_code_members::list_nodes;
 use kr_types::Program;
 use std::alloc::Global;
 
-/// The conditions that hold before a call, or those that hold behind it.
+/// The conditions that hold before a call, or those that hold after it.
 #[derive(Clone, Copy)]
 pub(crate) enum Side {
     Required,

@@ -2,7 +2,8 @@
 ghost use Rattle.std.specs.Prelude.{◌≡◌, ◌<◌, ◌^◌, ◌∷◌, [], All, IfOk, length};
 ghost use Rattle.kr_ast.specs.Arena.{IsArena};
 ghost use Rattle.kr_ast.specs.Files.{IsNode};
-ghost use Rattle.kr_pure.specs.Found.{AreFound, IsAdded, all_entries, number_of};
+ghost use Rattle.kr_pure.specs.Found.{AreFound, IsAdded, number_of};
+ghost use Rattle.kr_types.specs.Programs.{all_entries};
 
 use kr_ast::{NodeId, Tree, tree_of};
 use kr_base::NoMemory;

@@ -27,7 +27,7 @@ pub fn super_law()
     ensures { SuperLaw }
 {}
 
-/// A walk over the nodes of a tree by the numbers of their parts sees exactly what stands on paths, each in its scope.
+/// A walk over the nodes of a tree by the numbers of their parts sees exactly the nodes on paths, each in its scope.
 pub fn walk_law()
     ensures { WalkLaw }
 {}

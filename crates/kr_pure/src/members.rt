@@ -1,7 +1,7 @@
 // The entries of what may be run: the bodies of methods, and what creations run of classes.
 ghost use Rattle.std.specs.Prelude.{◌≡◌, ◌<◌, ◌++◌, List, All, IfOk, flat_map, length, map};
 ghost use Rattle.kr_classes_table.specs.Types.{JavaType};
-ghost use Rattle.kr_classes_roster.specs.Rosters.{all_methods, method_numbered};
+ghost use Rattle.kr_classes_members.specs.Rosters.{all_methods, method_numbered};
 ghost use Rattle.kr_mean.specs.Program.{program_with};
 ghost use Rattle.kr_mean.specs.Code.{Node as CodeNode, code_of_class, code_of_method};
 ghost use Rattle.kr_code_members.specs.Nodes.{AreMemberNodes, table};

@@ -1,17 +1,18 @@
 // Whether a problem is pure: whether no node of the predicate's code touches candidates.
 ghost use Rattle.std.specs.Prelude.{◌≡◌, All, IfOk, IfErr};
-ghost use Rattle.kr_classes_table.specs.Rules.{is_earlier as comes_before};
 ghost use Rattle.kr_mean.specs.Purity.{IsPure};
 ghost use Rattle.kr_code_members.specs.Nodes.{AreShaped, IsThere};
 ghost use Rattle.kr_space_problem.specs.Posed.{IsPosed, posed};
+ghost use Rattle.kr_space_problem.specs.Subjects.{IsSubject};
 ghost use Rattle.kr_pure.specs.declared.purity.PureRefusal.TheVariants.{NoMemory as Lacking};
 ghost use Rattle.kr_pure.specs.Touched.{IsFirstTouch, IsTouchAt, Refuses, sooner};
 
 use crate::reaching::predicate_nodes;
 use kr_ast::{NodeId, tree_of};
 use kr_base::{NoMemory, Place};
+use kr_classes_table::is_earlier;
 use kr_pure_effects::touches_candidates;
-use kr_space_problem::Problem;
+use kr_space_problem::{Problem, Subject};
 use std::alloc::Global;
 
 /// The problem was refused: the predicate's code creates an object that the finitization counts, or writes a field or an element
@@ -30,19 +31,6 @@ impl From<NoMemory> for PureRefusal {
     }
 }
 
-/// Whether a place comes before another: file, line, column.
-fn is_earlier(p: Place, q: Place) -> bool
-    ensures { result ≡ comes_before p q }
-{
-    if p.file != q.file {
-        return p.file < q.file;
-    }
-    if p.line != q.line {
-        return p.line < q.line;
-    }
-    p.col < q.col
-}
-
 /// The first of the places so far and one more, if there is one.
 fn sooner(first: Option<Place>, place: Option<Place>) -> Option<Place>
     ensures { result ≡ sooner first place }
@@ -54,7 +42,7 @@ fn sooner(first: Option<Place>, place: Option<Place>) -> Option<Place>
     }
 }
 
-/// Where a node stands, if it touches candidates.
+/// The place of a node, if it touches candidates.
 fn touch_at(problem: &Problem, at: NodeId) -> Result<Option<Place>, NoMemory>
     requires posed { IsPosed problem.now }
     requires node { IsThere problem.now.program at.file at.node }
@@ -81,16 +69,29 @@ fn first_touch(problem: &Problem, nodes: &[NodeId]) -> Result<Option<Place>, NoM
     Ok(first)
 }
 
-/// Tests that a problem is pure.
-pub fn pure(alloc: Global, problem: &Problem) -> Result<(), PureRefusal>
+/// Tests that a problem is pure, by its subject.
+fn test(alloc: Global, problem: &Problem, subject: &Subject) -> Result<(), PureRefusal>
     requires posed { IsPosed problem.now }
-    requires shaped { AreShaped problem.now.program }
+    requires subject { IsSubject problem.now subject.now }
     ensures pure { IfOk result (λ done. IsPure (posed problem.now)) }
     ensures impure { IfErr result (λ refusal. Refuses (posed problem.now) refusal) }
 {
-    let nodes = predicate_nodes(alloc, problem)?;
+    let nodes = predicate_nodes(alloc, problem, subject)?;
     match first_touch(problem, &nodes)? {
         None => Ok(()),
         Some(place) => Err(PureRefusal::Impure { place }),
     }
+}
+
+/// Tests that a problem is pure, and returns its subject.
+pub fn pure(alloc: Global, problem: &Problem) -> Result<Subject, PureRefusal>
+    requires posed { IsPosed problem.now }
+    requires shaped { AreShaped problem.now.program }
+    ensures pure { IfOk result (λ subject. IsPure (posed problem.now)) }
+    ensures subject { IfOk result (IsSubject problem.now) }
+    ensures impure { IfErr result (λ refusal. Refuses (posed problem.now) refusal) }
+{
+    let subject = Subject::of(alloc, problem)?;
+    test(alloc, problem, &subject)?;
+    Ok(subject)
 }

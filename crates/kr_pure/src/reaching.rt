@@ -5,8 +5,9 @@ ghost use Rattle.kr_ast.specs.Files.{IsNode};
 ghost use Rattle.kr_types.specs.Programs.{IsProgram};
 ghost use Rattle.kr_pure.specs.Walk.{walk_parts};
 ghost use Rattle.kr_pure.specs.Found.{AreFound, IsAdded};
-ghost use Rattle.kr_code_members.specs.Nodes.{AreMemberNodes, AreShaped, arena_at};
+ghost use Rattle.kr_code_members.specs.Nodes.{AreMemberNodes, arena_at};
 ghost use Rattle.kr_space_problem.specs.Posed.{IsPosed};
+ghost use Rattle.kr_space_problem.specs.Subjects.{IsSubject};
 ghost use Rattle.kr_pure.specs.Reach.{AreArenas, ArePredicateCode, IsBelow, IsStep, IsWalked, RunsNothing, beside};
 
 use crate::entries::entries_run;
@@ -14,12 +15,12 @@ use crate::roots::root_entries;
 use crate::{Found, count_nodes};
 use kr_ast::{Node, NodeId, Parts, tree_of};
 use kr_base::NoMemory;
-use kr_code_members::{MemberNodes, member_nodes};
-use kr_space_problem::Problem;
+use kr_code_members::MemberNodes;
+use kr_space_problem::{Problem, Subject};
 use kr_types::Program;
 use std::alloc::Global;
 
-/// The parts that the walk goes into: what stands in a type is no code.
+/// The parts that the walk goes into: nodes in a type are no code.
 fn walked_parts(node: Node) -> Parts
     ensures { result ≡ walk_parts node }
 {
@@ -115,18 +116,20 @@ fn walk_on(
 }
 
 /// The nodes of the predicate's code.
-pub fn predicate_nodes(alloc: Global, problem: &Problem) -> Result<Vec<NodeId>, NoMemory>
+pub fn predicate_nodes(
+    alloc: Global,
+    problem: &Problem,
+    subject: &Subject,
+) -> Result<Vec<NodeId>, NoMemory>
     requires posed { IsPosed problem.now }
-    requires shaped { AreShaped problem.now.program }
+    requires subject { IsSubject problem.now subject.now }
     ensures { IfOk result (λ nodes. ArePredicateCode problem.now nodes.items) }
 {
-    let program = &problem.program;
-    let trees = program.trees.as_slice();
-    let nodes = member_nodes(alloc, program)?;
+    let trees = problem.program.trees.as_slice();
     let count = count_nodes(trees);
     let mut found = Found::none(alloc, trees, count)?;
-    let entries = root_entries(alloc, problem, &nodes)?;
+    let entries = root_entries(alloc, problem, subject)?;
     found.add_all(trees, &entries)?;
-    walk_on(alloc, problem, &nodes, &mut found)?;
+    walk_on(alloc, problem, &subject.members, &mut found)?;
     Ok(found.into_nodes())
 }

@@ -1,14 +1,16 @@
 // The entries of the roots: the root's `repOk`, and the conditions of the method under test.
 ghost use Rattle.std.specs.Prelude.{◌≡◌, ◌<◌, ◌++◌, List, IfOk, IfSome, length, option_map, option_to_list, flat_map};
 ghost use Rattle.kr_classes_table.specs.Types.{JavaType};
-ghost use Rattle.kr_classes_roster.specs.Rosters.{all_methods, method_numbered};
+ghost use Rattle.kr_classes_members.specs.Rosters.{all_methods, method_numbered};
 ghost use Rattle.kr_types.specs.Programs.{IsProgram};
 ghost use Rattle.kr_mean.specs.Program.{program_with};
 ghost use Rattle.kr_mean.specs.Code.{Node as CodeNode, code, code_of_method};
-ghost use Rattle.kr_mean.specs.Runs.{contract_nodes, root_class};
+ghost use Rattle.kr_mean.specs.Runs.{contract_nodes};
 ghost use Rattle.kr_mean.specs.Purity.{contract_of, rep_ok_method, roots, tested};
 ghost use Rattle.kr_code_members.specs.Nodes.{AreMemberNodes, table};
+ghost use Rattle.kr_space_problem.specs.declared.problem.Problem.{Problem as Posing};
 ghost use Rattle.kr_space_problem.specs.Posed.{IsPosed, posed};
+ghost use Rattle.kr_space_problem.specs.Subjects.{IsSubject};
 ghost use Rattle.kr_pure.specs.Entries.{Enter, part_of, stated};
 
 use crate::conditions::{Side, add_conditions};
@@ -17,56 +19,24 @@ use kr_ast::NodeId;
 use kr_base::NoMemory;
 use kr_classes_table::MethodId;
 use kr_code_members::MemberNodes;
-use kr_mean::Mode;
-use kr_space_problem::Problem;
+use kr_space_problem::{Problem, Subject};
 use kr_types::Program;
-use kr_value::Class;
 use std::alloc::Global;
 
-/// The class of the root's objects.
-fn root_class(problem: &Problem) -> u32
-    ensures { result ≡ root_class (posed problem.now) }
-{
-    let layout = &problem.layout;
-    let root = layout.root();
-    if root as usize >= layout.domains() {
-        return 0;
-    }
-    match layout.class(root) {
-        Class::Object(class) => class,
-        _ => 0,
-    }
-}
-
 /// The root's `repOk`.
-fn rep_ok(problem: &Problem) -> Option<MethodId>
-    requires { IsPosed problem.now }
-    ensures within { IfSome result (λ k. k < length (all_methods (table problem.now.program))) }
-    ensures shown { option_to_list (option_map (method_numbered (table problem.now.program)) result) ≡ rep_ok_method (posed problem.now) }
+fn rep_ok(subject: &Subject) -> Option<MethodId>
+    ensures within { (problem : Posing) → IsSubject problem subject.now → IfSome result (λ k. k < length (all_methods (table problem.program))) }
+    ensures shown { (problem : Posing) → IsSubject problem subject.now → option_to_list (option_map (method_numbered (table problem.program)) result) ≡ rep_ok_method (posed problem) }
 {
-    let program = &problem.program;
-    program.roster.method_named(
-        &program.table.members,
-        root_class(problem),
-        b"repOk".as_slice(),
-    )
+    subject.rep_ok
 }
 
 /// The method under test, where one is tested.
-fn tested(problem: &Problem) -> Option<MethodId>
-    requires { IsPosed problem.now }
-    ensures within { IfSome result (λ k. k < length (all_methods (table problem.now.program))) }
-    ensures shown { option_to_list (option_map (method_numbered (table problem.now.program)) result) ≡ tested (posed problem.now) }
+fn tested(subject: &Subject) -> Option<MethodId>
+    ensures within { (problem : Posing) → IsSubject problem subject.now → IfSome result (λ k. k < length (all_methods (table problem.program))) }
+    ensures shown { (problem : Posing) → IsSubject problem subject.now → option_to_list (option_map (method_numbered (table problem.program)) result) ≡ tested (posed problem) }
 {
-    let program = &problem.program;
-    match problem.layout.mode() {
-        Mode::List => None,
-        Mode::Method(name) => program.roster.method_named(
-            &program.table.members,
-            root_class(problem),
-            name.as_str().as_bytes(),
-        ),
-    }
+    subject.tested
 }
 
 /// Adds the conditions of that side of a method's contract.
@@ -90,16 +60,16 @@ fn add_side(
 /// Adds the body of the root's `repOk`.
 fn add_rep_ok(
     problem: &Problem,
-    nodes: &MemberNodes,
+    subject: &Subject,
     entries: &mut Vec<NodeId>,
 ) -> Result<(), NoMemory>
     requires posed { IsPosed problem.now }
-    requires nodes { AreMemberNodes problem.now.program nodes.now }
+    requires subject { IsSubject problem.now subject.now }
     ensures { (before : List CodeNode) → IfOk result (λ done. Enter problem.now.program before entries.old.items → Enter problem.now.program (before ++ flat_map (code_of_method (posed problem.now).program) (rep_ok_method (posed problem.now))) entries.new.items) }
 {
-    match rep_ok(problem) {
+    match rep_ok(subject) {
         None => Ok(()),
-        Some(method) => add_bodies(&problem.program, nodes, &[method], entries),
+        Some(method) => add_bodies(&problem.program, &subject.members, &[method], entries),
     }
 }
 
@@ -107,17 +77,18 @@ fn add_rep_ok(
 fn add_contract(
     alloc: Global,
     problem: &Problem,
-    nodes: &MemberNodes,
+    subject: &Subject,
     entries: &mut Vec<NodeId>,
 ) -> Result<(), NoMemory>
     requires posed { IsPosed problem.now }
-    requires nodes { AreMemberNodes problem.now.program nodes.now }
+    requires subject { IsSubject problem.now subject.now }
     ensures { (before : List CodeNode) → IfOk result (λ done. Enter problem.now.program before entries.old.items → Enter problem.now.program (before ++ flat_map (λ e. code e.scope e.tree) (contract_of (posed problem.now))) entries.new.items) }
 {
-    match tested(problem) {
+    match tested(subject) {
         None => Ok(()),
         Some(method) => {
             let program = &problem.program;
+            let nodes = &subject.members;
             add_side(alloc, program, nodes, Side::Required, method, entries)?;
             add_side(alloc, program, nodes, Side::Ensured, method, entries)
         }
@@ -128,14 +99,14 @@ fn add_contract(
 pub(crate) fn root_entries(
     alloc: Global,
     problem: &Problem,
-    nodes: &MemberNodes,
+    subject: &Subject,
 ) -> Result<Vec<NodeId>, NoMemory>
     requires posed { IsPosed problem.now }
-    requires nodes { AreMemberNodes problem.now.program nodes.now }
+    requires subject { IsSubject problem.now subject.now }
     ensures { IfOk result (λ entries. Enter problem.now.program (roots (posed problem.now)) entries.items) }
 {
     let mut entries = Vec::new(alloc);
-    add_rep_ok(problem, nodes, &mut entries)?;
-    add_contract(alloc, problem, nodes, &mut entries)?;
+    add_rep_ok(problem, subject, &mut entries)?;
+    add_contract(alloc, problem, subject, &mut entries)?;
     Ok(entries)
 }

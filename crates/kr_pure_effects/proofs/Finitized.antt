@@ -1,34 +1,19 @@
 -- Some class domain is touched exactly where an object of a finitized class is.
-use Rattle.std.proofs.Common.{◌≡◌, ◌↔◌, refl, sym, ap, ◌∙◌, subst, ℕ, Bool, true, false, ◌&&◌, ◌||◌, List, [], ◌∷◌, ◌⊎◌, inl, inr, arith}
+use Rattle.std.proofs.Common.{◌≡◌, ◌↔◌, refl, sym, ap, ◌∙◌, subst, ℕ, Bool, true, false, ◌&&◌, List, [], ◌∷◌, ◌⊎◌, inl, inr, arith}
 use Rattle.std.proofs.lemmas.Bool.Decides.{nat_tests}
+use Rattle.std.proofs.lemmas.Bool.{and_parts, or_cases, or_right, or_left}
 use Rattle.kr_value.specs.declared.object.Class.{Class}
 use Rattle.kr_value.specs.declared.object.Class.TheVariants.{Object}
-use Rattle.kr_classes_types.specs.Types.{TypeList}
+use Rattle.kr_classes_names.specs.Types.{TypeList}
 use Rattle.kr_mean.specs.Program.{Program}
 use Rattle.kr_mean.specs.Problem.{ClassDomain}
 use Rattle.kr_mean.specs.Purity.{IsCounted, IsOneOf}
 use Rattle.kr_pure_effects.specs.declared.touch.Touch.{Touch}
 use Rattle.kr_pure_effects.specs.Touches.{is_counted, touches, touches_domain, touches_some}
 
-both : (a b : Bool) → (a && b) ≡ true → (a ≡ true) × (b ≡ true)
-both true b e = (refl, e)
-both false b e = absurd (cc (e))
-
 together : (a b : Bool) → a ≡ true → b ≡ true → (a && b) ≡ true
 together true b h e = e
 together false b h e = absurd (cc (h))
-
-one : (a b : Bool) → (a || b) ≡ true → (a ≡ true) ⊎ (b ≡ true)
-one true b e = inl refl
-one false b e = inr e
-
-behind : (a b : Bool) → b ≡ true → (a || b) ≡ true
-behind true b e = refl
-behind false b e = e
-
-first : (a b : Bool) → a ≡ true → (a || b) ≡ true
-first true b e = refl
-first false b e = absurd (cc (e))
 
 counted_so : (class : Class) (n : ℕ) → is_counted class n ≡ true → IsCounted class n
 counted_so (Object c) n h = grind (arith, nat_tests)
@@ -48,10 +33,10 @@ module _ (program : Program) (l : TypeList) (t : Touch) where
 
   found : (ds : List ClassDomain) → touches_some program l t ds ≡ true → IsTouched ds
   found [] e = absurd (cc (e))
-  found (d ∷ ds) e = go (one (touches_domain program l t d) (touches_some program l t ds) e) (found ds)
+  found (d ∷ ds) e = go (or_cases (touches_domain program l t d) (touches_some program l t ds) e) (found ds)
     where
       go : (touches_domain program l t d ≡ true) ⊎ (touches_some program l t ds ≡ true) → (touches_some program l t ds ≡ true → IsTouched ds) → IsTouched (d ∷ ds)
-      go (inl h) rest = let w = both (is_counted d.class d.count) (touches program l t d.class) h in (d.class, w.1, (d, inl refl, refl, counted_so d.class d.count w.0))
+      go (inl h) rest = let w = and_parts (is_counted d.class d.count) (touches program l t d.class) h in (d.class, w.1, (d, inl refl, refl, counted_so d.class d.count w.0))
       go (inr h) rest = further d ds (rest h)
 
   domain_touched : (class : Class) (d : ClassDomain) → touches program l t class ≡ true → d.class ≡ class → IsCounted class d.count → touches_domain program l t d ≡ true
@@ -61,8 +46,8 @@ module _ (program : Program) (l : TypeList) (t : Touch) where
 
   touched : (ds : List ClassDomain) (class : Class) (d : ClassDomain) → touches program l t class ≡ true → IsOneOf d ds → d.class ≡ class → IsCounted class d.count → touches_some program l t ds ≡ true
   touched [] class d e among is counts = absurd among
-  touched (x ∷ ds) class d e (inl same) is counts = first (touches_domain program l t x) (touches_some program l t ds) (domain_touched class x e (ap (λ (y : ClassDomain). y.class) same ∙ is) (subst (λ (y : ClassDomain). IsCounted class y.count) (sym same) counts))
-  touched (x ∷ ds) class d e (inr among) is counts = behind (touches_domain program l t x) (touches_some program l t ds) (touched ds class d e among is counts)
+  touched (x ∷ ds) class d e (inl same) is counts = or_left (touches_domain program l t x) (touches_some program l t ds) (domain_touched class x e (ap (λ (y : ClassDomain). y.class) same ∙ is) (subst (λ (y : ClassDomain). IsCounted class y.count) (sym same) counts))
+  touched (x ∷ ds) class d e (inr among) is counts = or_right (touches_domain program l t x) (touches_some program l t ds) (touched ds class d e among is counts)
 
   pub some_touched : (ds : List ClassDomain) → (touches_some program l t ds ≡ true) ↔ IsTouched ds
   some_touched ds = (found ds, λ w. touched ds w.0 w.2.0 w.1 w.2.1 w.2.2 w.2.3)

@@ -1,4 +1,4 @@
--- What a node may run and write, by what it means.
+-- The code that a node may run and the places it may write, by its meaning.
 use Rattle.std.proofs.Common.{◌≡◌, refl, sym, ap, ◌∙◌, ℕ, Bool, true, false, cond, List, [], ◌∷◌}
 use Rattle.std.specs.Prelude.{Option, Some, None, option_and_then, option_to_list}
 use Rattle.kr_base.specs.declared.place.Place.{Place}
@@ -28,7 +28,7 @@ use Rattle.kr_pure_effects.specs.Nodes.{runs_by}
 use Rattle.kr_pure_effects.specs.Touches.{field_written}
 use Rattle.kr_pure_effects.proofs.Parts.{class_running}
 
--- ---- what a call runs
+-- ---- calls
 
 called_runs : (program : Program) (o : Option Method) → runnable program o ≡ runs_by program (method_meaning o)
 called_runs program None = refl
@@ -61,7 +61,7 @@ behind_runs program s e n None =
     ap (λ (o : Option JavaType). runnable program (method_of_type s.table n o)) (running_same s e).type
     ∙ (ap (runnable program) (method_has s.table n (type_of s e)) ∙ called_runs program (method_of s.table n (object_class (type_of s e))))
 
--- ---- what runs nothing
+-- ---- nodes that run nothing
 
 field_runs : (program : Program) (o : Option Field) → [] ≡ runs_by program (field_meaning o)
 field_runs program None = refl
@@ -98,7 +98,7 @@ runs_law program s (trees.SuperCall p n es) = super_runs program (method_of s.ta
 runs_law program s (trees.ObjectCreation p t es) = creation_runs program (written s t)
 runs_law program s _ = refl
 
--- ---- what a write writes
+-- ---- writes
 
 field_has : (t : Table) (n : List ℕ) (o : Option JavaType) → option_and_then instance_only (field_of t n (object_class o)) ≡ field_of_type t n o
 field_has t n None = refl

@@ -1,13 +1,13 @@
--- Class domains asked one after another.
+-- Class domains tried one after another.
 use Rattle.std.proofs.Common.{◌≡◌, refl, ◌∙◌, ℕ, zero, suc, ◌+◌, ◌<◌, ◌≤◌, Bool, true, false, ◌&&◌, ◌||◌, List, [], ◌∷◌, length, drop, get_or, arith}
-use Rattle.kr_classes_types.specs.Types.{TypeList}
+use Rattle.kr_classes_names.specs.Types.{TypeList}
 use Rattle.kr_mean.specs.Program.{Program}
 use Rattle.kr_mean.specs.Problem.{ClassDomain}
 use Rattle.kr_pure_effects.specs.declared.touch.Touch.{Touch}
 use Rattle.kr_pure_effects.specs.declared.touch.Touch.TheVariants.{Nothing}
 use Rattle.kr_pure_effects.specs.Touches.{is_counted, touches, touches_domain, touches_some}
 
--- the one at an index, then those behind it
+-- the one at an index, then those after it
 pub asked : (program : Program) (l : TypeList) (t : Touch) (ds : List ClassDomain) (k : ℕ) (x : ClassDomain) → k < length ds → touches_some program l t (drop k ds) ≡ (touches_domain program l t (get_or ds k x) || touches_some program l t (drop (k + 1) ds))
 asked program l t [] k x h = absurd (omega (arith, h))
 asked program l t (d ∷ ds) zero x h = refl

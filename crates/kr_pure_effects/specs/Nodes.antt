@@ -1,4 +1,4 @@
--- Between crates: nodes of a program's files by their numbers: what an entry says of a node, how it runs, and whether it touches
+-- Between crates: nodes of a program's files by their numbers: a node's entry, how it runs, and whether it touches
 -- candidates.
 use Rattle.std.specs.Prelude.{◌≡◌, ℕ, ◌<◌, true, List, [], ◌∷◌, length}
 use Rattle.kr_ast.specs.declared.node.Entry.{Entry}

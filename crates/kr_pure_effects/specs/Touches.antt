@@ -3,7 +3,7 @@ use Rattle.std.specs.Prelude.{ℕ, ◌<◌, Bool, true, false, ◌&&◌, ◌||�
 use Rattle.kr_value.specs.declared.object.Class.{Class}
 use Rattle.kr_value.specs.declared.object.Class.TheVariants.{Object}
 use Rattle.kr_classes_table.specs.Table.{is_below}
-use Rattle.kr_classes_types.specs.Types.{TypeList, count, type_at}
+use Rattle.kr_classes_names.specs.Types.{TypeList, count, type_at}
 use Rattle.kr_mean.specs.Program.{Program, is_array_of}
 use Rattle.kr_types_resolving.specs.Meanings.{Meaning, Instance}
 use Rattle.kr_mean.specs.Problem.{ClassDomain}

@@ -2,7 +2,7 @@
 ghost use Rattle.std.specs.Prelude.{◌≡◌, ◌<◌, ◌∷◌, [], All, IfOk, Some, length, map, slice_get};
 ghost use Rattle.kr_ast.specs.Files.{file_at};
 ghost use Rattle.kr_classes_members.specs.Shown.{table_in};
-ghost use Rattle.kr_classes_roster.specs.Rosters.{all_methods, method_numbered};
+ghost use Rattle.kr_classes_members.specs.Rosters.{all_methods, method_numbered};
 ghost use Rattle.kr_types.specs.Programs.{IsProgram};
 ghost use Rattle.kr_types.specs.declared.program.TypedFile.{TypedFile as Typed};
 ghost use Rattle.kr_mean.specs.Program as meaning;

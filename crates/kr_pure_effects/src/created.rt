@@ -5,13 +5,13 @@ ghost use Rattle.kr_ast.specs.Tree.{Tree};
 ghost use Rattle.kr_classes_table.specs.Table.{type_named};
 ghost use Rattle.kr_classes_members.specs.Shown.{table_in};
 ghost use Rattle.kr_classes_members.specs.Kept.{AreMembers};
-ghost use Rattle.kr_classes_types.specs.Types.{count, type_at};
+ghost use Rattle.kr_classes_names.specs.Types.{count, type_at};
 ghost use Rattle.kr_mean.specs.Program.{Program};
 ghost use Rattle.kr_mean.specs.Code.{classes_of};
 
 use kr_base::NoMemory;
 use kr_classes_members::Members;
-use kr_classes_types::{TypeForm, Types};
+use kr_classes_names::{TypeForm, Types};
 use std::alloc::Global;
 
 /// The classes whose constructors and initial values the creation of an object of a type runs: a class and its ancestors, and

@@ -1,4 +1,4 @@
-//! What a node of a predicate's code touches and may run: which objects it creates or may write, whether these are of a problem's
+//! The effects of a node of a predicate's code: which objects it creates or may write, whether these are of a problem's
 //! candidates, and which methods and classes it may run code of.
 #![tactic(auto)]
 

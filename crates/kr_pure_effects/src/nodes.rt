@@ -1,4 +1,4 @@
-// What a node touches.
+// The touch of a node.
 ghost use Rattle.std.specs.Prelude.{◌≡◌, ◌<◌, Some, length, slice_get};
 ghost use Rattle.kr_ast.specs.Arena.{tree_in};
 ghost use Rattle.kr_types_meaning.specs.Running.{running};
@@ -34,7 +34,7 @@ fn written_touch(program: &Program, file: u32, target: u32) -> Touch
     }
 }
 
-/// What a node of a program's file touches.
+/// The touch of a node of a program's file.
 pub fn touch_of(program: &Program, file: u32, node: u32) -> Touch
     requires program { IsProgram program.now }
     requires file { file < length program.now.trees.items }

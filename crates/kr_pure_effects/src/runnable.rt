@@ -3,14 +3,13 @@ ghost use Rattle.std.specs.Prelude.{◌≡◌, ◌<◌, IfOk, IfSome, All, lengt
 ghost use Rattle.kr_value.specs.declared.object.Class.TheVariants.{Object};
 ghost use Rattle.kr_classes_members.specs.Shown.{IsMethod, method_shown, table_in};
 ghost use Rattle.kr_classes_members.specs.Kept.{AreMembers};
-ghost use Rattle.kr_classes_roster.specs.Rosters.{IsRoster, all_methods, method_numbered};
+ghost use Rattle.kr_classes_members.specs.Rosters.{IsRoster, all_methods, method_numbered};
 ghost use Rattle.kr_mean.specs.Program.{Program, overriding};
 ghost use Rattle.kr_mean.specs.Code.{overriders};
 
 use kr_ast::{Tree, tree_of};
 use kr_base::{NoMemory, add_found};
-use kr_classes_members::{Members, Method};
-use kr_classes_roster::Roster;
+use kr_classes_members::{Members, Method, Roster};
 use kr_classes_table::MethodId;
 use std::alloc::Global;
 

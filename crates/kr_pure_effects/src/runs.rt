@@ -1,8 +1,8 @@
-// What a node may run: methods and classes.
+// The methods and classes whose code a node may run.
 ghost use Rattle.std.specs.Prelude.{◌≡◌, ◌<◌, All, IfOk, Some, length, map, slice_get};
 ghost use Rattle.kr_ast.specs.Files.{file_at};
 ghost use Rattle.kr_classes_members.specs.Shown.{table_in};
-ghost use Rattle.kr_classes_roster.specs.Rosters.{all_methods, method_numbered};
+ghost use Rattle.kr_classes_members.specs.Rosters.{all_methods, method_numbered};
 ghost use Rattle.kr_types.specs.Programs.{IsProgram};
 ghost use Rattle.kr_types.specs.declared.program.TypedFile.{TypedFile as Typed};
 ghost use Rattle.kr_mean.specs.Program as meaning;
@@ -18,7 +18,7 @@ use kr_classes_table::MethodId;
 use kr_types::Program;
 use std::alloc::Global;
 
-/// What a node may run: methods, and the classes whose constructors and initial values a creation runs.
+/// The code that a node may run: methods, and the classes whose constructors and initial values a creation runs.
 #[derive(Drop)]
 pub struct Runs {
     pub methods: Vec<MethodId>,
@@ -44,7 +44,7 @@ fn classes_of(alloc: Global, program: &Program, file: u32, node: u32) -> Result<
     }
 }
 
-/// What a node of a program's file may run.
+/// The code that a node of a program's file may run.
 pub fn runs_of(alloc: Global, program: &Program, file: u32, node: u32) -> Result<Runs, NoMemory>
     requires program { IsProgram program.now }
     requires file { file < length program.now.trees.items }

@@ -1,9 +1,9 @@
-// What is touched by the creation of an object, and by a write of a field or an element.
+// The touch of the creation of an object, and of a write of a field or an element.
 ghost use Rattle.std.specs.Prelude.{◌≡◌, ◌<◌, IfSome, option_map};
 ghost use Rattle.kr_ast.specs.Tree as trees;
 ghost use Rattle.kr_value.specs.declared.object.Class.{Class};
 ghost use Rattle.kr_classes_members.specs.Shown.{table_in};
-ghost use Rattle.kr_classes_types.specs.Types.{TypeList, count, type_at};
+ghost use Rattle.kr_classes_names.specs.Types.{TypeList, count, type_at};
 ghost use Rattle.kr_types.specs.Programs.{IsProgram};
 ghost use Rattle.kr_mean.specs.Program as meaning;
 ghost use Rattle.kr_mean.specs.Meaning.{element_target};
@@ -12,7 +12,7 @@ ghost use Rattle.kr_types_resolving.specs.Shown.{IsMeaningWithin, meaning_shown}
 ghost use Rattle.kr_pure_effects.specs.Touches.{IsTouchWithin, field_written, touches};
 
 use crate::touch::Touch;
-use kr_classes_types::{TypeForm, Types};
+use kr_classes_names::{TypeForm, Types};
 use kr_types::Program;
 use kr_types_resolving::Meaning;
 

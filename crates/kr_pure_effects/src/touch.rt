@@ -1,11 +1,11 @@
-// What a node touches, and whether it touches candidates.
+// The touch of a node, and whether it touches candidates.
 ghost use Rattle.std.specs.Prelude.{◌≡◌, ◌<◌, List, All, length, map};
 ghost use Rattle.kr_ast.specs.Arena.{Arena};
 ghost use Rattle.kr_classes_table.specs.Types.{ArrayType, VoidType, is_same};
 ghost use Rattle.std.proofs.Common.{get_or};
 ghost use Rattle.kr_classes_members.specs.Shown.{table_in};
 ghost use Rattle.kr_classes_members.specs.Kept.{AreMembers};
-ghost use Rattle.kr_classes_types.specs.Types.{count, type_at};
+ghost use Rattle.kr_classes_names.specs.Types.{count, type_at};
 ghost use Rattle.kr_mean.specs.Program as mean;
 ghost use Rattle.kr_mean.specs.Problem.{domain_at};
 ghost use Rattle.kr_space_layout.specs.Bounds.{bare};
@@ -13,12 +13,12 @@ ghost use Rattle.kr_pure_effects.specs.Touches as spec;
 ghost use Rattle.kr_pure_effects.specs.Touches.{IsTouchWithin};
 
 use kr_classes_members::Members;
-use kr_classes_types::{TypeForm, Types};
+use kr_classes_names::{TypeForm, Types};
 use kr_space_layout::Layout;
 use kr_value::Class;
 
-/// What a node touches: nothing; a field of the objects of a class and of those below; that it creates objects of a
-/// class; an element of arrays of a type of elements, by its number, or that it creates such arrays.
+/// The touch of a node: nothing; a field of the objects of a class and of those below; the creation of objects of a class; an
+/// element of arrays of a type of elements, by its number, or the creation of such arrays.
 #[derive(Clone, Copy, PartialEq, Eq)]
 pub enum Touch {
     Nothing,

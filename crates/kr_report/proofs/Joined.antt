@@ -23,15 +23,11 @@ pub separated_one : (between : List ℕ) (any : Bool) (t : List ℕ) → separat
 separated_one between true t = append-nil (between ++ t)
 separated_one between false t = append-nil t
 
-pub some_any : (any : Bool) (t : List ℕ) → true ≡ (any || are_any (t ∷ []))
-some_any true t = refl
-some_any false t = refl
-
 pub nothing : (between : List ℕ) (any : Bool) → separated between any [] ≡ []
 nothing between true = refl
 nothing between false = refl
 
--- texts behind those that there are
+-- texts after those that there are
 pub joined_more : (between : List ℕ) (ps ts qs : List (List ℕ)) → qs ≡ ps ++ ts → joined_by between qs ≡ joined_by between ps ++ separated between (are_any ps) ts
 joined_more between ps ts qs e = ap (joined_by between) e ∙ separated_both between false ps ts
 

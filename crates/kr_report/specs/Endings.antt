@@ -12,7 +12,7 @@ front_of answer n = lines (take n answer.rows)
 abbrev pub MayBegin : Answer → List ℕ → Type 0
 MayBegin answer text = (text ≡ bytes_of answer) ⊎ ((n : ℕ) × (text ≡ front_of answer n ++ memory_text))
 
--- All was written, and the status is the answer's; or a fault came after a front; or want of memory, after some rows.
+-- All was written, and the status is the answer's; or a fault came after a front; or out of memory, after some rows.
 pub record EndsListing {K : Type 0} (taken : K → Option (List ℕ)) (faults : K → ℕ) (answer : Answer) (out out' : K) (status : ℕ) : Type 0 where
   pub known : (status ≡ 0) ⊎ (status ≡ 1) ⊎ (status ≡ 5) ⊎ (status ≡ 7) ⊎ (status ≡ 8)
   pub whole : status < 6 → (status ≡ answer.status) × Added taken faults out out' (bytes_of answer)

@@ -4,7 +4,7 @@ use Rattle.kr_value.specs.declared.object.Class.{Class}
 use Rattle.kr_value.specs.declared.object.Class.TheVariants.{Object, Array, Set, List as ListClass}
 use Rattle.kr_report.specs.Texts.{behind, joined_by}
 
--- texts with another between each two, and before the first where others stand before it
+-- texts with another between each two, and before the first if others are before it
 abbrev pub separated : List ℕ → Bool → List (List ℕ) → List ℕ
 separated between true texts = behind between texts
 separated between false texts = joined_by between texts

@@ -1,4 +1,5 @@
 -- To be believed: the lines of a report.
+use Rattle.kr_base.specs.Causes.{capped}
 use Rattle.std.specs.Prelude.{ℕ, ◌-◌, ◌^◌, true, false, List, [], ◌∷◌, ◌++◌, map, flat_map, Option, Some, None, codes, decimal, min, if◌then◌else◌}
 use Rattle.std.specs.Fmt.{signed_decimal}
 use Rattle.std.proofs.Common.{get_or}
@@ -135,10 +136,7 @@ verdict_text (Some OutOfFuel) = codes "spent "
 abbrev pub row_text : Problem → Row → List ℕ
 row_text problem row = cut_text row.key ++ codes " " ++ verdict_text row.verdict ++ structure_text problem row.structure ++ codes "\n"
 
-abbrev pub capped : ℕ → ℕ
-capped n = min n (2 ^ 64 - 1)
-
--- what stands in the last line
+-- ---- the last line
 abbrev pub listed_text : ℕ → ℕ → List ℕ
 listed_text valid tried = codes "valid " ++ decimal (capped valid) ++ codes " tried " ++ decimal (capped tried) ++ codes "\n"
 

@@ -12,12 +12,12 @@ use kr_text::put_pieces;
 /// What the line says that ends a call.
 #[derive(Drop)]
 pub enum Summary {
-    /// All rows of a listing stand before it: how many, and how many entries were tried.
+    /// All rows of a listing are written: how many, and how many entries were tried.
     List {
         valid: u64,
         tried: u64,
     },
-    /// All rows of a test stand before it: how many, how many of these are no passes, and how many entries were tried.
+    /// All rows of a test are written: how many, how many of these are failing, and how many entries were tried.
     Test {
         valid: u64,
         failing: u64,
@@ -74,7 +74,7 @@ fn put_tested<K: Sink>(valid: u64, failing: u64, tried: u64, out: &mut K) -> Res
     )
 }
 
-/// Puts a word, a key, and the line's end.
+/// Writes a word, a key, and the line's end.
 fn put_keyed<K: Sink>(word: &[u8], key: &Cut, out: &mut K) -> Result<(), Failed>
     ensures { Writes K.taken K.faults out.old out.new ((word.now ++ cut_text key.now) ++ codes "\n") result }
 {
@@ -105,7 +105,7 @@ fn put_counted<K: Sink>(nodes: u32, valid: u64, out: &mut K) -> Result<(), Faile
     put_pieces(out, &[b"nodes ", nodes, b" valid ", valid, b"\n"])
 }
 
-/// Puts the line that ends a call. It takes no memory.
+/// Writes the line that ends a call. It takes no memory.
 pub fn summary_text<K: Sink>(summary: &Summary, out: &mut K) -> Result<(), Failed>
     ensures { Writes K.taken K.faults out.old out.new (summary_line summary.now) result }
 {

@@ -20,7 +20,7 @@ pub fn field_name_among<'t>(trees: &'t [Tree], fields: &[Field], position: u32) 
     }
 }
 
-/// The first item of a list and what is behind it.
+/// The first item of a list, and the rest.
 fn first_item(tree: &Tree, list: u32) -> Option<(u32, u32)>
     requires { list < length tree.now.entries }
     ensures within { IfSome result (λ p. p.0 < length tree.now.entries) }

@@ -25,7 +25,7 @@ fn trap_name(kind: Kind) -> &'static [u8]
     }
 }
 
-/// Puts `ensures N` and a space.
+/// Writes `ensures N` and a space.
 fn put_ensures<K: Sink>(number: u32, out: &mut K) -> Result<(), Failed>
     ensures { Writes K.taken K.faults out.old out.new (verdict_text (Some (Ensures number))) result }
 {
@@ -34,7 +34,7 @@ fn put_ensures<K: Sink>(number: u32, out: &mut K) -> Result<(), Failed>
     put_pieces(out, &[b"ensures ", number, b" "])
 }
 
-/// Puts a word, why a run traps, and a space.
+/// Writes a word, why a run traps, and a space.
 fn put_trap<K: Sink>(word: &[u8], kind: Kind, out: &mut K) -> Result<(), Failed>
     ensures { Writes K.taken K.faults out.old out.new (word.now ++ trap_text kind ++ codes " ") result }
 {
@@ -42,7 +42,7 @@ fn put_trap<K: Sink>(word: &[u8], kind: Kind, out: &mut K) -> Result<(), Failed>
     put_pieces(out, &[trap_name(kind), b" "])
 }
 
-/// Puts a verdict and a space; of none nothing. It takes no memory.
+/// Writes a verdict and a space; of none nothing. It takes no memory.
 pub fn put_verdict<K: Sink>(verdict: Option<Verdict>, out: &mut K) -> Result<(), Failed>
     ensures { Writes K.taken K.faults out.old out.new (verdict_text verdict) result }
 {

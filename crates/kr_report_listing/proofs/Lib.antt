@@ -1,7 +1,2 @@
-pub mod Endings
-pub mod Marks
-pub mod Lines
-pub mod Progress
-pub mod Returns
-mod Left
-mod Ends
+pub mod Listings
+pub mod Logs

@@ -1,2 +1,2 @@
-pub mod Puts
-pub mod Tallies
+pub mod Listed
+pub mod Traced

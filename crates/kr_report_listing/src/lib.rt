@@ -1,14 +1,13 @@
-//! The listing of a prepared problem: its candidates are searched, and each valid one is written as a row as it is found, or
-//! counted.
+//! The report of a prepared problem's entries: listed, tested or counted, by one worker, by workers at a board, or over deques.
+//! Whoever searches, one writer writes the rows and the last line.
 #![tactic(auto)]
 
-mod count_line;
-mod counted;
-mod list;
-mod listing;
-mod row;
-mod tally;
+mod alone;
+mod sharing;
+mod surveys;
+mod workers;
 
-pub use counted::put_tally;
-pub use list::put_span;
-pub use listing::put_listing;
+pub use alone::{count_alone, list_alone};
+pub use sharing::may_be_shared;
+pub use surveys::{Lines, Units, lines_of, units_of};
+pub use workers::{count_shared, list_deque, list_shared, list_traced};

@@ -1,9 +1,8 @@
 -- Objects by their numbers.
 use Rattle.std.proofs.Common.{◌≡◌, ℕ, ◌<◌, ◌≤◌, ◌⊎◌, inl, inr, Bool, true, false, ◌==◌, length, get_or, refl, sym, ap, ◌∙◌, subst}
 use Rattle.std.specs.Prelude.{not}
-use Rattle.std.proofs.lemmas.Bool.{cases_lt, eq-eqb, eqb-true}
+use Rattle.std.proofs.lemmas.Bool.{cases_lt, eq-eqb, eqb-true, cases_Bool}
 use Rattle.std.proofs.lemmas.List.{get_or_past}
-use Rattle.kr_laws_slots.proofs.Membership.{bool_cases}
 use Rattle.kr_laws_slots.proofs.Numbering.{object, object_at_number, number_of_object}
 use Rattle.kr_laws_slots.proofs.Places.{same_object, same_objects}
 use Rattle.kr_mean.specs.Heaps.{is_same_object}
@@ -40,7 +39,7 @@ module _ (problem : Problem) where
   by_same m n o true e other is =
       let named_same : named m ≡ o = ap named (eqb-true m n is) ∙ sym e in
       sym (ap not (ap (λ (x : DomainObject). is_same_object x o) named_same ∙ same_object o))
-  by_same m n o false e other is = elim (bool_cases (is_same_object (named m) o)) [
+  by_same m n o false e other is = elim (cases_Bool (is_same_object (named m) o)) [
     | inl same ↦ let one = eq-eqb m n (one_number m n o e other (same_objects (named m) o same)) in absurd (cc (is, one))
     | inr apart ↦ sym (ap not apart)
   ]

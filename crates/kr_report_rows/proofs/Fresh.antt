@@ -43,7 +43,7 @@ distinct_grown problem xs (Truth b) = ap (λ (l : List DomainObject). distinct i
 distinct_grown problem xs Null = ap (λ (l : List DomainObject). distinct is_same_object l) (append-nil xs) ∙ sym (append-nil (distinct is_same_object xs))
 distinct_grown problem xs (Reference o) = distinct_more xs _
 
--- whether an object is new behind both
+-- whether an object is new after both
 pub new_both : (xs ys : List DomainObject) (o : DomainObject) → is_new (xs ++ ys) o ≡ (is_new xs o && is_new ys o)
 new_both [] ys o = refl
 new_both (x ∷ xs) ys o = ap (λ (b : Bool). not (is_same_object x o) && b) (new_both xs ys o) ∙ and_assoc (not (is_same_object x o)) (is_new xs o) (is_new ys o)

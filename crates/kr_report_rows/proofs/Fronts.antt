@@ -7,7 +7,7 @@ use Rattle.kr_report.specs.Texts.{joined_by}
 use Rattle.kr_report.specs.Joined.{are_any, separated}
 use Rattle.kr_report.proofs.Joined.{any_more, joined_more, separated_both}
 
--- some are written, and some come behind them
+-- some are written, and some follow them
 pub joined_grown : (between : List ℕ) (any : Bool) (ps xs : List (List ℕ)) → any ≡ are_any ps → joined_by between (ps ++ xs) ≡ joined_by between ps ++ separated between any xs
 joined_grown between any ps xs a = joined_more between ps xs (ps ++ xs) refl ∙ ap (λ (b : Bool). joined_by between ps ++ separated between b xs) (sym a)
 

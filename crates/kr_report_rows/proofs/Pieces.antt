@@ -10,7 +10,7 @@ use Rattle.kr_report.proofs.Joined.{bracketed, separated_one}
 pub last_piece : (a b x : List ℕ) → x ≡ b → a ++ (x ++ []) ≡ a ++ b
 last_piece a b x p = ap (λ (t : List ℕ). a ++ t) (append-nil x ∙ p)
 
--- a name and what comes behind it
+-- a name and what follows it
 pub named_piece : (a b x : List ℕ) (sign : List ℕ) → x ≡ a → a ++ sign ++ b ≡ x ++ (sign ++ b)
 named_piece a b x sign p = append_assoc a sign b ∙ ap (λ (t : List ℕ). t ++ (sign ++ b)) (sym p)
 

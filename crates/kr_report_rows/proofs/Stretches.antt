@@ -1,9 +1,8 @@
 -- Where the slots of an object stand.
 use Rattle.std.proofs.Common.{◌≡◌, ℕ, ◌+◌, ◌-◌, ◌^◌, ◌<◌, ◌≤◌, ◌⊎◌, inl, inr, Bool, true, false, Option, Some, None, length, refl, sym, ap, ◌∙◌, arith}
-use Rattle.std.proofs.lemmas.Bool.{cases_lt}
+use Rattle.std.proofs.lemmas.Bool.{cases_lt, cases_Bool}
 use Rattle.kr_build.proofs.Changed.{owner_in, stands_in}
 use Rattle.kr_build.proofs.Rows.{first_same}
-use Rattle.kr_laws_slots.proofs.Membership.{bool_cases}
 use Rattle.kr_laws_slots.proofs.Numbering as numbering
 use Rattle.kr_laws_slots.proofs.Numbering.{count_at, object_slot, width_at}
 use Rattle.kr_laws_slots.proofs.Places.{same_object, same_objects}
@@ -20,7 +19,7 @@ module _ (problem : Problem) (o : DomainObject) where
     where
       go : (x : Option DomainObject) → (slot_at problem s).owner ≡ x → is_owner o x ≡ false
       go None e = refl
-      go (Some p) e = elim (bool_cases (is_same_object o p)) [
+      go (Some p) e = elim (cases_Bool (is_same_object o p)) [
         | inl same ↦ absurd (h (e ∙ ap Some (sym (same_objects o p same))))
         | inr apart ↦ apart
       ]

@@ -1,10 +1,11 @@
--- A structure's text goes through the walk: what is written of each object stands together, in the order of its slots.
+-- A structure's text goes through the walk: what is written of each object is contiguous, in the order of its slots.
 use Rattle.std.proofs.Common.{◌≡◌, ℕ, zero, suc, ◌+◌, ◌-◌, ◌<◌, ◌≤◌, ◌⊎◌, inl, inr, Bool, true, false, List, [], ◌∷◌, ◌++◌, length, get_or, Option, Some, None, refl, sym, ap, ◌∙◌, arith, subst}
 use Rattle.std.specs.Prelude.{map, flat_map, codes, if◌then◌else◌}
 use Rattle.std.specs.List.{range_with_len}
 use Rattle.std.proofs.lemmas.List.{append-nil}
 use Rattle.std.proofs.lemmas.List.Concat.{flat_map-append}
 use Rattle.std.proofs.lemmas.List.Folds.{flat_map-map}
+use Rattle.std.proofs.lemmas.Bool.{cases_Bool}
 use Rattle.kr_laws_runs.proofs.Respects.{AllOf}
 use Rattle.kr_value.specs.declared.object.Class.{Class}
 use Rattle.kr_value.specs.declared.object.Spot.{Spot}
@@ -16,7 +17,7 @@ use Rattle.kr_mean.specs.Places.{SlotPlace, At}
 use Rattle.kr_mean.specs.Problem.{Problem, DomainObject, Choice, Slot, all_objects, choices_at, domain_at, heap_number, object_choice, slot_at, upto}
 use Rattle.kr_mean.specs.Space.{no_choice}
 use Rattle.kr_mean.specs.WellFormed.{IsPlain, IsWellFormed}
-use Rattle.kr_laws_slots.proofs.Membership.{Has, bool_cases}
+use Rattle.kr_laws_slots.proofs.Membership.{Has}
 use Rattle.kr_laws_slots.proofs.Numbering.{object, first_slot, parameters, parameter_slot, object_slot, spotted_at, width_at, object_at_number}
 use Rattle.kr_laws_slots.proofs.Places.{same_object, same_objects, slots_in_are, extent, extent_within}
 use Rattle.kr_laws_slots.proofs.Reached.{Apart, apart_distinct, settled}
@@ -47,7 +48,7 @@ flat_flat f g (x ∷ xs) = flat_map-append f (g x) (flat_map g xs) ∙ ap (λ ys
 -- of a list whose objects are apart, one object's part
 others : {B : Type 0} (f : DomainObject → List B) (o : DomainObject) (ns : List DomainObject) → (Has o ns → ⊥) → flat_map (λ n. if is_same_object o n then f n else []) ns ≡ []
 others f o [] h = refl
-others f o (n ∷ ns) h = go (bool_cases (is_same_object o n)) (λ k. others f o ns k)
+others f o (n ∷ ns) h = go (cases_Bool (is_same_object o n)) (λ k. others f o ns k)
   where
     go : (is_same_object o n ≡ true) ⊎ (is_same_object o n ≡ false) → ((Has o ns → ⊥) → flat_map (λ n. if is_same_object o n then f n else []) ns ≡ []) → flat_map (λ n. if is_same_object o n then f n else []) (n ∷ ns) ≡ []
     go (inl q) r = absurd (h (inl (sym (same_objects o n q))))
@@ -59,7 +60,7 @@ only_one {B} f o (m ∷ os) a (inl e) =
     let yes : is_same_object o m ≡ true = ap (λ (x : DomainObject). is_same_object o x) e ∙ same_object o in
     let none : flat_map (λ n. if is_same_object o n then f n else []) os ≡ [] = others f o os (subst (λ (x : DomainObject). Has x os → ⊥) e a.0) in
     rw (yes, none) (append-nil (f m) ∙ ap f e)
-only_one f o (m ∷ os) a (inr h) = go (bool_cases (is_same_object o m)) (only_one f o os a.1 h)
+only_one f o (m ∷ os) a (inr h) = go (cases_Bool (is_same_object o m)) (only_one f o os a.1 h)
   where
     go : (is_same_object o m ≡ true) ⊎ (is_same_object o m ≡ false) → flat_map (λ n. if is_same_object o n then f n else []) os ≡ f o → flat_map (λ n. if is_same_object o n then f n else []) (m ∷ os) ≡ f o
     go (inl q) r = absurd (a.0 (subst (λ (x : DomainObject). Has x os) (same_objects o m q) h))

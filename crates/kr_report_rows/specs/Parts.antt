@@ -64,7 +64,7 @@ abbrev pub is_new : List DomainObject → DomainObject → Bool
 is_new [] o = true
 is_new (x ∷ xs) o = not (is_same_object x o) && is_new xs o
 
--- an object, where it isn't among those that stand before it
+-- an object, where it isn't among those before it
 abbrev pub new_in : List DomainObject → List DomainObject → List DomainObject
 new_in before [] = []
 new_in before (o ∷ os) = if is_new before o then o ∷ [] else []

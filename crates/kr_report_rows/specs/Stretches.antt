@@ -1,4 +1,4 @@
--- Between crates: where the slots of an object stand among all.
+-- Between crates: where the slots of an object are among all.
 use Rattle.std.specs.Prelude.{◌≡◌, ℕ, ◌+◌, ◌^◌, ◌<◌, ◌≤◌, Bool, true, false}
 use Rattle.kr_mean.specs.Heaps.{is_owner}
 use Rattle.kr_mean.specs.Problem.{Problem, DomainObject, slot_at}

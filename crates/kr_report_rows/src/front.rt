@@ -1,4 +1,4 @@
-// What stands before the structure in a row's line.
+// The front of a row's line, up to the structure.
 ghost use Rattle.std.specs.Prelude.{◌++◌, codes, decimal};
 ghost use Rattle.kr_base.specs.Cuts.{cut_text, dotted};
 ghost use Rattle.kr_base.specs.Told.{Writes};
@@ -17,7 +17,7 @@ fn put_number<K: Sink>(number: u32, out: &mut K) -> Result<(), Failed>
     put_all(out, buffer.format(number).as_bytes())
 }
 
-/// Puts a dot and a number, a small one by one put.
+/// Writes a dot and a number, a small one by one put.
 fn put_dotted<K: Sink>(number: u32, out: &mut K) -> Result<(), Failed>
     ensures { Writes K.taken K.faults out.old out.new (dotted number) result }
 {
@@ -29,7 +29,7 @@ fn put_dotted<K: Sink>(number: u32, out: &mut K) -> Result<(), Failed>
     put_pieces(out, &[b".", number])
 }
 
-/// Puts the numbers of a key, joined by dots.
+/// Writes the numbers of a key, joined by dots.
 fn put_key<K: Sink>(key: &Cut, out: &mut K) -> Result<(), Failed>
     ensures { Writes K.taken K.faults out.old out.new (cut_text key.now) result }
 {
@@ -43,7 +43,7 @@ fn put_key<K: Sink>(key: &Cut, out: &mut K) -> Result<(), Failed>
     Ok(())
 }
 
-/// Puts what stands before the structure in a row's line: its key, and its verdict where it has one, each with a space.
+/// Writes the front of a row's line: its key, and its verdict if it has one, each with a space.
 pub(crate) fn row_front<K: Sink>(row: &Row, out: &mut K) -> Result<(), Failed>
     ensures { Writes K.taken K.faults out.old out.new (cut_text row.now.key ++ codes " " ++ verdict_text row.now.verdict) result }
 {

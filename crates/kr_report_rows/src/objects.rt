@@ -70,7 +70,7 @@ fn is_first(
     true
 }
 
-/// An object, where it is told so.
+/// An object, where the test says so.
 fn where_first(first: bool, object: Object) -> Option<Object>
     ensures { map object_of (option_to_list result) ≡ (if first then object_of object ∷ [] else []) }
 {

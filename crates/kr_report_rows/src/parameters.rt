@@ -30,7 +30,7 @@ fn has_parameters(layout: &Layout, structure: &[(u32, Value)]) -> bool
     false
 }
 
-/// Puts `x=value` of a parameter. Says whether something stands there by now.
+/// Writes `x=value` of a parameter. Returns whether something is written by now.
 fn put_parameter<K: Sink>(
     trees: &[Tree],
     method: Option<Method>,
@@ -54,7 +54,7 @@ fn put_parameter<K: Sink>(
     }
 }
 
-/// Puts the parameters that a structure has, parted by commas.
+/// Writes the parameters that a structure has, parted by commas.
 fn put_list<K: Sink>(
     trees: &[Tree],
     method: Option<Method>,
@@ -73,7 +73,7 @@ fn put_list<K: Sink>(
     Ok(())
 }
 
-/// Puts the parameters that a structure has, where there are any, in parentheses, with a space.
+/// Writes the parameters that a structure has, where there are any, in parentheses, with a space.
 pub(crate) fn put_parameters<K: Sink>(
     trees: &[Tree],
     method: Option<Method>,

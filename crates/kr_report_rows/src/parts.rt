@@ -18,8 +18,8 @@ use kr_report::field_name_among;
 use kr_space_layout::Layout;
 use kr_value::{Class, Spot, Value};
 
-/// Puts what an object has at a spot: of a field `f=value`, of an element the value, of a length nothing. Says whether
-/// something stands there by now.
+/// Writes what an object has at a spot: of a field `f=value`, of an element the value, of a length nothing. Says whether
+/// something is written by now.
 fn put_spot<K: Sink>(
     trees: &[Tree],
     fields: &[Field],
@@ -48,7 +48,7 @@ fn put_spot<K: Sink>(
     }
 }
 
-/// Puts what a structure has of an object, parted by commas.
+/// Writes what a structure has of an object, parted by commas.
 fn put_parts<K: Sink>(
     trees: &[Tree],
     fields: &[Field],
@@ -93,7 +93,7 @@ fn put_closing<K: Sink>(class: Class, out: &mut K) -> Result<(), Failed>
     }
 }
 
-/// Puts an object: `Class#k{f=value,f=value}`, or of an array `int[]#k[value,value]`.
+/// Writes an object: `Class#k{f=value,f=value}`, or of an array `int[]#k[value,value]`.
 pub(crate) fn put_object<K: Sink>(
     trees: &[Tree],
     fields: &[Field],

@@ -14,7 +14,7 @@ use kr_iso::Object;
 use kr_space_layout::Layout;
 use kr_value::{Class, Obj, SlotPlace, Spot};
 
-/// Where it stands; of a slot that isn't there `this`.
+/// Its place; `this` for a slot that isn't there.
 #[tactic(auto, using(crate::proofs::Absent::no_place))]
 fn place_of(layout: &Layout, slot: u32) -> SlotPlace
     ensures { place_of result ≡ (slot_at (bare layout.now) slot).place }
@@ -109,7 +109,7 @@ fn at_most_all(width: usize) -> usize
     }
 }
 
-/// Slots that stand together: so many from one on, at most as many as numbers name.
+/// Adjacent slots: so many from one on, at most as many as numbers name.
 #[derive(Clone, Copy)]
 pub(crate) struct Stretch {
     pub(crate) first: u32,
@@ -136,7 +136,7 @@ pub(crate) fn stretch_of(layout: &Layout, object: Object) -> Stretch
     }
 }
 
-/// Whether a slot is one of so many from one on, by one comparison: one that stands before the first is far behind the last then.
+/// Whether a slot is one of so many from one on, by one comparison: one before the first is far after the last then.
 #[inline(always)]
 fn is_among(first: u32, count: usize, slot: u32) -> bool
     requires { count ≤ 2 ^ 32 }

@@ -35,7 +35,7 @@ fn class_in(class: Class) -> Option<ClassId>
     }
 }
 
-/// Puts an object that has no fields, with what a structure has of it.
+/// Writes an object that has no fields, with what a structure has of it.
 fn put_unnamed<K: Sink>(
     layout: &Layout,
     structure: &[(u32, Value)],
@@ -47,7 +47,7 @@ fn put_unnamed<K: Sink>(
     put_object(&[], &[], layout, structure, object, out)
 }
 
-/// Puts an object, with what a structure has of it.
+/// Writes an object, with what a structure has of it.
 fn put_structured<K: Sink>(
     prepared: &Prepared,
     layout: &Layout,
@@ -68,7 +68,7 @@ fn put_structured<K: Sink>(
     }
 }
 
-/// Puts an object, where others may stand before it.
+/// Writes an object, where others may be before it.
 fn put_next<K: Sink>(
     prepared: &Prepared,
     layout: &Layout,
@@ -84,7 +84,7 @@ fn put_next<K: Sink>(
     put_structured(prepared, layout, structure, object, out)
 }
 
-/// Puts an object that a structure names, where others may stand before it. Says whether something stands there by now.
+/// Writes an object that a structure names, where others may be before it. Returns whether something is written by now.
 fn put_named<K: Sink>(
     prepared: &Prepared,
     layout: &Layout,
@@ -106,7 +106,7 @@ fn put_named<K: Sink>(
     }
 }
 
-/// Puts the objects that a structure names, parted by spaces.
+/// Writes the objects that a structure names, parted by spaces.
 fn put_objects<K: Sink>(
     prepared: &Prepared,
     layout: &Layout,
@@ -124,7 +124,7 @@ fn put_objects<K: Sink>(
     Ok(())
 }
 
-/// Puts a structure: the parameters of the method under test, where there are any, and the objects that it names. It takes no
+/// Writes a structure: the parameters of the method under test, where there are any, and the objects that it names. It takes no
 /// memory.
 pub fn structure_text<K: Sink>(
     prepared: &Prepared,
@@ -140,7 +140,7 @@ pub fn structure_text<K: Sink>(
     put_objects(prepared, layout, slots, out)
 }
 
-/// Puts a row's line: its key, its verdict where it has one, its structure. It takes no memory.
+/// Writes a row's line: its key, its verdict where it has one, its structure. It takes no memory.
 pub fn row_text<K: Sink>(prepared: &Prepared, row: &Row, out: &mut K) -> Result<(), Failed>
     ensures { Writes K.taken K.faults out.old out.new (row_text (posed prepared.now.problem) row.now) result }
 {

@@ -14,7 +14,7 @@ use kr_space_layout::Layout;
 use kr_text::{put_decimal, put_pieces};
 use kr_value::Value;
 
-/// Puts `#k`.
+/// Writes `#k`.
 fn put_rank<K: Sink>(number: u32, out: &mut K) -> Result<(), Failed>
     ensures { Writes K.taken K.faults out.old out.new (codes "#" ++ decimal number) result }
 {
@@ -26,7 +26,7 @@ fn put_rank<K: Sink>(number: u32, out: &mut K) -> Result<(), Failed>
     put_pieces(out, &[b"#", number])
 }
 
-/// Puts `Class#k`.
+/// Writes `Class#k`.
 pub(crate) fn put_object_name<K: Sink>(
     layout: &Layout,
     object: Object,
@@ -38,7 +38,7 @@ pub(crate) fn put_object_name<K: Sink>(
     put_rank(object.number, out)
 }
 
-/// Puts a value.
+/// Writes a value.
 pub(crate) fn put_value<K: Sink>(layout: &Layout, value: Value, out: &mut K) -> Result<(), Failed>
     ensures { Writes K.taken K.faults out.old out.new (value_text (bare layout.now) value) result }
 {
@@ -51,14 +51,14 @@ pub(crate) fn put_value<K: Sink>(layout: &Layout, value: Value, out: &mut K) -> 
     }
 }
 
-/// Puts a separator, if something stands before it.
+/// Writes a separator, if something is before it.
 pub(crate) fn put_between<K: Sink>(between: &[u8], any: bool, out: &mut K) -> Result<(), Failed>
     ensures { Writes K.taken K.faults out.old out.new (if any then between.now else []) result }
 {
     if any { put_all(out, between) } else { Ok(()) }
 }
 
-/// Puts a name and `=`.
+/// Writes a name and `=`.
 fn put_label<K: Sink>(name: &[u8], out: &mut K) -> Result<(), Failed>
     ensures { Writes K.taken K.faults out.old out.new (name.now ++ codes "=") result }
 {
@@ -66,7 +66,7 @@ fn put_label<K: Sink>(name: &[u8], out: &mut K) -> Result<(), Failed>
     put_all(out, b"=")
 }
 
-/// Puts `f=value`, where others may stand before it.
+/// Writes `f=value`, where others may be before it.
 pub(crate) fn put_field<K: Sink>(
     name: &[u8],
     layout: &Layout,
@@ -81,7 +81,7 @@ pub(crate) fn put_field<K: Sink>(
     put_value(layout, value, out)
 }
 
-/// Puts an element's value, where others may stand before it.
+/// Writes an element's value, where others may be before it.
 pub(crate) fn put_element<K: Sink>(
     layout: &Layout,
     value: Value,

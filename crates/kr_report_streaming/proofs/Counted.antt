@@ -1,94 +1,58 @@
--- What is counted of lines after lines.
-use Rattle.std.proofs.Common.{◌≡◌, ℕ, zero, suc, ◌-◌, ◌<◌, List, [], ◌++◌, Bool, true, false, length, take, drop, refl, sym, ap, ◌∙◌, arith, length-append, append-nil}
-use Rattle.std.specs.Prelude.{◌||◌, nat_lt}
-use Rattle.std.proofs.lemmas.Bool.Decides.{nat_tests}
-use Rattle.std.proofs.lemmas.List.{take-append-drop}
-use Rattle.kr_report.specs.Reports.{lines}
-use Rattle.kr_report_lines.specs.Lines.{failing_lines, last_of, texts}
-use Rattle.kr_report_lines.specs.Counting.{IsAfter}
-use Rattle.kr_report_lines.specs.declared.row_line.RowLine.{RowLine}
-use Rattle.kr_report_lines.specs.declared.counts.Count.{Count}
-use Rattle.kr_report_lines.proofs.After.{take_both, failing_both, last_both, length_take, more_both, text_both}
-use Rattle.kr_report_streaming.specs.Counts.{AreCounted}
+-- The answer, once rows were counted.
+use Rattle.std.proofs.Common.{◌≡◌, ℕ, ◌+◌, List, [], ◌∷◌, ◌++◌, true, false, length, take, refl, sym, ap, ◌∙◌, inl, inr, subst, arith}
+use Rattle.std.specs.Prelude.{Option, Some, None, Result, Ok, Err, is_ok, if◌then◌else◌}
+use Rattle.kr_base.specs.Told.{Added, Writes}
+use Rattle.kr_base.specs.Writing.{added_none}
+use Rattle.kr_base.specs.declared.entry.Entry.{Entry}
+use Rattle.kr_report.specs.Endings.{EndsListing}
+use Rattle.kr_report.specs.Reports.{Answer, line_answer}
+use Rattle.kr_report.specs.Summaries.{summary_line, summary_status}
+use Rattle.kr_report.specs.Texts.{counted_text}
+use Rattle.kr_report.specs.declared.lines.Summary.{Summary}
+use Rattle.kr_report.specs.declared.lines.Summary.TheVariants as summaries
+use Rattle.kr_report_streaming.specs.Tallies.{HasCounted, count_answer, summary_by, tally_by}
+use Rattle.kr_report_streaming.specs.Writers.{HaltsAt, IsListingStatus}
+use Rattle.kr_report_streaming.specs.declared.counter.Counter.{Counter}
+use Rattle.kr_report_streaming.proofs.Endings.{after_rows}
+use Rattle.kr_survey.specs.Scans.{rows_of}
+use Rattle.kr_survey.specs.Takings.{Ends, Halts, Hands}
+use Rattle.kr_survey.specs.declared.taker.End.{End}
+use Rattle.kr_survey.specs.declared.taker.End.TheVariants.{Whole, Full as AtFull}
+use Rattle.kr_survey.specs.declared.taker.Halt.{Halt}
+use Rattle.kr_survey.specs.declared.taker.Halt.TheVariants.{Sink, Memory}
+use Rattle.kr_survey.specs.declared.taker.Room.TheVariants.{More, Full}
 
-pub none_taken : {A : Type 0} (n : ℕ) (none : List A) → none ≡ [] → take n none ≡ []
-none_taken zero none e = refl
-none_taken (suc n) none e = ap (take (suc n)) e
+known : (nodes count : ℕ) (end : End) → IsListingStatus (summary_status (summary_by nodes count end))
+known nodes count (Whole tried None) = inl refl
+known nodes count (Whole tried (Some key)) = inr (inr refl)
+known nodes count AtFull = inl refl
 
-none_over : (limit : ℕ) → false ≡ nat_lt limit 0
-none_over limit = grind (arith, nat_tests)
+module _ {K : Type 0} (taken : K → Option (List ℕ)) (faults : K → ℕ) (nodes : ℕ) (es : List (Entry (Unit {0}))) (a w : Counter) (from out : K) where
+  ended : (end : End) → Ends (λ (a : Counter) (from : K) rows b out room. HasCounted from rows b out room) es a from w out end
+      → (count_answer nodes es ≡ line_answer (summary_status (summary_by nodes w.count end)) (summary_line (summary_by nodes w.count end))) × Added taken faults from out []
+  ended (Whole tried None) e = (
+    ap (λ (k : Option (List ℕ)). tally_by nodes (length (rows_of es)) k) (sym e.2) ∙ ap (λ (n : ℕ). line_answer 0 (counted_text nodes n)) (sym e.0.count),
+    subst (λ (x : K). Added taken faults from x []) (sym e.0.same) (added_none from),
+  )
+  ended (Whole tried (Some key)) e = (
+    ap (λ (k : Option (List ℕ)). tally_by nodes (length (rows_of es)) k) (sym e.2),
+    subst (λ (x : K). Added taken faults from x []) (sym e.0.same) (added_none from),
+  )
+  ended AtFull e = let no = e.1.more in absurd (cc (no))
 
-pub counted_none : (limit : ℕ) (ls : List RowLine) (valid failing : ℕ) (last : List ℕ) (more : Bool) → ls ≡ [] → valid ≡ 0 → failing ≡ 0 → last ≡ [] → more ≡ false → AreCounted limit ls valid failing last more
-counted_none limit ls valid failing last more none v f k m =
-    let taken = none_taken limit ls none in record {
-      valid_is = v ∙ sym (ap length taken);
-      failing_is = f ∙ sym (ap (λ (xs : List RowLine). length (failing_lines xs)) taken);
-      last_is = k ∙ sym (ap (last_of []) taken);
-      more_is = m ∙ (none_over limit ∙ sym (ap (λ (xs : List RowLine). nat_lt limit (length xs)) none));
-    }
+  halted : (halt : Halt) → Halts (λ (a : Counter) (from : K) rows b out room. HasCounted from rows b out room) es a from w out halt → HaltsAt taken faults (count_answer nodes es) from out halt
+  halted Sink h = let no = h.1.more in absurd (cc (no))
+  halted (Memory why) h = (0, subst (λ (x : K). Added taken faults from x []) (sym h.2.same) (added_none from))
 
-pub counted_as : (limit : ℕ) (ls : List RowLine) (v v' f f' : ℕ) (k k' : List ℕ) (m m' : Bool) → AreCounted limit ls v f k m → v' ≡ v → f' ≡ f → k' ≡ k → m' ≡ m → AreCounted limit ls v' f' k' m'
-counted_as limit ls v v' f f' k k' m m' c a b d e = record { valid_is = a ∙ c.valid_is; failing_is = b ∙ c.failing_is; last_is = d ∙ c.last_is; more_is = e ∙ c.more_is }
+  pub halted_put : (put : Result End Halt) (halt : Halt) → put ≡ Err halt → Hands (λ (a : Counter) (from : K) rows b out room. HasCounted from rows b out room) es a from w out put → HaltsAt taken faults (count_answer nodes es) from out halt
+  halted_put put halt is h = halted halt (subst (λ (p : Result End Halt). Hands (λ (a : Counter) (from : K) rows b out room. HasCounted from rows b out room) es a from w out p) is h)
 
-left_over : (limit room n v : ℕ) → v ≡ n → room ≡ limit - v → limit - n ≡ room
-left_over limit room n v e r = omega (arith, e, r)
-
-pub counted_more : (limit room : ℕ) (xs ys : List RowLine) (a b : Count) → room ≡ limit - a.valid → AreCounted limit xs a.valid a.failing a.last.now a.more → IsAfter room ys a b → AreCounted limit (xs ++ ys) b.valid b.failing b.last.now b.more
-counted_more limit room xs ys a b space c is =
-    let front = take limit xs in
-    let more = take room ys in
-    let left : limit - length front ≡ room = left_over limit room (length front) a.valid c.valid_is space in
-    let both : take limit (xs ++ ys) ≡ front ++ more = take_both limit xs ys ∙ ap (λ (n : ℕ). front ++ take n ys) left in
-    record {
-      valid_is = let n = ap length both in let m = length-append front more in omega (arith, is.valid, c.valid_is, n, m);
-      failing_is =
-          let n = ap (λ (ls : List RowLine). length (failing_lines ls)) both in
-          let k = ap length (failing_both front more) in
-          let m = length-append (failing_lines front) (failing_lines more) in
-          omega (arith, is.failing, c.failing_is, n, k, m);
-      last_is = is.last ∙ (ap (λ (k : List ℕ). last_of k more) c.last_is ∙ (sym (last_both [] front more) ∙ ap (last_of []) (sym both)));
-      more_is = is.more ∙ (ap (λ (t : Bool). t || nat_lt room (length ys)) c.more_is
-          ∙ (ap (λ (n : ℕ). nat_lt limit (length xs) || nat_lt n (length ys)) (sym left)
-          ∙ (more_both false limit (length xs) (length ys) (length front) (length_take limit xs) ∙ ap (nat_lt limit) (sym (length-append xs ys)))));
-    }
-
--- their text
-pub text_more : (limit room v : ℕ) (xs ys : List RowLine) → room ≡ limit - v → v ≡ length (take limit xs)
-    → lines (texts (take limit (xs ++ ys))) ≡ lines (texts (take limit xs)) ++ lines (texts (take room ys))
-text_more limit room v xs ys space e =
-    text_both limit xs ys ∙ ap (λ (n : ℕ). lines (texts (take limit xs)) ++ lines (texts (take n ys))) (left_over limit room (length (take limit xs)) v e space)
-
--- ---- more than the limit allows
-
-pub over : (limit n : ℕ) → nat_lt limit n ≡ true → limit < n
-over limit n h = grind (arith, nat_tests)
-
-over_too : (limit n : ℕ) → limit < n → true ≡ nat_lt limit n
-over_too limit n h = grind (arith, nat_tests)
-
-taken_all : (limit : ℕ) (xs ys : List RowLine) → limit < length xs → take limit (xs ++ ys) ≡ take limit xs
-taken_all limit xs ys h =
-    let long = length_take limit xs in
-    let none : limit - length (take limit xs) ≡ 0 = omega (arith, long, h) in
-    take_both limit xs ys ∙ (ap (λ (n : ℕ). take limit xs ++ take n ys) none ∙ append-nil (take limit xs))
-
-pub counted_all : (limit d : ℕ) (all : List RowLine) (v f : ℕ) (k : List ℕ) (m : Bool) → m ≡ true → AreCounted limit (take d all) v f k m → AreCounted limit all v f k true
-counted_all limit d all v f k m more c =
-    let xs = take d all in
-    let ys = drop d all in
-    let long : limit < length xs = over limit (length xs) (sym c.more_is ∙ more) in
-    let same : xs ++ ys ≡ all = take-append-drop d all in
-    let front : take limit xs ≡ take limit all = sym (taken_all limit xs ys long) ∙ ap (take limit) same in
-    let longer : limit < length all = let n = ap length same in let both = length-append xs ys in omega (arith, long, n, both) in
-    record {
-      valid_is = c.valid_is ∙ ap length front;
-      failing_is = c.failing_is ∙ ap (λ (ls : List RowLine). length (failing_lines ls)) front;
-      last_is = c.last_is ∙ ap (last_of []) front;
-      more_is = over_too limit (length all) longer;
-    }
-
-pub text_all : (limit d : ℕ) (all : List RowLine) (v f : ℕ) (k : List ℕ) (m : Bool) → m ≡ true → AreCounted limit (take d all) v f k m → lines (texts (take limit (take d all))) ≡ lines (texts (take limit all))
-text_all limit d all v f k m more c =
-    let xs = take d all in
-    let long : limit < length xs = over limit (length xs) (sym c.more_is ∙ more) in
-    ap (λ (ls : List RowLine). lines (texts ls)) (sym (taken_all limit xs (drop d all) long) ∙ ap (take limit) (take-append-drop d all))
+  pub ended_put : {T E : Type 0} (put : Result End Halt) (end : End) (summary : Summary) (own : ℕ) (c : K) (status : ℕ) (r : Result T E) → put ≡ Ok end
+      → Hands (λ (a : Counter) (from : K) rows b out room. HasCounted from rows b out room) es a from w out put → summary ≡ summary_by nodes w.count end → own ≡ summary_status summary
+      → Writes taken faults out c (summary_line summary) r → status ≡ (if is_ok r then own else 7) → EndsListing taken faults (count_answer nodes es) from c status
+  ended_put {T} {E} put end summary own c status r is h closes same y st =
+      let e = ended end (subst (λ (p : Result End Halt). Hands (λ (a : Counter) (from : K) rows b out room. HasCounted from rows b out room) es a from w out p) is h) in
+      let said = summary_by nodes w.count end in
+      let own_is : own ≡ summary_status said = same ∙ ap summary_status closes in
+      let line = subst (λ (x : Summary). Writes taken faults out c (summary_line x) r) closes y in
+      subst (λ (x : Answer). EndsListing taken faults x from c status) (sym e.0) (after_rows taken faults from out (line_answer (summary_status said) (summary_line said)) c status own r own_is (subst IsListingStatus (sym own_is) (known nodes w.count end)) e.1 line st)

@@ -1,4 +1,9 @@
+pub mod Pieces
+pub mod Worked
+pub mod Lists
+pub mod Law
+pub mod Written
+pub mod Endings
+pub mod Closed
 pub mod Counted
-pub mod Going
-pub mod Whole
-pub mod Ends
+pub mod Fresh

@@ -1,3 +1,6 @@
-pub mod Counts
-pub mod Puts
+pub mod Lines
+pub mod Writers
+pub mod Tallies
+pub mod Traces
+pub mod Worked
 pub mod Followed

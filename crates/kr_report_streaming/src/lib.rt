@@ -1,17 +1,19 @@
-//! The lines of a survey, put as workers find them: in rounds of all workers, of which the caller is one, who puts what stands next
-//! between two parts of its own.
+//! Who takes the rows of a report: a writer of their lines, which writes the last line too, and a counter. And the text of a
+//! board's log: a line an event.
 #![tactic(auto)]
 
-mod alone;
-mod beginning;
-mod ended;
-mod ending;
-mod halt;
-mod in_rounds;
-mod progress;
+mod closing;
+mod counter;
+mod halting;
+mod laws;
 mod putting;
-mod survey;
+mod row_line;
+mod trace;
+mod writer;
+mod writing;
 
-pub use ending::{end, end_traced};
-pub use halt::{Ended, Halt};
-pub use survey::put_survey;
+pub use counter::Counter;
+pub use laws::{count_law, lines_law, worked_lines};
+pub use row_line::{RowLine, Text};
+pub use trace::{put_event, put_trace};
+pub use writer::LineWriter;

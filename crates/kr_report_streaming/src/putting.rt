@@ -1,79 +1,43 @@
-// What was drained, put.
-ghost use Rattle.std.specs.Prelude.{◌≡◌, ◌≤◌, ◌++◌, List, [], true, IfOk};
-ghost use Rattle.kr_survey.specs.Joins.{joined, lists};
-ghost use Rattle.kr_report_lines.specs.declared.row_line.RowLine.{RowLine};
-ghost use Rattle.kr_report_streaming.specs.Puts.{HasPut, Goes};
+// Lines, some of them by one put.
+ghost use Rattle.kr_base.specs.Told.{Writes};
+ghost use Rattle.kr_report.specs.Reports.{lines};
+ghost use Rattle.kr_report_streaming.specs.Lines.{texts};
 
-use crate::halt::{Drained, Halt};
-use crate::progress::Progress;
-use kr_base::{Failed, NoMemory, Sink};
-use kr_report_lines::{Count, RowLine, Text, put_together};
+use crate::row_line::RowLine;
+use kr_base::{Failed, Sink, put_all};
+use kr_text::Line;
 use std::alloc::Global;
 
-/// Whether there is no line.
-fn is_nothing(pieces: &[Vec<RowLine>]) -> bool
-    ensures { result ≡ true → joined (lists pieces.now) ≡ [] }
+/// The most lines that one put takes.
+const RUN: usize = 128;
+
+/// Writes lines, each by a put of its own.
+fn put_each<K: Sink>(rows: &[RowLine], out: &mut K) -> Result<(), Failed>
+    ensures { Writes K.taken K.faults out.old out.new (lines (texts rows.now)) result }
 {
-    for piece in pieces {
-        if !piece.is_empty() {
-            return false;
-        }
+    for row in rows {
+        put_all(out, row.text.as_slice())?;
     }
-    true
+    Ok(())
 }
 
-/// What is counted, kept: the last line is copied.
-fn kept(alloc: Global, limit: u32, count: Count<'_>) -> Result<Progress, NoMemory>
-    requires { count.valid ≤ limit }
-    ensures limit { IfOk result (λ progress. progress.limit ≡ limit) }
-    ensures valid { IfOk result (λ progress. progress.valid ≡ count.entry.valid) }
-    ensures failing { IfOk result (λ progress. progress.failing ≡ count.entry.failing) }
-    ensures last { IfOk result (λ progress. progress.last ≡ count.entry.last.now) }
-    ensures more { IfOk result (λ progress. progress.more ≡ count.entry.more) }
+/// Writes lines by one put, or one by one where there is no memory to join them.
+fn put_run<K: Sink>(alloc: Global, run: &[RowLine], out: &mut K) -> Result<(), Failed>
+    ensures { Writes K.taken K.faults out.old out.new (lines (texts run.now)) result }
 {
-    match count.last.to_vec(alloc) {
-        Err(why) => Err(why.into()),
-        Ok(last) => Ok(Progress {
-            alloc,
-            limit,
-            valid: count.valid,
-            failing: count.failing,
-            last: Text::new(last),
-            more: count.more,
-        }),
+    let mut line = Line::new(alloc);
+    match put_each(run, &mut line) {
+        Ok(()) => put_all(out, line.bytes()),
+        Err(Failed) => put_each(run, out),
     }
 }
 
-/// Puts lines behind those that were put, as many as the limit leaves room for. Says, with whether these are all, whether there was none.
-pub(crate) fn put_drained<K: Sink>(
-    pieces: &[Vec<RowLine>],
-    all: bool,
-    progress: &mut Progress,
-    out: &mut K,
-) -> Result<Drained, Halt>
-    ensures { (limit : _) (start : K) (done : List RowLine) → HasPut K.taken K.faults limit done progress.old start out.old
-        → Goes K.taken K.faults limit (done ++ joined (lists pieces.now)) (done ++ joined (lists pieces.now)) progress.new start out.new result }
+/// Writes lines, some at a time by one put.
+pub(crate) fn put_rows<K: Sink>(alloc: Global, rows: &[RowLine], out: &mut K) -> Result<(), Failed>
+    ensures { Writes K.taken K.faults out.old out.new (lines (texts rows.now)) result }
 {
-    if is_nothing(pieces) {
-        return Ok(Drained { all, nothing: true });
+    for run in rows.chunks(RUN) {
+        put_run(alloc, run, out)?;
     }
-    match put_together(
-        progress.alloc,
-        pieces,
-        progress.limit,
-        progress.count(),
-        out,
-    ) {
-        Err(Failed) => Err(Halt::Sink),
-        Ok(count) => match kept(progress.alloc, progress.limit, count) {
-            Err(why) => Err(Halt::Memory(why)),
-            Ok(next) => {
-                *progress = next;
-                Ok(Drained {
-                    all,
-                    nothing: false,
-                })
-            }
-        },
-    }
+    Ok(())
 }

@@ -1,4 +1,4 @@
--- What the machine's steps need of the meaning.
+-- The meaning's laws that the machine's steps need.
 use Rattle.std.proofs.Common.{◌≡◌, ◌<◌, arith, ℕ, List, [], ◌∷◌, length, Result, Ok, Err, refl, sym, ap, ◌∙◌, subst}
 use Rattle.std.specs.Prelude.{map, take, drop, Bool, true, nat_eq}
 use Rattle.std.proofs.lemmas.Bool.{eq-eqb}
@@ -71,7 +71,7 @@ runs receiver n args body s locals e is =
     ap (λ (b : Bool). entered b receiver args body s) (arity (length args) n e)
     ∙ ap (λ (ls : List steps.Local). back_to s (body (record s { this_value = receiver; locals = ls }))) (sym is)
 
--- behind the last class no arguments are taken
+-- past the last class no arguments are taken
 pub last_stuck : (code : Code) (d : Doing) (o : Value) (args : List Value) (s : State) → 0 < length args → constructed code d [] o args s ≡ stop Stuck s
 last_stuck code d o [] s lt = absurd (omega (arith, lt))
 last_stuck code d o (v ∷ vs) s lt = refl

@@ -1,4 +1,4 @@
--- What passes frames by: one step of it, and what comes to those that wait.
+-- Frames that are passed by: one step of it, and the frames that wait.
 use Rattle.std.proofs.Common.{◌≡◌, ◌<◌, arith, List, [], ◌∷◌, Result, Err, length, refl, sym, ap, ◌∙◌, subst}
 use Rattle.std.specs.Prelude.{drop}
 use Rattle.kr_mean.specs.declared.flow.Flow.{Flow}
@@ -31,7 +31,7 @@ use Rattle.kr_run.specs.declared.unwinding.Ends.{Ends}
 use Rattle.kr_run.specs.declared.unwinding.Ends.TheVariants as parts
 use Rattle.kr_run.specs.Unwinding.{Comes, HasPassed, IsLeaving, MayAwait, PassesBy, out_passing, state_behind}
 
--- what leaves the body passes what waits for a statement's end
+-- a flow that leaves the body passes frames that wait for a statement's end
 pub leaves : (f : FlowFrame) (flow : Flow) → IsLeaving flow → PassesBy (kept.Flow f) (passing.Flow flow) parts.Nothing
 leaves (leads.Rest ns) flows.Left i = λ code d vs ls fs s. refl
 leaves (leads.Rest ns) (flows.Gave v) i = λ code d vs ls fs s. refl
@@ -72,7 +72,7 @@ fewer frame top after on behind =
 pub stays : (code : Code) (here : List Frame) (by : Passing) (before : World) → Comes code by here before before (λ d x. out_passing code d here by (state_at before x))
 stays code here by before = λ x a. (kept_same before x a, λ d m. refl)
 
--- what may be awaited may have come to a frame that waits for it
+-- an awaited outcome may be received by a frame that waits for it
 pub has_passed : (by : Passing) (fs : List Frame) → MayAwait by → HasPassed by fs
 has_passed (passing.Flow flow) fs m = tt
 has_passed (passing.Stop e) fs m = absurd m
@@ -81,7 +81,7 @@ pub all_passed : (by : Passing) (fs : List Frame) → fs ≡ [] → HasPassed by
 all_passed (passing.Flow flow) fs e = tt
 all_passed (passing.Stop e) fs is = is
 
--- what is done from there is what there was to do
+-- the rest of the run from there is the rest of the run
 pub comes_then : (code : Code) (r : Result Task Halt) (fs there here : List Frame) (flow : Flow) (w middle before : World) → Comes code (passing.Flow flow) there middle before (λ d x. out_passing code d here (passing.Flow flow) (state_at before x))
     → Leads code r fs w middle (λ d x. out_flow code d there (give flow (state_at middle x))) → Leads code r fs w before (λ d x. out_flow code d here (give flow (state_at before x)))
 comes_then code r fs there here flow w middle before e h =

@@ -1,4 +1,4 @@
--- Between crates: what a step, and what a whole run, says of the meaning.
+-- Between crates: a step, and a whole run, against the meaning.
 use Rattle.std.specs.Prelude.{◌≡◌, List, Result, Ok, Err}
 use Rattle.kr_value.specs.declared.value.Value.{Value}
 use Rattle.kr_mean.specs.declared.kind.Stop.{Stop}
@@ -16,12 +16,11 @@ use Rattle.kr_run_frames.specs.Leads.{Leads}
 use Rattle.kr_run.specs.declared.steps.Step.{Step}
 use Rattle.kr_run.specs.declared.steps.Step.TheVariants.{More, Finished}
 
--- The run comes to a value, or ends so, and leaves a world, in every meaning of the code: with all candidates that what it has
--- read allows.
+-- The run ends with a value, or so, and leaves a world, in every meaning of the code: with all candidates that its reads allow.
 abbrev pub ComesTo : Code → Result Value Stop → World → World → (Doing → Others → Outcome Value) → Type 0
 ComesTo code r w before o = (x : Others) → Allows w x → Keeps before w x × ((d : Doing) → IsMeaning code d → noting before.reads (o d x) ≡ record { said = r; after = state_at w x; reads = w.reads })
 
--- the value, or the end; where memory ran out nothing is said
+-- the value, or the end; on out-of-memory nothing is known
 abbrev pub Answers : Code → Result Value Halt → World → World → (Doing → Others → Outcome Value) → Type 0
 Answers code (Ok v) w before o = ComesTo code (Ok v) w before o
 Answers code (Err (Ended e)) w before o = ComesTo code (Err e) w before o

@@ -26,12 +26,12 @@ IsLeaving flows.Left = Unit {0}
 IsLeaving (flows.Gave v) = Unit {0}
 IsLeaving _ = ⊥
 
--- the outcome of the whole run, where this comes to the frames
+-- the outcome of the whole run, where the frames receive this
 abbrev pub out_passing : Code → Doing → List Frame → Passing → State → Outcome Value
 out_passing code d fs (passing.Flow flow) s = out_flow code d fs (give flow s)
 out_passing code d fs (passing.Stop e) s = stopped code d fs e s
 
--- the state behind a frame that has these locals
+-- the state after a frame that has these locals
 abbrev pub state_behind : Ends → List Local → State → State
 state_behind parts.Nothing ls s = s
 state_behind (parts.Scope n) ls s = record s { locals = take n s.locals }
@@ -41,7 +41,7 @@ state_behind (parts.Body this) ls s = record s { this_value = this; locals = map
 abbrev pub PassesBy : Waiting → Passing → Ends → Type 0
 PassesBy frame p ends = (code : Code) (d : Doing) (vs : List Value) (ls : List Local) (fs : List Frame) (s : State) → out_passing code d (frame_of frame vs ls ∷ fs) p s ≡ out_passing code d fs p (state_behind ends (locals_on (frame_of frame vs ls ∷ fs)) s)
 
--- It comes to the frames now, and the run's outcome is the same.
+-- The frames receive it now, and the run keeps its outcome.
 abbrev pub Comes : Code → Passing → List Frame → World → World → (Doing → Others → Outcome Value) → Type 0
 Comes code p fs w before o = (x : Others) → Allows w x → Keeps before w x × ((d : Doing) → IsMeaning code d → noting before.reads (o d x) ≡ noting w.reads (out_passing code d fs p (state_at w x)))
 

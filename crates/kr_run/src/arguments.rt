@@ -42,7 +42,7 @@ fn with_value(found: Vec<Value>, given: Value) -> Result<Vec<Value>, NoMemory>
     Ok(values)
 }
 
-/// Arguments that are left, behind those that are there, and then what is done with all.
+/// Arguments that are left, after those that are there, and then the use of all.
 #[tactic(auto, using(kr_run_moves::proofs::Moves::onto_all), unfolding(kr_mean::specs::Steps::bind))]
 fn next_of(
     alloc: Global,
@@ -161,7 +161,7 @@ pub(crate) fn next_arguments(
     }
 }
 
-/// One more argument is there, behind those that were.
+/// One more argument is there, after the others.
 fn take_next(
     alloc: Global,
     code: &Code,

@@ -1,5 +1,5 @@
 // Calls: a method's body comes next, on its arguments.
-ghost use Rattle.std.specs.Prelude.{◌≡◌, ◌∷◌, map, OnOk};
+ghost use Rattle.std.specs.Prelude.{◌≡◌, map, OnOk};
 ghost use Rattle.kr_value.specs.declared.value.Value.TheVariants.{Null};
 ghost use Rattle.kr_mean.specs.Steps.{bind, class_of as class_step, plain_local, collect as collect_step};
 ghost use Rattle.kr_code.specs.Collections.{name_of, new_collection as collection_step};
@@ -194,7 +194,7 @@ fn collect_on(
     }
 }
 
-/// What is done with arguments that are all there.
+/// The use of arguments that are all there.
 #[tactic(auto, unfolding(kr_mean::specs::Steps::bind))]
 pub fn apply(
     alloc: Global,

@@ -1,12 +1,11 @@
 // Creation: the constructors of a line of classes, and the initial values of fields.
-ghost use Rattle.std.specs.Prelude.{◌≡◌, ◌∷◌, [], map};
+ghost use Rattle.std.specs.Prelude.{[]};
 ghost use Rattle.kr_mean.specs.declared.kind.Stop.TheVariants.{Stuck};
 ghost use Rattle.kr_code.specs.Tables.{class_at, listed};
 ghost use Rattle.kr_code.specs.Doing.{create as create_step, constructed, constructed_in, super_values, initialised as initialised_step};
 ghost use Rattle.kr_run_frames.specs.Frames.{out_value, out_unit, done, upwards};
 ghost use Rattle.kr_run_frames.specs.Leads.{Leads, next_task};
 ghost use Rattle.kr_mean.specs.Steps.{bind, within, stop as stop_step};
-ghost use Rattle.kr_run_state.specs.Shown.{local_of};
 ghost use Rattle.kr_run_state.specs.Worlds.{state_at};
 
 use crate::calls::become_arguments;
@@ -170,7 +169,7 @@ fn construct_in(
     }
 }
 
-/// Behind the last class of a line nothing takes arguments.
+/// Past the last class of a line nothing takes arguments.
 fn construct_last(
     code: &Code,
     world: &World,

@@ -1,5 +1,5 @@
 //! The machine that runs resolved code: a task at a time, with a stack of its own, so that no code is nested too deep for it.
-//! What it answers, leaves and has read is what the code means.
+//! Its answer, the state that it leaves and its reads are those of the code's meaning.
 #![tactic(auto)]
 
 mod arguments;

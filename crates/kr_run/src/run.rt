@@ -10,8 +10,8 @@ ghost use Rattle.kr_run_frames.specs.declared.task.Task.TheVariants as tasks;
 ghost use Rattle.kr_code.specs.Doing.{statement_done, flow_of};
 ghost use Rattle.kr_code.specs.Steps.{store_initial as store_step};
 ghost use Rattle.kr_run_frames.specs.declared.frame.Change.TheVariants as changes;
-ghost use Rattle.kr_run_frames.specs.Frames.{resumed, out_value, out_flow, out_unit, altered, restored, cut_to};
-ghost use Rattle.kr_mean.specs.Meaning.{returned, completed};
+ghost use Rattle.kr_run_frames.specs.Frames.{resumed, out_value, out_flow, out_unit, altered, cut_to};
+ghost use Rattle.kr_mean.specs.Meaning.{completed};
 ghost use Rattle.kr_mean.specs.Operators.{step_operator as operator_of_step};
 ghost use Rattle.kr_run_state.specs.Actions.{acted};
 ghost use Rattle.kr_run_frames.specs.Leads.{Leads, next_task};
@@ -214,7 +214,7 @@ fn store(
     }
 }
 
-/// A value comes to the topmost frame.
+/// The topmost frame receives a value.
 #[inline(always)]
 #[tactic(auto, unfolding(kr_mean::specs::Steps::bind))]
 fn value_frame(
@@ -340,7 +340,7 @@ fn end_scope(
     Ok(())
 }
 
-/// A statement's end comes to the topmost frame.
+/// The topmost frame receives a statement's end.
 #[inline(always)]
 #[tactic(auto, unfolding(kr_mean::specs::Steps::bind))]
 fn flow_frame(
@@ -411,7 +411,7 @@ fn construct_on(
     }
 }
 
-/// What gives nothing is done, and the topmost frame waited for it.
+/// A step without a value is done, and the topmost frame waited for it.
 #[tactic(auto, unfolding(kr_mean::specs::Steps::bind))]
 fn unit_frame(
     alloc: Global,
@@ -461,7 +461,7 @@ fn act_on(
     }
 }
 
-/// What a task leads to, but for a value that comes to a frame.
+/// The next task, except where a frame receives a value.
 #[inline(always)]
 #[tactic(auto, unfolding(kr_mean::specs::Steps::bind))]
 fn do_task(
@@ -494,7 +494,7 @@ fn do_task(
     }
 }
 
-/// A value comes to the topmost frame, or the run has it.
+/// The topmost frame receives a value, or the run has it.
 #[inline(always)]
 #[tactic(auto, using(crate::proofs::Passing::stops_then))]
 fn give_value(
@@ -518,7 +518,7 @@ fn give_value(
     }
 }
 
-/// A statement's end comes to the topmost frame.
+/// The topmost frame receives a statement's end.
 #[inline(always)]
 #[tactic(auto, unfolding(kr_mean::specs::Steps::bind))]
 fn arrive(
@@ -537,7 +537,7 @@ fn arrive(
     return flow_frame(code, world, stack, frame, flow, task);
 }
 
-/// A statement's end comes to the frame that waits for it.
+/// The frame that waits for it receives a statement's end.
 #[inline(always)]
 #[tactic(auto, using(crate::proofs::Passing::comes_then))]
 fn give_flow(
@@ -556,7 +556,7 @@ fn give_flow(
     return arrive(code, world, stack, flow, task);
 }
 
-/// What gives nothing is done.
+/// A step without a value is done.
 #[tactic(auto, unfolding(kr_mean::specs::Steps::bind))]
 fn give_nothing(
     alloc: Global,

@@ -1,8 +1,8 @@
-// What a step gives.
+// The result of a step.
 
 use kr_value::Value;
 
-/// What a step gives.
+/// The result of a step.
 #[derive(Clone, Copy)]
 pub enum Step {
     /// A task comes next.

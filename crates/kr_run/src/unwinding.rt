@@ -1,4 +1,4 @@
-// What passes frames by: a flow that leaves the body, or the end of the run.
+// Frames that are passed by: by a flow that leaves the body, or by the end of the run.
 ghost use Rattle.std.specs.Prelude.{◌≡◌, IfSome, MatchOption, OnOk, true};
 ghost use Rattle.kr_mean.specs.declared.kind.Stop.{Stop as Reason};
 ghost use Rattle.kr_run.specs.Answers.{Answers};
@@ -14,14 +14,14 @@ use kr_run_frames::{Stack, Waiting};
 use kr_run_state::{Halt, NoMemory, World};
 use kr_value::Value;
 
-/// What passes frames by: where a statement leads, or how the run ends.
+/// An outcome that passes frames by: a flow, or the end of the run.
 #[derive(Clone, Copy)]
 pub enum Passing {
     Flow(Flow),
     Stop(Stop),
 }
 
-/// What ends with a frame: nothing, the locals of a block behind so many, or a body, whose caller had this `this` and the
+/// The scope that ends with a frame: none, the locals of a block after so many, or a body, whose caller had this `this` and the
 /// frame's locals.
 #[derive(Clone, Copy)]
 pub enum Ends {
@@ -44,8 +44,8 @@ pub(crate) fn is_leaving(flow: Flow) -> bool
     }
 }
 
-/// What ends with a frame that a flow passes by, if it does: blocks, and where it leaves the body what waits for a statement's
-/// end.
+/// The scope that ends with a frame that a flow passes by, if it does: blocks, and where it leaves the body frames that wait
+/// for a statement's end.
 #[inline(always)]
 #[tactic(auto, using(crate::proofs::Passing::leaves))]
 fn flow_past(frame: &Waiting, flow: Flow) -> Option<Ends>
@@ -64,7 +64,7 @@ fn flow_past(frame: &Waiting, flow: Flow) -> Option<Ends>
     }
 }
 
-/// What ends with a frame that the end of the run passes by: none waits for it.
+/// The scope that ends with a frame that the end of the run passes by: none waits for it.
 fn stop_past(frame: &Waiting) -> Ends
     ensures { (e : Reason) → PassesBy frame.now (passing.Stop e) result }
 {
@@ -86,7 +86,7 @@ fn stop_past(frame: &Waiting) -> Ends
     }
 }
 
-/// What ends with a frame that is passed by, if it is.
+/// The scope that ends with a frame that is passed by, if it is.
 #[inline(always)]
 fn past(frame: &Waiting, by: Passing) -> Option<Ends>
     ensures { MatchOption result (MayAwait by) (λ ends. PassesBy frame.now by ends) }

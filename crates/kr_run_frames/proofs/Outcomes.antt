@@ -25,7 +25,7 @@ use Rattle.kr_run_frames.specs.declared.task.Task.{Task}
 use Rattle.kr_run_frames.specs.Frames.{continued, restored, cut_to, got, tested, led, done, applied, upwards, onto, missed, misled, out_value, out_flow, out_unit, stopped}
 use Rattle.kr_run_frames.specs.Leads.{Leads}
 
--- ---- reads that stand before
+-- ---- earlier reads
 
 pub reads_twice : {A : Type 0} (a b : List SlotPlace) (o : Outcome A) → after_reads a (after_reads b o) ≡ after_reads (a ++ b) o
 reads_twice {A} a b o = ap (λ (rs : List SlotPlace). mk rs) (sym (append_assoc a b o.reads))
@@ -100,7 +100,7 @@ noted_on {A} seen new rs o h = ap mk (noted_behind seen rs o.reads ∙ ap (λ (p
     mk : List SlotPlace → Outcome A
     mk ps = record { said = o.said; after = o.after; reads = ps }
 
--- what it comes to goes on
+-- its outcome goes on
 pub came : {A B : Type 0} (out : Outcome A → Outcome B) (law : (rs : List SlotPlace) (o : Outcome A) → out (after_reads rs o) ≡ after_reads rs (out o)) (seen new : List SlotPlace) (o : Outcome A) (r : Result A Stop) (s : State)
     → noting seen o ≡ record { said = r; after = s; reads = new } → noting seen (out o) ≡ noting new (out (say r s))
 came {A} {B} out law seen new o r s h =
@@ -142,7 +142,7 @@ mutual
 
 -- ---- both, for what the machine answers
 
--- what ends a part ends the run, in every meaning
+-- an end of a part ends the run, in every meaning
 pub halts : {A : Type 0} (code : Code) (h : Halt) (fs : List Frame) (w before : World) (out : Doing → Outcome A → Outcome Value)
     → ((d : Doing) (rs : List SlotPlace) (o : Outcome A) → out d (after_reads rs o) ≡ after_reads rs (out d o)) → ((d : Doing) (e : Stop) (s : State) → out d (stop e s) ≡ stopped code d fs e s)
     → (o : Others → Outcome A) → Agrees {A = A} (Err h) w before o → Leads code (Err h) fs w before (λ d x. out d (o x))
@@ -155,7 +155,7 @@ value_halts code h fs w before o a = halts code h fs w before (λ d q. out_value
 pub unit_halts : (code : Code) (h : Halt) (fs : List Frame) (w before : World) (o : Others → Outcome (Unit {0})) → Agrees {A = Unit {0}} (Err h) w before o → Leads code (Err h) fs w before (λ d x. out_unit code d fs (o x))
 unit_halts code h fs w before o a = halts code h fs w before (λ d q. out_unit code d fs q) (λ d rs q. unit_reads code d fs rs q) (λ d e s. unit_stops code d fs e s) o a
 
--- the same where a value, or a flow, would have come of it
+-- likewise where a value, or a flow, would have been the outcome
 pub value_halts_then : {A : Type 0} (code : Code) (h : Halt) (fs : List Frame) (w before : World) (k : Doing → A → Run Value) (o : Others → Outcome A) → Agrees {A = A} (Err h) w before o → Leads code (Err h) fs w before (λ d x. out_value code d fs (continued (o x) (k d)))
 value_halts_then code h fs w before k o a =
     halts code h fs w before (λ d q. out_value code d fs (continued q (k d))) (λ d rs q. ap (out_value code d fs) (continued_reads rs q (k d)) ∙ value_reads code d fs rs (continued q (k d))) (λ d e s. value_stops code d fs e s) o a
@@ -164,7 +164,7 @@ pub flow_halts_then : {A : Type 0} (code : Code) (h : Halt) (fs : List Frame) (w
 flow_halts_then code h fs w before k o a =
     halts code h fs w before (λ d q. out_flow code d fs (continued q (k d))) (λ d rs q. ap (out_flow code d fs) (continued_reads rs q (k d)) ∙ flow_reads code d fs rs (continued q (k d))) (λ d e s. flow_stops code d fs e s) o a
 
--- the same by another way, where that is allowed
+-- equal by another way, where that is allowed
 pub leads_same : (code : Code) (r : Result Task Halt) (fs : List Frame) (w middle before : World) (o o' : Doing → Others → Outcome Value)
     → ((x : Others) → Allows middle x → Keeps before middle x × ((d : Doing) → IsMeaning code d → noting before.reads (o d x) ≡ noting middle.reads (o' d x)))
     → Leads code r fs w middle o' → Leads code r fs w before o
@@ -172,7 +172,7 @@ leads_same code (Ok task) fs w middle before o o' e h = λ x a. let y = h x a in
 leads_same code (Err (Ended end)) fs w middle before o o' e h = λ x a. let y = h x a in let z = e x y.0.allowed in (kept_then before middle w x z.0 y.0, λ d m. z.1 d m ∙ y.1 d m)
 leads_same code (Err (Memory why)) fs w middle before o o' e h = tt
 
--- the same outcome
+-- equal outcomes
 pub leads_alike : (code : Code) (r : Result Task Halt) (fs : List Frame) (w before : World) (o o' : Doing → Others → Outcome Value)
     → ((x : Others) (d : Doing) → IsMeaning code d → o d x ≡ o' d x)
     → Leads code r fs w before o' → Leads code r fs w before o

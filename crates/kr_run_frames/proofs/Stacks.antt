@@ -24,7 +24,7 @@ drop_whole : {A : Type 0} (xs : List A) → drop (length xs) xs ≡ []
 drop_whole [] = refl
 drop_whole (x ∷ xs) = drop_whole xs
 
--- what is behind others
+-- items after others
 drop_front : {A : Type 0} (xs ys : List A) → drop (length xs) (xs ++ ys) ≡ ys
 drop_front [] ys = refl
 drop_front (x ∷ xs) ys = drop_front xs ys
@@ -74,7 +74,7 @@ frame_there ws n (suc k) w vs ls lt below is =
     let under = frame_there ws (n - 1) k w (take (values_from v (length vs)) vs) (take (locals_from v (length ls)) ls) (omega (arith, lt)) (omega (arith, below)) (is ∙ ap (λ (i : ℕ). get_or ws i w) same) in
     subst (λ (us : List Waiting). IsOnTop w (drop (suc k) (unpacked us vs ls))) (sym first) under
 
--- ---- what the topmost frame has
+-- ---- the lists of the topmost frame
 
 its_values : (w : Waiting) (ws : List Waiting) (vs : List Value) (ls : List Local) → drop (values_from w (length vs)) vs ≡ values_on (unpacked (w ∷ ws) vs ls)
 its_values (kept.Value f) ws vs ls = drop_whole vs
@@ -171,7 +171,7 @@ pushed w ws us vs ls p e =
     ∙ ap (λ (xs : List Value). frame_of w [] [] ∷ unpacked ws xs (take (locals_from w (length ls)) ls)) (ap (λ (n : ℕ). take n vs) (no_values w p (length vs)) ∙ take_whole vs)
     ∙ ap (λ (xs : List Local). frame_of w [] [] ∷ unpacked ws vs xs) (ap (λ (n : ℕ). take n ls) (no_locals w p (length ls)) ∙ take_whole ls)
 
--- with values, or with locals, behind those of the others
+-- with values, or with locals, after those of the others
 with_values : (f : List Value → Frame) (ws : List Waiting) (vs us : List Value) (ls : List Local) → f (drop (length vs) (vs ++ us)) ∷ unpacked ws (take (length vs) (vs ++ us)) (take (length ls) ls) ≡ f us ∷ unpacked ws vs ls
 with_values f ws vs us ls =
     ap (λ (xs : List Value). f xs ∷ unpacked ws (take (length vs) (vs ++ us)) (take (length ls) ls)) (drop_front vs us)

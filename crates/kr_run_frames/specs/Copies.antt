@@ -8,7 +8,7 @@ use Rattle.kr_code.specs.Doing.{Doing}
 use Rattle.kr_run_frames.specs.Frame.{Frame}
 use Rattle.kr_run_frames.specs.Frames.{out_value, out_flow, out_unit}
 
--- whatever comes to them, the run's outcome is the same
+-- whatever they receive, the run's outcome is equal
 pub record GoOnAlike (fs gs : List Frame) : Type 0 where
   pub value : (code : Code) (d : Doing) (o : Outcome Value) → out_value code d fs o ≡ out_value code d gs o
   pub flow : (code : Code) (d : Doing) (o : Outcome Flow) → out_flow code d fs o ≡ out_flow code d gs o

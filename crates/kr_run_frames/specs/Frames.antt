@@ -1,4 +1,4 @@
--- Between crates: the outcome of the whole run, from what a part of it has come to and the frames that wait.
+-- Between crates: the outcome of the whole run, from the outcome of a part of it and the frames that wait.
 use Rattle.std.specs.Prelude.{ℕ, true, false, List, [], ◌∷◌, Result, Ok, Err, map, take, reverse}
 use Rattle.kr_value.specs.declared.value.Value.{Value}
 use Rattle.kr_value.specs.declared.value.Value.TheVariants.{Bool as Truth, Null}
@@ -10,13 +10,13 @@ use Rattle.kr_mean.specs.Places.{SlotPlace}
 use Rattle.kr_mean.specs.Steps.{State, Outcome, Run, after_reads, go_on, say, give, stop, ◌>>=◌, ◌>>◌, get_this, assign, within, element, class_or_null, class_of, collect}
 use Rattle.kr_mean.specs.Operators.{operated, operated_alone, gives_old}
 use Rattle.kr_mean.specs.Meaning as meaning
-use Rattle.kr_mean.specs.Meaning.{then_on, then_round, then_update, returned, completed, choose, stepped, change_from}
+use Rattle.kr_mean.specs.Meaning.{then_on, then_round, then_update, returned, completed, choose, stepped, change_from, compound}
 use Rattle.kr_code.specs.declared.code.Code.{Code}
 use Rattle.kr_code.specs.declared.expression.Nodes.{Nodes}
 use Rattle.kr_code.specs.Tables.{listed, method_at, class_at}
 use Rattle.kr_code.specs.Collections.{name_of, new_collection}
 use Rattle.kr_code.specs.Steps.{load_named, store_field, store_initial, store_item, cast_to, instance_of}
-use Rattle.kr_code.specs.Doing.{Doing, values_at, all_at, updates_at, run_method, run_numbered, run_on, initialised, constructed, create, array_of, compound, initial_value, all_declared, condition, for_round}
+use Rattle.kr_code.specs.Doing.{Doing, values_at, all_at, updates_at, run_method, run_numbered, run_on, initialised, constructed, create, array_of, initial_value, all_declared, condition, for_round}
 use Rattle.kr_run_state.specs.declared.world.Local.{Local}
 use Rattle.kr_run_state.specs.declared.action.Cell.{Cell}
 use Rattle.kr_run_state.specs.declared.action.Cell.TheVariants as cells
@@ -44,7 +44,7 @@ use Rattle.kr_run_frames.specs.declared.frame.UnitFrame.TheVariants as units
 use Rattle.kr_run_frames.specs.Frame.{Frame}
 use Rattle.kr_run_frames.specs.Frame as frames
 
--- what goes on from an outcome
+-- continuations of an outcome
 abbrev pub continued : {A B : Type 0} → Outcome A → (A → Run B) → Outcome B
 continued o f = go_on o.said o.after o.reads f
 
@@ -53,7 +53,7 @@ abbrev pub onto : List Value → List Value → List Value
 onto [] vs = vs
 onto (u ∷ us) vs = onto us (u ∷ vs)
 
--- ---- what is done with arguments
+-- ---- uses of arguments
 
 abbrev pub applied : Code → Doing → Goal → List Value → Run Value
 applied code d goals.Stop vs = stop Stuck
@@ -65,7 +65,7 @@ applied code d (goals.New c) vs = create code d c vs (class_at code c)
 applied code d (goals.NewCollection class) vs = new_collection class vs
 applied code d (goals.Collect c o) vs = collect (name_of c) o vs
 
--- behind the superclass's constructor
+-- after the superclass's constructor
 abbrev pub behind : Code → Doing → Value → Nodes → Nodes → Run (Unit {0})
 behind code d o initialisers body = do
   within o 0 [] (initialised code d o (listed code initialisers))
@@ -101,7 +101,7 @@ round_of code d (loops.For e us a) = for_round d a (listed code us)
 abbrev pub repeated : Code → Doing → Loop → Run Flow
 repeated code d l = d.loop (test_of d l) (round_of code d l)
 
--- behind a loop's test
+-- after a loop's test
 abbrev pub turned : Code → Doing → Loop → Value → Run Flow
 turned code d l v = choose v (round_of code d l >>= (λ flow. then_round flow (repeated code d l))) (give flows.Next)
 
@@ -165,7 +165,7 @@ done code d (units.Initialise ns o) = initialised code d o (listed code ns)
 abbrev pub restored : {A : Type 0} → Value → List Local → Outcome A → Outcome A
 restored this locals o = record { said = o.said; after = record o.after { this_value = this; locals = map local_of locals }; reads = o.reads }
 
--- without the locals behind so many
+-- without the locals after so many
 abbrev pub cut_to : {A : Type 0} → ℕ → Outcome A → Outcome A
 cut_to n o = record { said = o.said; after = record o.after { locals = take n o.after.locals }; reads = o.reads }
 

@@ -1,4 +1,4 @@
--- Between crates: the frames that a stack stands for: it keeps the lists of all frames one behind another.
+-- Between crates: the frames of a stack: it keeps the lists of all frames one after another.
 use Rattle.std.specs.Prelude.{ℕ, ◌≡◌, List, [], ◌∷◌, take, drop, length}
 use Rattle.kr_value.specs.declared.value.Value.{Value}
 use Rattle.kr_run_state.specs.declared.world.Local.{Local}

@@ -21,7 +21,7 @@ Leads code (Ok task) fs w before o = (x : Others) → Allows w x → Keeps befor
 Leads code (Err (Ended e)) fs w before o = (x : Others) → Allows w x → Keeps before w x × ((d : Doing) → IsMeaning code d → noting before.reads (o d x) ≡ noting w.reads (stopped code d fs e (state_at w x)))
 Leads code (Err (Memory why)) fs w before o = Unit {0}
 
--- the task that stands there now, or why none does
+-- the new task, or why there is none
 abbrev pub next_task : Result (Unit {0}) Halt → Task → Result Task Halt
 next_task (Ok u) task = Ok task
 next_task (Err h) task = Err h

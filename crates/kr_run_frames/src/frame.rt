@@ -1,11 +1,11 @@
-// What waits for a value, for a statement's end, or for something that gives nothing.
+// Frames that wait for a value, for a statement's end, or for a step without a value.
 
 use kr_ast::{BinaryOperator, StepOperator, UnaryOperator};
 use kr_code::{CollectionCall, Nodes};
 use kr_run_state::Cell;
 use kr_value::{Class, Value};
 
-/// What is done with arguments.
+/// The use of arguments.
 #[derive(Clone, Copy)]
 pub enum Goal {
     /// Nothing that is known.
@@ -26,8 +26,8 @@ pub enum Goal {
     Collect(CollectionCall, Value),
 }
 
-/// What is done once the arguments of a superclass's constructor are there: the line of classes and the object, and then
-/// initial values and body.
+/// The rest of a creation once the arguments of a superclass's constructor are there: the line of classes and the object, and
+/// then initial values and body.
 #[derive(Clone, Copy)]
 pub struct Up {
     pub line: Nodes,
@@ -51,7 +51,7 @@ pub enum Loop {
     For(Option<u32>, Nodes, u32),
 }
 
-/// What writes a variable, from a value.
+/// A frame that writes a variable, from a value.
 #[derive(Clone, Copy)]
 pub enum WriteFrame {
     /// A variable gets the value.
@@ -73,7 +73,7 @@ pub enum WriteFrame {
     Alter(Change, Cell),
 }
 
-/// What makes a value of a value.
+/// A frame that makes a value of a value.
 #[derive(Clone, Copy)]
 pub enum ValueFrame {
     Load(u32),
@@ -95,7 +95,7 @@ pub enum ValueFrame {
     Write(WriteFrame),
 }
 
-/// What leads on after a value.
+/// A frame that goes on after a value.
 #[derive(Clone, Copy)]
 pub enum TestFrame {
     Then(u32),
@@ -113,7 +113,7 @@ pub enum TestFrame {
     Test(Loop),
 }
 
-/// What leads on after a statement.
+/// A frame that goes on after a statement.
 #[derive(Clone, Copy)]
 pub enum FlowFrame {
     Rest(Nodes),
@@ -122,7 +122,7 @@ pub enum FlowFrame {
     First(Loop),
 }
 
-/// What follows in a creation.
+/// The next step of a creation.
 #[derive(Clone, Copy)]
 pub enum UnitFrame {
     /// The superclass's constructor is done.

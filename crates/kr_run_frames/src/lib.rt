@@ -1,5 +1,5 @@
-//! What a machine has still to do: the task that comes next, and the frames that wait for what it gives. `specs/` says which
-//! outcome of the whole run a task, the frames and a world stand for.
+//! The rest of a machine's run: the next task, and the frames that wait for its result. `specs/` defines which outcome of the
+//! whole run a task, the frames and a world mean.
 #![tactic(auto)]
 
 mod frame;

@@ -4,7 +4,7 @@ ghost use Rattle.std.specs.Prelude.{◌≡◌, ◌∷◌, ◌++◌, ◌≤◌, [
 use crate::Waiting;
 use kr_base::NoMemory;
 
-/// A frame behind all others.
+/// A frame after all others.
 #[inline(never)]
 fn append(frames: &mut Vec<Waiting>, frame: &Waiting) -> Result<(), NoMemory>
     ensures appended { OnOk result (frames.new.items ≡ frames.old.items ++ frame.now ∷ []) }
@@ -58,7 +58,7 @@ pub(crate) fn replace_front(frames: &mut Vec<Waiting>, others: &[Waiting]) -> Re
     Ok(())
 }
 
-/// Others behind those that are there.
+/// Others after those that are there.
 #[inline(always)]
 pub(crate) fn extend<T: Copy>(items: &mut Vec<T>, others: &[T]) -> Result<(), NoMemory>
     ensures { OnOk result (items.new.items ≡ items.old.items ++ others.now) }

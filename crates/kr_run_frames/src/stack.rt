@@ -13,8 +13,8 @@ use kr_value::Value;
 use std::alloc::Global;
 use std::marker::Model;
 
-/// A stack of frames. Contracts see the list of them, the top one first. Behind those there is room for others, and the values
-/// and the locals of all of them lie one behind another.
+/// A stack of frames. Contracts see the list of them, the top one first. After those there is room for others, and the values
+/// and the locals of all of them lie one after another.
 #[derive(Drop)]
 pub struct Stack {
     frames: Vec<Waiting>,
@@ -210,7 +210,7 @@ impl Stack {
         Ok(())
     }
 
-    /// Arguments are awaited, behind these.
+    /// Arguments are awaited, after these.
     #[tactic(auto, using(crate::proofs::Stacks::pushed_arguments))]
     pub fn push_arguments(
         &mut self,
@@ -230,7 +230,7 @@ impl Stack {
         Ok(())
     }
 
-    /// Arguments of a superclass's constructor are awaited, behind these.
+    /// Arguments of a superclass's constructor are awaited, after these.
     #[tactic(auto, using(crate::proofs::Stacks::pushed_up_arguments))]
     pub fn push_up_arguments(
         &mut self,

@@ -1,4 +1,4 @@
-// What comes next.
+// The next task.
 
 use crate::{Change, Loop};
 use kr_code::Nodes;
@@ -6,7 +6,7 @@ use kr_mean::Flow;
 use kr_run_state::{Action, Cell};
 use kr_value::Value;
 
-/// What comes next.
+/// The next task of the machine.
 #[derive(Clone, Copy)]
 pub enum Task {
     /// A node as an expression.
@@ -17,7 +17,7 @@ pub enum Task {
     Got(Value),
     /// A statement has led on.
     Led(Flow),
-    /// What gives nothing is done.
+    /// A step without a value is done.
     Done,
     Act(Action),
     /// A variable is changed from its value.

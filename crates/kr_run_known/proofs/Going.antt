@@ -21,7 +21,7 @@ noted_behind : (seen a b : List SlotPlace) → noted_once seen (a ++ b) ≡ note
 noted_behind seen [] b = refl
 noted_behind seen (p ∷ a) b = noted_behind (with_read seen p) a b
 
--- what is noted after a run that gave something
+-- the notes after a run that gave a value
 pub noted_then : {A B : Type 0} (m : Run A) (k : A → Run B) (s t : State) (seen new : List SlotPlace) (a : A) → noting seen (m s) ≡ record { said = Ok a; after = t; reads = new } → noting seen (bind m k s) ≡ noting new (k a t)
 unfolding bind
 noted_then {A} {B} m k s t seen new a h =
@@ -32,12 +32,12 @@ noted_then {A} {B} m k s t seen new a h =
     mk : List SlotPlace → Outcome B
     mk ps = record { said = (k a t).said; after = (k a t).after; reads = ps }
 
--- what is known of a run, and then of what goes on from it
+-- known reads of a run, and of its continuation
 pub knows_then : (code : Code) (w : World) (n : ℕ) (k : Known) (r : Option Known) (m : Doing → Run Value) (f : Doing → Value → Run Value) → Knows code w n k m → IfSome r (λ j. Knows code w k.fuel j (λ d. f d k.value)) → IfSome r (λ j. Knows code w n j (λ d. bind (m d) (f d)))
 knows_then code w n k None m f h g = tt
 knows_then code w n k (Some j) m f h g = λ x a d i. noted_then (m d) (f d) (fuelled w n x) (fuelled w k.fuel x) w.reads w.reads k.value (h x a d i) ∙ g x a d i
 
--- the same, where what is given is known by another name
+-- likewise, where the value is known by another name
 pub knows_as : (code : Code) (w : World) (n : ℕ) (k : Known) (v : Value) (r : Option Known) (m : Doing → Run Value) (f : Doing → Value → Run Value) → k.value ≡ v → Knows code w n k m → IfSome r (λ j. Knows code w k.fuel j (λ d. f d v)) → IfSome r (λ j. Knows code w n j (λ d. bind (m d) (f d)))
 knows_as code w n k v None m f e h g = tt
 knows_as code w n k v (Some j) m f e h g = λ x a d i. noted_then (m d) (f d) (fuelled w n x) (fuelled w k.fuel x) w.reads w.reads k.value (h x a d i) ∙ (ap (λ (u : Value). noting w.reads (f d u (fuelled w k.fuel x))) e ∙ g x a d i)
@@ -51,7 +51,7 @@ no_values code w n (Some k) m is e h = λ x a d i. ap (λ (js : List ℕ). notin
 pub none_listed : (code : Code) (ns : Nodes) → ns.count ≡ 0 → listed code ns ≡ []
 none_listed code ns e = ap (λ (n : ℕ). take n (drop ns.first code.links.items)) e
 
--- what goes on alike
+-- equal continuations
 behind : {A B : Type 0} (r : Result A Stop) (t : State) (ps : List SlotPlace) (f g : A → Run B) → ((a : A) (s : State) → f a s ≡ g a s) → go_on r t ps f ≡ go_on r t ps g
 behind {A} {B} (Ok a) t ps f g same = ap (λ (q : Outcome B). after_reads ps q) (same a t)
 behind (Err e) t ps f g same = refl
@@ -80,7 +80,7 @@ pub as_kind : (code : Code) (w : World) (n : ℕ) (r : Option Known) (e e' : Exp
 as_kind code w n r e e' is h = subst (λ (t : Expression). IfSome r (λ k. Knows code w n k (λ d. value_done code d t))) (sym is) h
 
 -- a node's unit
-ticks : (w : World) (n p : ℕ) (x : Others) → n ≡ suc p → noting w.reads (tick (fuelled w n x)) ≡ record { said = Ok tt; after = fuelled w p x; reads = w.reads }
+pub ticks : (w : World) (n p : ℕ) (x : Others) → n ≡ suc p → noting w.reads (tick (fuelled w n x)) ≡ record { said = Ok tt; after = fuelled w p x; reads = w.reads }
 ticks w n p x e = ap (λ (m : ℕ). noting w.reads (tick_at m (fuelled w m x))) e
 
 pub node_known : (code : Code) (w : World) (n node : ℕ) (e : Expression) (r : Option Known) → 0 < n → e ≡ expression_of (node_at code node) → IfSome r (λ k. Knows code w (n - 1) k (λ d. value_done code d e)) → IfSome r (λ k. Knows code w n k (λ d. d.value node))

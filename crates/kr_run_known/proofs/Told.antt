@@ -1,4 +1,4 @@
--- What was read already.
+-- Places that were read already.
 use Rattle.std.proofs.Common.{◌≡◌, ℕ, suc, Bool, true, false, List, [], ◌∷◌, length, ap, ◌∙◌}
 use Rattle.std.specs.Prelude.{map, nat_eq, Option, Some, None, Ok, IfSome, option_map, slice_get, if◌then◌else◌, min, pos}
 use Rattle.std.proofs.Common.{◌+◌, ◌++◌, sym, subst, rules}

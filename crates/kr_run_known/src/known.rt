@@ -1,4 +1,4 @@
-// What is known of a node at once.
+// Values of nodes that are known at once.
 ghost use Rattle.std.specs.Prelude.{◌≡◌, IfSome, MatchOption};
 ghost use Rattle.kr_run_known.specs.Knowing.{HasGiven, Knows};
 
@@ -7,7 +7,7 @@ use kr_code::{Code, CollectionCall, Expression};
 use kr_run_state::World;
 use kr_value::Value;
 
-/// An expression's value, and the fuel that is left behind it.
+/// An expression's value, and the fuel that is left after it.
 #[derive(Clone, Copy)]
 pub struct Known {
     pub value: Value,
@@ -43,7 +43,7 @@ fn calls_to_change(code: &Code, node: u32) -> bool {
     }
 }
 
-/// The same of the operand of an operator, too.
+/// Likewise of the operand of an operator, too.
 #[inline(always)]
 fn is_change(code: &Code, node: u32) -> bool {
     match expression_at(code, node) {
@@ -53,7 +53,7 @@ fn is_change(code: &Code, node: u32) -> bool {
     }
 }
 
-/// A node's value as an expression, where that is known at once; its fuel is spent. Nothing is said of what mostly changes a
+/// A node's value as an expression, where that is known at once; its fuel is spent. None of what mostly changes a
 /// collection.
 #[inline(always)]
 pub fn at_once(code: &Code, world: &mut World, node: u32) -> Option<Value>

@@ -23,7 +23,7 @@ use kr_value::Value;
 
 /// Where nodes are looked at, so many levels deep at most.
 pub trait Look {
-    /// What a node gives as an expression from so much fuel, where that is known.
+    /// The value of a node as an expression with so much fuel, where that is known.
     fn look(code: &Code, world: &World, node: u32, fuel: u64) -> Option<Known>
         ensures { IfSome result (λ k. Knows code.now world.now fuel k (λ d. d.value node)) };
 }
@@ -261,7 +261,8 @@ fn may_ask(call: CollectionCall) -> bool {
     }
 }
 
-/// A call with an argument on a collection. What changes the collection isn't known; most such calls are told by their names.
+/// A call with an argument on a collection. Calls that change the collection aren't known; most of these are recognised by
+/// their names.
 #[inline(never)]
 fn call_with<L: Look>(
     code: &Code,

@@ -1,6 +1,7 @@
-//! Expressions whose values are known at once: those whose parts are literals, `this`, locals, and places of objects that were read
-//! already or that the run has made itself. Nothing is written and nothing is read for the first time; only fuel is spent.
-//! What would trap, spend more than there is, or is nested deeper than four levels isn't known: it is run part by part.
+//! Expressions whose values are known at once: those whose parts are literals, `this`, locals, and places of objects that were
+//! read already or that the run has made itself. Nothing is written and nothing is read for the first time; only fuel is spent.
+//! An expression that would trap, spend more than there is, or is nested deeper than four levels isn't known: it is run part by
+//! part.
 #![tactic(auto)]
 
 mod known;

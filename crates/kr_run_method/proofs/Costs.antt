@@ -1,4 +1,4 @@
--- What a run of a method costs, and an evaluation.
+-- The cost of a run of a method, and of an evaluation.
 use Rattle.std.proofs.Common.{Option, ◌≡◌, ℕ, ◌+◌, ◌≤◌, Bool, true, false, List, [], ◌∷◌, Result, Ok, Err, refl, ap, ◌∙◌, arith}
 use Rattle.kr_base.specs.declared.place.Place.{Place}
 use Rattle.kr_value.specs.declared.value.Value.{Value}
@@ -13,8 +13,8 @@ use Rattle.kr_mean.specs.Steps.{State, Outcome, Run}
 use Rattle.kr_mean.specs.Meaning.{body_of, value}
 use Rattle.kr_mean.specs.Code.{Node}
 use Rattle.kr_mean.specs.Verdicts.{olds_of}
-use Rattle.kr_laws_costs.specs.Laws.{IsSameWith}
-use Rattle.kr_laws_costs.proofs.Costs.{body_cost, value_cost}
+use Rattle.kr_run_method.specs.CostLaws.{IsSameWith}
+use Rattle.kr_run_method.proofs.CostLaws.{body_cost, value_cost}
 use Rattle.kr_run_method.specs.declared.executed.Env.{Env}
 use Rattle.kr_run_method.specs.declared.executed.Executed.{Executed}
 use Rattle.kr_run_method.specs.Evaluated.{evaluated, places_of, seen}

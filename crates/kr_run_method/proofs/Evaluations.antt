@@ -14,19 +14,19 @@ use Rattle.kr_types_meaning.specs.Typing.{Judged, type_in}
 use Rattle.kr_mean.specs.declared.kind.Stop.{Stop}
 use Rattle.kr_mean.specs.declared.kind.Stop.TheVariants.{Trapped, OutOfFuel, Stuck}
 use Rattle.kr_mean.specs.Program.{Program, method_scope}
-use Rattle.kr_mean.specs.Steps.{State, Outcome, plain_local}
+use Rattle.kr_mean.specs.Steps.{State, Outcome}
 use Rattle.kr_mean.specs.Meaning.{value}
 use Rattle.kr_mean.specs.Code.{Node}
 use Rattle.kr_mean.specs.Verdicts.{OldNode, olds_of}
 use Rattle.kr_code.specs.declared.code.Code.{Code}
 use Rattle.kr_code.specs.Resolved.{Numbering, IsCodeOf}
 use Rattle.kr_laws_types.specs.Shapes.{Expression}
-use Rattle.kr_laws_results.specs.Results.{has_result, without_result}
-use Rattle.kr_laws_results.proofs.Runs.{runs_same}
-use Rattle.kr_laws_results.proofs.Typing.{code_same, same}
+use Rattle.kr_run_method.specs.Results.{has_result, without_result}
+use Rattle.kr_run_method.proofs.ResultRuns.{runs_same}
+use Rattle.kr_run_method.proofs.Typing.{code_same, same}
 use Rattle.kr_laws_safety.specs.Claims.{IsScope, is_target, types_of}
 use Rattle.kr_laws_safety.specs.Fits.{AreOf}
-use Rattle.kr_laws_safety.specs.Triples.{AreOlds, Fixed, IsResult, IsStateOf, type_of_old, values_in}
+use Rattle.kr_laws_safety.specs.Triples.{AreOlds, Fixed, IsResult, IsStateOf, type_of_old}
 use Rattle.kr_laws_safety.specs.Typed.{IsTypedProgram, types_in, IsMethod}
 use Rattle.kr_laws_safety.specs.Tested.{IsCondition, IsOld, old_type, old_types, type_or_none}
 use Rattle.kr_laws_safety.proofs.Calls.{parameter_types, parameter_variables}
@@ -38,10 +38,7 @@ use Rattle.kr_run_method.specs.declared.executed.Executed.{Executed}
 use Rattle.kr_run_method.specs.Executed.{ending_of}
 use Rattle.kr_run_method.specs.Evaluated.{evaluated, places_of, seen, with_places}
 use Rattle.kr_run_method.specs.Fits.{IsEvaluatedUnstuck, IsEvaluation, IsExpression, IsSeen, ensured, held, required}
-
-values_plain : (vs : List Value) → values_in (map plain_local vs) ≡ vs
-values_plain [] = refl
-values_plain (v ∷ vs) = ap (λ (ws : List Value). v ∷ ws) (values_plain vs)
+use Rattle.kr_laws_safety.proofs.Verdicts.{values_plain}
 
 -- values of `\old`s by position are values by their places
 olds_fit : (table : tables.Table) (types : List JavaType) (os : List OldNode) (vs : List Value) → AreOf table types (map old_type os) vs → AreOlds table types (old_types os) (with_places (places_of os) vs)
@@ -63,7 +60,7 @@ module _ (program : Program) (facts : IsTypedProgram program) (m : tables.Method
   abbrev given : Option JavaType
   given = if is_void m.result then None else Some m.result
 
-  -- what no evaluation changes: the types of what it sees, of the result and of the values of `\old`s
+  -- types that no evaluation changes: those of its environment, of the result and of the values of `\old`s
   abbrev fixed : Option JavaType → List (Place × JavaType) → Fixed
   fixed result ts = record { candidates = 0; result = result; olds = ts }
 
@@ -95,7 +92,7 @@ module _ (program : Program) (facts : IsTypedProgram program) (m : tables.Method
       enough = omega arith;
     }
 
-    -- the same by the types of the scope's locals
+    -- likewise by the types of the scope's locals
     placed : (result : Option JavaType) (ts : List (Place × JavaType)) → IsResult program.table call.types result env.result → AreOlds program.table call.types ts state.olds → IsStateOf program (fixed result ts) call.types own (types_of (method_scope program m).locals) state
     placed result ts r o = subst (λ (ls : List JavaType). IsStateOf program (fixed result ts) call.types own ls state) (sym (parameter_types m.parameters)) (started result ts r o)
 

@@ -4,3 +4,7 @@ pub mod Unstuck
 pub mod Evaluations
 pub mod Places
 pub mod Costs
+pub mod CostLaws
+pub mod Scopes
+pub mod Typing
+pub mod ResultRuns

@@ -45,7 +45,7 @@ as_program program code n m method is of values heap fuel =
     bodies : Value → List Value → Run Value
     bodies o vs = run_method code (doing_of program n) o vs (method_at code method.number)
 
--- what is said in every meaning of the code is said of each program whose code it is
+-- a claim about every meaning of the code is one about each program whose code it is
 pub in_programs : (code : Code) (method : Method) (values : List Value) (heap : Heap) (fuel : ℕ) (r : Result Executed NoMemory) → IfOk r (λ run. (d : Doing) → IsMeaning code d → run ≡ executed_at code d method values heap fuel)
     → IfOk r (λ run. (program : Program) (n : Numbering) (m : tables.Method) → IsCodeOf program code n → IsMethodOf code n m method → run ≡ executed program m values heap fuel)
 in_programs code method values heap fuel (Ok run) h = λ program n m is of. h (doing_of program n) (is_run_by program code n is).meaning ∙ as_program program code n m method is of values heap fuel

@@ -1,4 +1,4 @@
--- What a run leaves, from what the machine answers.
+-- The state that a run leaves, from the machine's answer.
 use Rattle.std.proofs.Common.{◌≡◌, ℕ, Bool, List, [], ◌∷◌, ◌++◌, length, Result, Ok, Err, Option, None, refl, sym, ap, subst, ◌∙◌, arith}
 use Rattle.kr_value.specs.declared.value.Value.{Value}
 use Rattle.kr_value.specs.Heaps.{Heap, HeapObject}

@@ -24,7 +24,7 @@ with_places (p ∷ ps) (v ∷ vs) = record { place = p; value = v } ∷ with_pla
 with_places (p ∷ ps) [] = []
 with_places [] vs = []
 
--- The state that an expression sees, where a method's `\old`s stand at these places. The heap has no candidates.
+-- The environment of an expression as a state, where a method's `\old`s are at these places. The heap has no candidates.
 abbrev pub seen : List Place → Env → Heap → ℕ → State
 seen places env heap fuel = record {
   this_value = env.this;

@@ -39,7 +39,7 @@ run_on true body values = body Null values
 run_on false body (receiver ∷ arguments) = body receiver arguments
 run_on false body [] = stop Stuck
 
--- ---- behind it
+-- ---- after it
 
 -- A method without result gives no value.
 abbrev pub ending_of : Bool → Result Value Stop → Result (Option Value) Stop

@@ -14,7 +14,7 @@ use Rattle.kr_mean.specs.Code.{Node}
 use Rattle.kr_mean.specs.Verdicts.{OldNode, olds_of}
 use Rattle.kr_code.specs.declared.code.Code.{Code}
 use Rattle.kr_code.specs.Resolved.{Numbering, IsCodeOf}
-use Rattle.kr_laws_results.specs.Results.{has_result}
+use Rattle.kr_run_method.specs.Results.{has_result}
 use Rattle.kr_laws_safety.specs.Fits.{AreOf, IsHeapOf}
 use Rattle.kr_laws_safety.specs.Triples.{IsResult, IsThis, type_of_old}
 use Rattle.kr_laws_safety.specs.Typed.{IsTypedProgram, Olds, types_in}

@@ -22,7 +22,7 @@ use kr_run_state::{Local, Old, World, ended};
 use kr_value::Value;
 use std::alloc::Global;
 
-/// Values come behind the locals.
+/// Values are added after the locals.
 fn add_locals(locals: &mut Vec<Local>, values: &[Value]) -> Result<(), NoMemory>
     ensures { OnOk result (map local_of locals.new.items ≡ map local_of locals.old.items ++ map plain_local values.now) }
 {
@@ -89,9 +89,9 @@ fn evaluate_in(alloc: Global, code: &Code, world: World, node: u32) -> Result<Ex
     })
 }
 
-/// Evaluates an expression of a method's contract, by its node in the code, where the method's `\old`s stand at these places,
-/// in source order: how the run ends, and the heap and the fuel that it leaves, as every meaning of the code says, and so as
-/// every program says whose code it is. An `\old` has the value at its position among them.
+/// Evaluates an expression of a method's contract, by its node in the code, where the method's `\old`s are at these places, in
+/// source order: how the run ends, and the heap and the fuel that it leaves, in every meaning of the code, and so for every
+/// program whose code it is. An `\old` has the value at its position among them.
 pub fn evaluate(
     alloc: Global,
     code: &Code,

@@ -1,4 +1,4 @@
-// What is run, and what is said of the run.
+// The environment and the result of a run.
 
 use kr_classes_table::MethodId;
 use kr_heap::Heap;
@@ -12,8 +12,8 @@ pub struct Method {
     pub is_static: bool,
 }
 
-/// What an expression of a contract sees beside the heap: `this`, the arguments of the method, what it has given where it
-/// gives something, and the values of its `\old`s, in source order.
+/// The environment of an expression of a contract beside the heap: `this`, the arguments of the method, its result where it has
+/// one, and the values of its `\old`s, in source order.
 #[derive(Drop)]
 pub struct Env {
     pub this: Value,

@@ -1,4 +1,4 @@
-// What holds of the fuel of every run.
+// Laws of the fuel of every run.
 ghost use Rattle.kr_run_method.specs.Costs.{EvaluatedSpentLaw, SpentLaw};
 
 /// A run of a method that isn't spent with some fuel has a cost: it is spent exactly where that is above the fuel, and with more

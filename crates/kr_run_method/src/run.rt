@@ -11,7 +11,6 @@ ghost use Rattle.kr_mean.specs.Program.{Program};
 ghost use Rattle.kr_run.specs.Answers.{Answers};
 ghost use Rattle.kr_classes_table.specs.Table.{Method as TableMethod};
 ghost use Rattle.kr_run_state.specs.Worlds.{state_at, state_of};
-ghost use Rattle.kr_value.specs.declared.value.Value.{Value as Given};
 
 use crate::executed::{Executed, Method};
 use kr_base::NoMemory;
@@ -112,7 +111,7 @@ fn is_void(code: &Code, method: MethodId) -> bool
     }
 }
 
-/// What a run gives: nothing, where the method has no result.
+/// The result of a run: none, where the method has no result.
 pub(crate) fn given(is_void: bool, end: Result<Value, Stop>) -> Result<Option<Value>, Stop>
     ensures { result ≡ ending_of is_void end }
 {
@@ -177,7 +176,7 @@ fn run_method(
 }
 
 /// Runs a method of code on values, the receiver first where it isn't static: how the run ends, and the heap and the fuel
-/// that it leaves, as every meaning of the code says, and so as every program says whose code it is.
+/// that it leaves, in every meaning of the code, and so for every program whose code it is.
 pub fn execute(
     alloc: Global,
     code: &Code,

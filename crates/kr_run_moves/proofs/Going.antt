@@ -1,6 +1,5 @@
 -- How what is known at once goes on.
 use Rattle.std.proofs.Common.{◌≡◌, ℕ, List, [], ◌∷◌, ◌++◌, Result, Ok, Err, refl, sym, ap, subst, ◌∙◌}
-use Rattle.std.specs.Prelude.{take, drop}
 use Rattle.std.proofs.lemmas.List.{append-nil}
 use Rattle.kr_value.specs.declared.value.Value.{Value}
 use Rattle.kr_mean.specs.declared.kind.Stop.{Stop}
@@ -24,6 +23,7 @@ use Rattle.kr_run_frames.specs.Frames.{continued, out_value, out_flow}
 use Rattle.kr_run_frames.specs.Leads.{Leads}
 use Rattle.kr_run_frames.proofs.Outcomes.{continued_reads, flow_halts_then, flow_reads, gave, leads_alike, leads_same, value_halts_then, value_reads}
 use Rattle.kr_run_moves.proofs.Moves.{given_then, mapped}
+use Rattle.kr_run_known.proofs.Going.{none_listed}
 
 -- a part gives something, and then a value comes
 pub value_then : {A : Type 0} (code : Code) (r : Result Task Halt) (fs gs : List Frame) (w then before : World) (m : Doing → Run A) (k : Doing → A → Run Value) (v : A)
@@ -89,13 +89,10 @@ pub one_value : {B : Type 0} (d : Doing) (i : ℕ) (k : List Value → Run B) (s
 unfolding bind
 one_value d i k s = mapped (d.value i) (λ v. v ∷ []) k s
 
-pub none_listed : (code : Code) (ns : Nodes) → ns.count ≡ 0 → listed code ns ≡ []
-none_listed code ns e = ap (λ (n : ℕ). take n (drop ns.first code.links.items)) e
-
 pub one_listed : (code : Code) (ns others : Nodes) (i : ℕ) → listed code ns ≡ i ∷ listed code others → others.count ≡ 0 → listed code ns ≡ i ∷ []
 one_listed code ns others i e zero = e ∙ ap (λ (is : List ℕ). i ∷ is) (none_listed code others zero)
 
--- what is behind the last statement does nothing
+-- nothing runs after the last statement
 pub last_flow : (m : Run Flow) (s : State) → bind m (λ flow. then_on flow (give Next)) s ≡ m s
 unfolding bind
 last_flow m s = go (m s).said

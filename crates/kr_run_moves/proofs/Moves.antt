@@ -1,4 +1,4 @@
--- What the moves need of the meaning.
+-- The meaning's laws that the moves need.
 use Rattle.std.proofs.Common.{◌≡◌, ℕ, Some, List, [], ◌∷◌, ◌++◌, length, Result, Ok, Err, refl, sym, ap, ◌∙◌}
 use Rattle.std.specs.Prelude.{map, reverse, Bool}
 use Rattle.std.proofs.lemmas.List.{length-map, append_assoc, append-nil, reverse-append, reverse-reverse}
@@ -40,7 +40,7 @@ assoc {A} {B} {C} m f g s = go (m s).said
     go (Ok a) = continued_reads (m s).reads (f a (m s).after) g
     go (Err e) = refl
 
--- what is given is something else
+-- the value is replaced
 pub mapped : {A B C : Type 0} (m : Run A) (h : A → B) (g : B → Run C) (s : State) → continued (bind m (λ a. give (h a)) s) g ≡ continued (m s) (λ a. g (h a))
 unfolding bind
 mapped {A} {B} {C} m h g s = go (m s).said
@@ -49,12 +49,12 @@ mapped {A} {B} {C} m h g s = go (m s).said
     go (Ok a) = ap (λ (rs : List SlotPlace). after_reads rs (g (h a) (m s).after)) (append-nil (m s).reads)
     go (Err e) = refl
 
--- what is given doesn't count
+-- the value doesn't matter
 pub given_then : {A B C : Type 0} (m : Run A) (x : B) (f : B → Run C) (s : State) → continued (bind m (λ a. give x) s) f ≡ bind m (λ a. f x) s
 unfolding bind
 given_then m x f s = mapped m (λ a. x) f s
 
--- what goes on in the same way
+-- equal continuations
 alike : {A B : Type 0} (m : Run A) (f g : A → Run B) (s : State) → ((a : A) (t : State) → f a t ≡ g a t) → bind m f s ≡ bind m g s
 unfolding bind
 alike {A} m f g s e = go (m s).said

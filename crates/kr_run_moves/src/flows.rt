@@ -1,4 +1,4 @@
-// A statement has led on, and comes to a frame.
+// A frame receives a statement's end.
 ghost use Rattle.kr_run_frames.specs.Frames.{out_flow, led};
 ghost use Rattle.kr_run_frames.specs.Leads.{Leads, next_task};
 ghost use Rattle.kr_run_state.specs.Worlds.{state_at};

@@ -1,5 +1,5 @@
-//! The machine's moves that enter no method and make no object: what comes next where an expression or a statement is entered, where
-//! a value or a statement's end comes to a frame, and in lists of nodes. Each keeps the outcome of the whole run.
+//! The machine's moves that enter no method and make no object: the next task where an expression or a statement is entered,
+//! where a frame receives a value or a statement's end, and in lists of nodes. Each keeps the outcome of the whole run.
 #![tactic(auto)]
 
 mod expressions;

@@ -62,7 +62,7 @@ pub fn unit(stack: &mut Stack, frame: UnitFrame) -> Result<(), NoMemory>
     push(stack, Waiting::Unit(frame))
 }
 
-/// The arguments of what is called come next, behind those that are there.
+/// The arguments of a call are next, after those that are there.
 pub fn await_arguments(
     stack: &mut Stack,
     goal: Goal,

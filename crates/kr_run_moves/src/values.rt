@@ -1,11 +1,10 @@
-// A value comes to a frame.
+// A frame receives a value.
 ghost use Rattle.std.specs.Prelude.{◌≡◌, true};
 ghost use Rattle.kr_value.specs.declared.value.Value.TheVariants.{Bool as Truth};
 ghost use Rattle.kr_mean.specs.declared.kind.Stop.TheVariants.{Stuck};
 ghost use Rattle.kr_mean.specs.Operators.{gives_old as gives_old_step};
 ghost use Rattle.kr_mean.specs.Operators.{operated as operated_step, operated_alone as alone_step};
 ghost use Rattle.kr_mean.specs.Steps.{bind, give, say, stop as stop_step};
-ghost use Rattle.kr_code.specs.Steps.{load_named};
 ghost use Rattle.kr_code.specs.Doing.{all_declared};
 ghost use Rattle.kr_code.specs.Tables.{listed};
 ghost use Rattle.kr_mean.specs.Steps.{element as element_step};
@@ -129,7 +128,7 @@ fn take_write(
     }
 }
 
-/// A value comes to the topmost frame, where that is a test; else it comes next.
+/// The topmost frame receives a value, where it is a test; otherwise the value is the next task.
 #[tactic(auto, unfolding(kr_mean::specs::Steps::bind))]
 pub(crate) fn feed_test(
     code: &Code,
@@ -211,7 +210,7 @@ fn take_initial(
     }
 }
 
-/// A value comes to the topmost frame, where that is an operator or a test; else it comes next.
+/// The topmost frame receives a value, where it is an operator or a test; otherwise the value is the next task.
 #[tactic(auto, unfolding(kr_mean::specs::Steps::bind))]
 pub fn feed(
     alloc: Global,
@@ -431,7 +430,7 @@ pub fn take_value(
     }
 }
 
-/// Nothing that has a meaning: no value will come to the frame.
+/// A task without meaning: the frame will receive no value.
 #[inline(always)]
 #[tactic(auto, unfolding(kr_mean::specs::Steps::bind))]
 pub fn stop(code: &Code, world: &World, stack: &mut Stack, task: &mut Task) -> Result<(), Halt>

@@ -36,14 +36,14 @@ missed n o args r s there is =
 same_values : (heap : Heap) (o : ℕ) (vs : List Value) → vs ≡ (object_in heap o).values → with_values heap o vs ≡ heap
 same_values heap o vs e = ap (λ (us : List Value). with_values heap o us) e ∙ set-get_or heap o no_object
 
--- the same, by other words
+-- by definition
 pub collects_at : (r : Result Value Halt) (c c' : Class) (n : List ℕ) (args args' old old' new : List Value) → c ≡ c' → args ≡ args' → old ≡ old' → Collects r old new (collected c n args old) → Collects r old' new (collected c' n args' old')
 collects_at r c c' n args args' old old' new class arguments members h =
     subst (λ (d : Class). Collects r old' new (collected d n args' old')) class
     (subst (λ (vs : List Value). Collects r old' new (collected c n vs old')) arguments
     (subst (λ (vs : List Value). Collects r vs new (collected c n args vs)) members h))
 
--- what was made has other members
+-- an object with other members
 pub collects_made : (r : Result Value Halt) (w : World) (n : List ℕ) (o k : ℕ) (args new : List Value) → o ≡ length w.candidates + k → Collects r (object_in w.made k).values new (collected (object_in w.made k).class n args (object_in w.made k).values)
     → Agrees r (record w { made = with_values w.made k new }) w (λ x. collect n (Reference o) args (state_at w x))
 collects_made (Ok v) w n o k args new e h = λ x a. (

@@ -1,4 +1,4 @@
--- What a run can't tell from its own candidates.
+-- Candidates that a run can't distinguish from its own.
 use Rattle.std.proofs.Common.{◌≡◌, ℕ, ◌+◌, ◌-◌, ◌<◌, Bool, true, false, List, [], ◌∷◌, ◌++◌, length, Some, None, refl, sym, ap, ◌∙◌, subst, arith}
 use Rattle.std.specs.Prelude.{◌||◌, slice_set, Option, if◌then◌else◌, nat_lt}
 use Rattle.std.proofs.lemmas.List.{set-append_left, set-append_right, get_or_append_left, get_or-append-add, length-set}
@@ -23,7 +23,7 @@ use Rattle.kr_run_state.specs.declared.world.World.{World}
 use Rattle.kr_run_state.specs.declared.world.Halt.{Halt}
 use Rattle.kr_run_state.specs.declared.world.Halt.TheVariants.{Ended, Memory}
 
--- ---- what was read
+-- ---- reads
 
 or_true : (b : Bool) → (b || true) ≡ true
 or_true true = refl
@@ -37,7 +37,7 @@ read_more p q (r ∷ rs) h = go (is_same_place r q) h (read_more p q rs)
     go true e more = refl
     go false e more = more e
 
--- what was read stays read
+-- read places stay read
 pub read_on : (p q : SlotPlace) (seen : List SlotPlace) → is_read q seen ≡ true → is_read q (with_read seen p) ≡ true
 read_on p q seen h = go (is_read p seen)
   where
@@ -65,7 +65,7 @@ same_spot (Element i) = eq-eqb i i refl
 same_at : (o : ℕ) (s : Spot) → is_same_place (At o s) (At o s) ≡ true
 same_at o s = ap (λ (b : Bool). b && is_same_spot s s) (eq-eqb o o refl) ∙ same_spot s
 
--- ---- what steps give
+-- ---- results of steps
 
 value_or : Option Value → Value
 value_or (Some v) = v
@@ -129,7 +129,7 @@ element_has r k h = go r.class h
     go Sequence a = absurd a
 
 module _ (frozen : Bool) (own : Heap) where
-  -- what allows fewer reads
+  -- candidates that fewer reads allow
   pub allowed_before : (p : SlotPlace) (seen : List SlotPlace) (x : Others) → AreLike frozen (with_read seen p) own x → AreLike frozen seen own x
   allowed_before p seen None a = tt
   allowed_before p seen (Some others) a = record {
@@ -159,7 +159,7 @@ module _ (frozen : Bool) (own : Heap) where
       go None b = refl
       go (Some others) b = (b.each o lt).class
 
-  -- what was read of a candidate is the same
+  -- a place that was read has one value in both
   pub told_candidate : (seen : List SlotPlace) (made : Heap) (x : Others) (o : ℕ) (spot : Spot) → AreLike frozen seen own x → o < length own → is_read (At o spot) seen ≡ true → has_spot (object_in own o) spot ≡ true → has_spot (object_in (candidates_of own x ++ made) o) spot ≡ true → value_of_spot (object_in (candidates_of own x ++ made) o) spot ≡ value_of_spot (object_in own o) spot
   told_candidate seen made x o spot a lt is here there =
       let same = object_candidate seen made x o a lt in
@@ -309,7 +309,7 @@ module _ (frozen : Bool) (own : Heap) where
   )
   puts_candidate seen new made (Some others) o at v s is lt a = absurd (cc (a.unwritten))
 
-  -- what is allowed once candidates may be thawed
+  -- candidates allowed once they may be thawed
   pub allowed_frozen : (still : Bool) (seen : List SlotPlace) (x : Others) → (still ≡ true → frozen ≡ true) → AreLike still seen own x → AreLike frozen seen own x
   allowed_frozen still seen None f a = tt
   allowed_frozen still seen (Some others) f a = record { unwritten = f a.unwritten; long = a.long; each = a.each }
@@ -325,7 +325,7 @@ kept_then before middle w x k l = record {
   long = l.long ∙ k.long;
 }
 
--- the same by another way, where that is allowed
+-- equal by another way, where that is allowed
 pub agrees_same : {A : Type 0} (r : Result A Halt) (w before : World) (o o' : Others → Outcome A) → ((x : Others) → Allows before x → o x ≡ o' x) → Agrees r w before o' → Agrees r w before o
 agrees_same {A} (Ok v) w before o o' e h = λ x a. let r = h x a in (r.0, ap (λ (q : Outcome A). noting before.reads q) (e x r.0.allowed) ∙ r.1)
 agrees_same {A} (Err (Ended end)) w before o o' e h = λ x a. let r = h x a in (r.0, ap (λ (q : Outcome A). noting before.reads q) (e x r.0.allowed) ∙ r.1)

@@ -5,7 +5,7 @@ use Rattle.std.proofs.lemmas.List.{map-set, length-map}
 use Rattle.std.proofs.lemmas.Bool.{lt-ltb}
 use Rattle.kr_value.specs.declared.value.Value.{Value}
 use Rattle.kr_mean.specs.Steps as steps
-use Rattle.kr_mean.specs.Steps.{State, Outcome, bind, give, assign, assign_if, local_at, plain_local}
+use Rattle.kr_mean.specs.Steps.{State, bind, give, assign, assign_if, local_at, plain_local}
 use Rattle.kr_run_state.specs.declared.world.Local.{Local}
 use Rattle.kr_run_state.specs.Shown.{local_of}
 

@@ -6,7 +6,7 @@ use Rattle.kr_value.specs.declared.value.Value.TheVariants.{Bool as Truth}
 use Rattle.kr_mean.specs.Collections.{is_empty, has_member, gives, added_once}
 use Rattle.kr_coll.specs.Identities.{with_member}
 
--- what a set has after `add`, and what that answers
+-- a set after `add`, and the answer
 pub set_adds : (v : Value) (ms : List Value) → added_once (has_member v ms) v ms ≡ gives (Truth (not (has_member v ms))) (with_member v ms)
 set_adds v ms = go (has_member v ms)
   where

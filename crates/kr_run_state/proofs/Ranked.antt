@@ -1,19 +1,15 @@
 -- Places by their ranks.
 use Rattle.std.proofs.Common.{◌≡◌, ℕ, ◌+◌, ◌-◌, ◌*◌, ◌<◌, ◌≤◌, ◌⊎◌, inl, inr, Bool, true, false, List, [], ◌∷◌, ◌++◌, take, length, get_or, refl, sym, ap, subst, arith, ◌∙◌}
-use Rattle.std.specs.Prelude.{map, ◌||◌, ◌&&◌, ◌==◌, min, Option, Some, None, if◌then◌else◌, Result, Ok, Err, OnOk, OnErr}
+use Rattle.std.specs.Prelude.{map, ◌||◌, ◌==◌, min, Option, Some, None, if◌then◌else◌, Result, Ok, Err, OnOk, OnErr}
 use Rattle.std.proofs.lemmas.List.Elements.{All-nil, All-head, All-tail, All-push, All-weaker}
 use Rattle.std.proofs.lemmas.List.{take_all, take-take, take-append-le, length-take, map_push, length_push, get_or-take, get_or_append_left, get_or_push}
-use Rattle.std.proofs.lemmas.Bool.{eqb-true, cases_lt}
+use Rattle.std.proofs.lemmas.Bool.{eqb-true, cases_lt, and_parts}
 use Rattle.kr_value.specs.declared.object.Spot.{Spot}
 use Rattle.kr_value.specs.declared.object.Spot.TheVariants.{Field, Length, Element}
 use Rattle.kr_mean.specs.Places.{SlotPlace, This, Parameter, At}
 use Rattle.kr_mean.specs.Runs.{is_same_place, is_same_spot}
 use Rattle.kr_run_state.specs.Noting.{is_read}
 use Rattle.kr_run_state.specs.Ranks.{rank_of, rank_in, is_of, begun, IsTop, AreTops, last_top}
-
-both : (a b : Bool) → (a && b) ≡ true → (a ≡ true) × (b ≡ true)
-both true b e = (refl, e)
-both false b e = absurd (cc (e))
 
 same_spot : (o : ℕ) (s t : Spot) → is_same_spot s t ≡ true → rank_of (At o s) ≡ rank_of (At o t)
 same_spot o (Field f) (Field g) e = ap (λ (n : ℕ). o * 4294967296 + n) (eqb-true f g e)
@@ -37,7 +33,7 @@ same_rank (Parameter i) (At o s) e = absurd (cc (e))
 same_rank (At o s) This e = absurd (cc (e))
 same_rank (At o s) (Parameter j) e = absurd (cc (e))
 same_rank (At o s) (At p t) e =
-    let b = both (o == p) (is_same_spot s t) e in
+    let b = and_parts (o == p) (is_same_spot s t) e in
     ap (λ (n : ℕ). rank_of (At n s)) (eqb-true o p b.0) ∙ same_spot p s t b.1
 
 same_owner : (o : ℕ) (p q : SlotPlace) → is_same_place p q ≡ true → is_of o p ≡ is_of o q
@@ -50,14 +46,14 @@ same_owner o (Parameter i) (At q t) e = absurd (cc (e))
 same_owner o (At p s) This e = absurd (cc (e))
 same_owner o (At p s) (Parameter j) e = absurd (cc (e))
 same_owner o (At p s) (At q t) e =
-    let b = both (p == q) (is_same_spot s t) e in
+    let b = and_parts (p == q) (is_same_spot s t) e in
     ap (λ (n : ℕ). n == o) (eqb-true p q b.0)
 
 same_in : (first : Option ℕ) (p q : SlotPlace) → is_same_place p q ≡ true → rank_in first p ≡ rank_in first q
 same_in None p q e = same_rank p q e
 same_in (Some o) p q e = ap (λ (b : Bool). if b then 0 else rank_of p) (same_owner o p q e) ∙ ap (λ (n : ℕ). if is_of o q then 0 else n) (same_rank p q e)
 
--- what ranks above all is none of them
+-- a rank above all is none of them
 pub new_above : (first : Option ℕ) (p : SlotPlace) (seen : List SlotPlace) (top : ℕ) → IsTop first top seen → top < rank_in first p → is_read p seen ≡ false
 new_above first p [] top h above = refl
 new_above first p (q ∷ qs) top h above = go (is_same_place q p) refl (new_above first p qs top (All-tail (λ (r : SlotPlace). rank_in first r ≤ top) q qs h) above)

@@ -1,13 +1,10 @@
--- A place that stands among places that were read.
-use Rattle.std.proofs.Common.{◌≡◌, ℕ, zero, suc, ◌<◌, Bool, true, false, List, [], ◌∷◌, length, get_or, refl, ap, arith}
+-- A place among places that were read.
+use Rattle.std.proofs.Common.{◌≡◌, ℕ, zero, suc, ◌<◌, Bool, true, List, [], ◌∷◌, length, get_or, ap, arith}
 use Rattle.std.specs.Prelude.{map, ◌||◌}
+use Rattle.std.proofs.lemmas.Bool.{or_right}
 use Rattle.kr_mean.specs.Places.{SlotPlace}
 use Rattle.kr_mean.specs.Runs.{is_same_place}
 use Rattle.kr_run_state.specs.Noting.{is_read}
-
-or_right : (a b : Bool) → b ≡ true → (a || b) ≡ true
-or_right true b e = refl
-or_right false b e = e
 
 pub read_at : {X : Type 0} (f : X → SlotPlace) (p : SlotPlace) (xs : List X) (k : ℕ) (d : X) → k < length xs → is_same_place (f (get_or xs k d)) p ≡ true → is_read p (map f xs) ≡ true
 read_at f p [] k d lt e = absurd (omega (arith, lt))

@@ -1,4 +1,4 @@
--- Between crates: what the code says, as the meaning says it.
+-- Between crates: the ends of the code's runs, as the meaning has them.
 use Rattle.std.specs.Prelude.{◌≡◌, Result, Ok, Err}
 use Rattle.kr_base.specs.declared.memory.NoMemory.{NoMemory}
 use Rattle.kr_mean.specs.declared.kind.Stop.{Stop}

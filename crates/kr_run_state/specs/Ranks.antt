@@ -1,4 +1,4 @@
--- Between crates: where a place stands among all places.
+-- Between crates: the rank of a place among all places.
 use Rattle.std.specs.Prelude.{◌≡◌, ℕ, ◌+◌, ◌-◌, ◌*◌, ◌≤◌, ◌<◌, ◌==◌, Bool, false, Option, Some, None, List, length, take, if◌then◌else◌}
 use Rattle.std.proofs.Common.{get_or}
 use Rattle.std.specs.List.{All}
@@ -19,7 +19,7 @@ is_of object This = false
 is_of object (Parameter i) = false
 is_of object (At o s) = o == object
 
--- the same where the places of one object stand below all others
+-- likewise where the places of one object rank below all others
 abbrev pub rank_in : Option ℕ → SlotPlace → ℕ
 rank_in None p = rank_of p
 rank_in (Some object) p = if is_of object p then 0 else rank_of p

@@ -1,4 +1,4 @@
--- Between crates: what the code's types stand for.
+-- Between crates: the meaning of the code's types.
 use Rattle.std.specs.Prelude.{option_map}
 use Rattle.kr_mean.specs.Places.{Parameter}
 use Rattle.kr_mean.specs.Steps as steps

@@ -42,7 +42,7 @@ pub record StandFor (frozen : Bool) (seen : List SlotPlace) (own others : Heap) 
   pub long : length others ≡ length own
   pub each : (o : ℕ) → o < length own → StandsFor seen o (object_in own o) (object_in others o)
 
--- a run can't tell them from its own candidates by what it has read
+-- a run can't distinguish them from its own candidates by its reads
 abbrev pub AreLike : Bool → List SlotPlace → Heap → Others → Type 0
 AreLike frozen seen own None = Unit {0}
 AreLike frozen seen own (Some others) = StandFor frozen seen own others
@@ -67,8 +67,8 @@ state_at w x = record {
 abbrev pub state_of : World → State
 state_of w = state_at w None
 
--- What a step leaves as it was: what other candidates are allowed after it was allowed before; candidates that are frozen
--- after it were so before, and are the same; there are as many.
+-- Kept by a step: other candidates that are allowed after it were allowed before; candidates that are frozen after it were
+-- so before, and are unchanged; there are as many.
 pub record Keeps (before w : World) (x : Others) : Type 0 where
   pub allowed : Allows before x
   pub frozen_before : w.is_frozen ≡ true → before.is_frozen ≡ true
@@ -76,7 +76,7 @@ pub record Keeps (before w : World) (x : Others) : Type 0 where
   pub long : length w.candidates ≡ length before.candidates
 
 -- The answer, the world and its reads are the outcome's, after what was read before: with all candidates that what was read
--- until then allows. Where memory ran out nothing is said.
+-- until then allows. On out-of-memory nothing is known.
 abbrev pub Agrees : {A : Type 0} → Result A Halt → World → World → (Others → Outcome A) → Type 0
 Agrees (Ok a) w before o = (x : Others) → Allows w x → Keeps before w x × (noting before.reads (o x) ≡ record { said = Ok a; after = state_at w x; reads = w.reads })
 Agrees (Err (Ended e)) w before o = (x : Others) → Allows w x → Keeps before w x × (noting before.reads (o x) ≡ record { said = Err e; after = state_at w x; reads = w.reads })

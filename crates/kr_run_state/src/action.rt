@@ -17,7 +17,7 @@ use kr_mean::Stop;
 use kr_value::{Class, Value};
 use std::alloc::Global;
 
-/// A variable, with the values that say which one.
+/// A variable, with the values that select it.
 #[derive(Clone, Copy)]
 pub enum Cell {
     Local(u32),

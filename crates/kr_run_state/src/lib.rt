@@ -1,4 +1,4 @@
-//! What a run of code changes, and the steps on it, each exactly a step of the language's meaning: `this` and the locals, the
+//! The state of a run of code, and the steps on it, each exactly a step of the language's meaning: `this` and the locals, the
 //! heap, the fuel that is left, and the places of candidates that were read, each once, in the order of their first reads.
 #![tactic(auto)]
 

@@ -32,7 +32,7 @@ pub fn made_number(world: &World, object: Obj) -> Option<u32>
     }
 }
 
-/// What an object is of.
+/// The class of an object.
 #[inline(always)]
 pub fn class_of(world: &World, object: Obj) -> Class
     ensures own { result ≡ (object_in (world.now.candidates ++ world.now.made) object).class }
@@ -364,7 +364,7 @@ pub(crate) fn cast(code: &Code, world: &World, class: TypeId, value: Value) -> R
     }
 }
 
-/// A new object, array or collection, behind all others.
+/// A new object, array or collection, after all others.
 fn allocate(world: &mut World, class: Class, values: Vec<Value>) -> Result<Value, Halt>
     requires { length values.items ≤ 2147483647 }
     ensures { Agrees result world.new world.old (λ x. make class values.items (state_at world.old x)) }

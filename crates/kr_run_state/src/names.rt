@@ -107,7 +107,7 @@ pub fn read_local(world: &mut World, local: u32) -> Result<Value, Halt>
     }
 }
 
-/// What the method under test has given.
+/// The result of the method under test.
 #[inline(always)]
 pub fn result(world: &World) -> Result<Value, Halt>
     ensures { Agrees result world.now world.now (λ x. get_result (state_at world.now x)) }

@@ -23,7 +23,7 @@ fn said(given: Result<Value, OperatorError>) -> Result<Value, Stop>
     }
 }
 
-/// What an operator gives of two operands.
+/// The result of an operator on two operands.
 #[inline(always)]
 pub fn binary(operator: BinaryOperator, left: Value, right: Value) -> Result<Value, Stop>
     ensures { result ≡ meaning.operated operator left right }
@@ -31,7 +31,7 @@ pub fn binary(operator: BinaryOperator, left: Value, right: Value) -> Result<Val
     said(apply(operator, left, right))
 }
 
-/// What an operator gives of one operand.
+/// The result of an operator on one operand.
 #[inline(always)]
 pub fn alone(operator: UnaryOperator, value: Value) -> Result<Value, Stop>
     ensures { result ≡ meaning.operated_alone operator value }

@@ -16,10 +16,10 @@ use std::marker::Model;
 #[derive(Drop)]
 pub struct Reads {
     places: Vec<SlotPlace>,
-    // at each position the greatest rank of the places up to it: one that ranks higher can only stand behind it
+    // at each position the greatest rank of the places up to it: one that ranks higher can only come after it
     tops: Vec<u64>,
-    // the first object that was read: its places rank below all others. It is mostly `this`, which may be numbered behind all
-    // that a run reads after it
+    // the first object that was read: its places rank below all others. It is mostly `this`, which may be numbered after all
+    // objects that a run reads later
     first: Option<Obj>,
 }
 
@@ -36,7 +36,7 @@ impl Model for Reads {
     ghost invariant = { λ r. AreTops r.first r.tops.items (map place_of r.places.items) };
 }
 
-/// Where a place stands among all: by its object, and then by its field or element.
+/// The rank of a place among all: by its object, and then by its field or element.
 #[inline(always)]
 fn number(place: SlotPlace) -> u64
     ensures { result ≡ rank_of (place_of place) }
@@ -60,7 +60,7 @@ fn is_of(place: SlotPlace, object: Obj) -> bool
     }
 }
 
-/// The same, where the places of one object stand below all others.
+/// Likewise, where the places of one object rank below all others.
 #[inline(always)]
 fn rank(place: SlotPlace, first: Option<Obj>) -> u64
     ensures { result ≡ rank_in first (place_of place) }
@@ -151,7 +151,7 @@ fn contains_at(places: &[SlotPlace], object: Obj, spot: Spot) -> bool
     false
 }
 
-/// The same of any place.
+/// Likewise of any place.
 #[inline(never)]
 fn contains_any(places: &[SlotPlace], place: SlotPlace) -> bool
     ensures { result ≡ is_read (place_of place) (map place_of places.now) }
@@ -166,7 +166,7 @@ fn contains_any(places: &[SlotPlace], place: SlotPlace) -> bool
     false
 }
 
-/// Whether a place stands among places.
+/// Whether a place is among places.
 #[inline(always)]
 fn contains(places: &[SlotPlace], place: SlotPlace) -> bool
     ensures { result ≡ is_read (place_of place) (map place_of places.now) }
@@ -189,7 +189,7 @@ fn last_top(tops: &[u64]) -> u64
     tops[count - 1]
 }
 
-/// Whether a place of a rank stands among places, by the top of all.
+/// Whether a place of a rank is among places, by the top of all.
 #[inline(always)]
 fn is_among(places: &[SlotPlace], first: Option<Obj>, top: u64, place: SlotPlace, rank: u64) -> bool
     requires top { IsTop first top (map place_of places.now) }

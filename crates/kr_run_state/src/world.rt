@@ -1,4 +1,4 @@
-// What a run changes.
+// The state of a run.
 ghost use Rattle.std.specs.Prelude.{◌≡◌};
 ghost use Rattle.kr_run_state.specs.Ends.{IsEnd};
 ghost use Rattle.kr_run_state.specs.declared.world.Halt.TheVariants.{Memory};
@@ -49,7 +49,7 @@ pub struct Old {
     pub value: Value,
 }
 
-/// The state of a run, and what was read. The heap's objects are the candidates, and behind them those that the run has made;
+/// The state of a run, and its reads. The heap's objects are the candidates, followed by those that the run has made;
 /// candidates are frozen until one is written, which thaws them.
 #[derive(Drop)]
 pub struct World {

@@ -4,7 +4,7 @@ use Rattle.kr_mean.specs.Space.{IsVector, space_of}
 use Rattle.kr_space_layout.specs.Bounds.{bare}
 use Rattle.kr_run_tests.specs.TwoNodes.{two_nodes, from_second}
 
--- what holds of each number below eight
+-- a property of each number below eight
 eight : (P : ℕ → Type 0) → P 0 → P 1 → P 2 → P 3 → P 4 → P 5 → P 6 → P 7 → (s : ℕ) → s < 8 → P s
 eight P a b c d e f g h zero l = a
 eight P a b c d e f g h (suc zero) l = b

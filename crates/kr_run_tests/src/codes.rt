@@ -130,7 +130,7 @@ impl Parts {
     }
 }
 
-/// What is written as code.
+/// Nodes written as code.
 pub(crate) trait Written {
     fn write(alloc: Global, parts: &mut Parts) -> Result<(), NoMemory>;
 }
@@ -149,7 +149,7 @@ fn finished(alloc: Global, parts: Parts) -> Code {
         spots: parts.spots,
         dispatch: parts.dispatch,
         instances: Vec::new(alloc),
-        array_instances: Vec::new(alloc),
+        array_types: Vec::new(alloc),
     }
 }
 

@@ -8,7 +8,7 @@ use kr_heap::Members;
 use kr_value::Value;
 use std::test::Fail;
 
-// What was lent comes back changed.
+// The world that was lent is returned, changed.
 fn add_to(members: &mut Members, member: Value) -> Result<bool, NoMemory>
     ensures { OnOk result (members.new ≡ with_member member members.old) }
 {

@@ -1,4 +1,4 @@
-// Problems that are put together.
+// Problems built by hand.
 ghost use Rattle.std.specs.Prelude.{◌≡◌, IfOk};
 
 use kr_base::NoMemory;

@@ -1,22 +1,23 @@
 // A problem that is read from one source and its finitization, to be listed or to be tested.
-ghost use Rattle.std.specs.Prelude.{◌≡◌, ◌≤◌, IfOk, length, true};
+ghost use Rattle.std.specs.Prelude.{◌≤◌, IfOk, length};
 ghost use Rattle.kr_code_members.specs.Nodes.{AreShaped};
 ghost use Rattle.kr_judge_prepared.specs.Accepting.{IsAccepted};
 ghost use Rattle.kr_mean.specs.Problem.{slots};
 ghost use Rattle.kr_mean.specs.WellFormed.{IsWellFormed};
 ghost use Rattle.kr_space_meaning.specs.Limits.{IsWithinLimits};
 ghost use Rattle.kr_space_problem.specs.Posed.{IsPosed, posed};
+ghost use Rattle.kr_space_problem.specs.Subjects.{IsSubject};
 ghost use Rattle.kr_types.specs.Programs.{IsProgram};
 
 use kr_base::NoMemory;
 use kr_fin::{FinDoc, read_fin};
-use kr_judge_predicate::problem_code;
+use kr_judge_code::problem_code;
 use kr_judge_prepared::{Accepted, Prepared};
 use kr_mean::{MethodName, Mode};
 use kr_pure::pure;
 use kr_sources::{Unread, program_of};
 use kr_space::{limits_law, problem};
-use kr_space_problem::Problem;
+use kr_space_problem::{Problem, Subject};
 use kr_types::Program;
 use std::alloc::Global;
 
@@ -36,7 +37,7 @@ fn spaced(alloc: Global, program: Program, document: &FinDoc, mode: Mode) -> Res
     }
 }
 
-/// The same of the bytes of a finitization.
+/// The problem of a program and the bytes of a finitization.
 fn finitized(alloc: Global, program: Program, fin: &str, mode: Mode) -> Result<Problem, Unread>
     requires program { IsProgram program }
     requires shaped { AreShaped program }
@@ -52,31 +53,30 @@ fn finitized(alloc: Global, program: Program, fin: &str, mode: Mode) -> Result<P
     }
 }
 
-/// Whether a problem is pure.
-fn is_pure(alloc: Global, problem: &Problem) -> bool
+/// The subject of a problem, if it is pure.
+fn purified(alloc: Global, problem: &Problem) -> Result<Subject, Unread>
     requires shaped { AreShaped problem.now.program }
     requires posed { IsPosed problem.now }
     requires well_formed { IsWellFormed (posed problem.now) }
     requires small { length (slots (posed problem.now)) ≤ 4096 }
-    ensures { result ≡ true → IsAccepted problem.now }
+    ensures accepted { IfOk result (λ subject. IsAccepted problem.now) }
+    ensures subject { IfOk result (IsSubject problem.now) }
 {
     match pure(alloc, problem) {
-        Ok(()) => true,
-        Err(_) => false,
+        Ok(subject) => Ok(subject),
+        Err(_) => Err(Unread::Refused),
     }
 }
 
 fn accepted(alloc: Global, source: &str, fin: &str, mode: Mode) -> Result<Accepted, Unread> {
     let program = program_of(alloc, source)?;
     let problem = finitized(alloc, program, fin, mode)?;
-    if is_pure(alloc, &problem) {
-        return Ok(Accepted::new(problem));
-    }
-    Err(Unread::Refused)
+    let subject = purified(alloc, &problem)?;
+    Ok(Accepted::new(problem, subject))
 }
 
 fn prepared_of(alloc: Global, accepted: Accepted) -> Result<Prepared, NoMemory> {
-    let code = problem_code(alloc, accepted.problem())?;
+    let code = problem_code(alloc, &accepted)?;
     Prepared::new(alloc, accepted, code)
 }
 
@@ -96,7 +96,7 @@ fn named(alloc: Global, method: &str) -> Result<Mode, NoMemory> {
     Ok(Mode::Method(MethodName::new(text)))
 }
 
-/// The same, whose method of a name is tested.
+/// The problem of a source and a finitization, whose method of a name is tested.
 pub fn read_test(alloc: Global, source: &str, fin: &str, method: &str) -> Result<Prepared, Unread> {
     let mode = named(alloc, method)?;
     prepared(alloc, source, fin, mode)

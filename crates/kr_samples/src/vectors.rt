@@ -9,7 +9,7 @@ ghost use Rattle.kr_space_problem.specs.Posed.{posed};
 use kr_base::NoMemory;
 use kr_judge_prepared::Prepared;
 use kr_space_layout::Layout;
-use kr_step::Candidates;
+use kr_step::Candidate;
 use kr_vector::{Slot, Vector};
 use std::alloc::Global;
 
@@ -56,7 +56,7 @@ pub fn fits(layout: &Layout, vector: &Vector) -> bool
     true
 }
 
-/// The same of a prepared problem.
+/// Likewise of a prepared problem.
 pub fn is_vector(prepared: &Prepared, vector: &Vector) -> bool
     ensures { result ≡ true → IsVector (space_of (posed prepared.now.problem)) vector.now }
 {
@@ -88,16 +88,16 @@ pub fn indices_of(alloc: Global, layout: &Layout, number: u32) -> Result<Vec<u32
 }
 
 /// The first candidate is one.
-pub fn stands<C: Candidates>(candidates: &C)
+pub fn stands<C: Candidate>(candidates: &C)
     requires { C.vector candidates.now ≡ replicate (C.space candidates.now).slots 0 }
     ensures { IsVector (C.space candidates.now) (C.vector candidates.now) }
 {
     candidates.laws();
 }
 
-/// Gives the slots of the candidate that stands these indices, where their domains have them. A slot that has its index already is
+/// Gives the slots of the current candidate these indices, where their domains have them. A slot that has its index already is
 /// left alone, so that the next run may go on from the one before.
-pub fn change<C: Candidates>(candidates: &mut C, indices: &[u32])
+pub fn change<C: Candidate>(candidates: &mut C, indices: &[u32])
     requires { IsVector (C.space candidates.old) (C.vector candidates.old) }
     ensures space { C.space candidates.new ≡ C.space candidates.old }
     ensures vector { IsVector (C.space candidates.new) (C.vector candidates.new) }

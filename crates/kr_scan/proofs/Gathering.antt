@@ -13,12 +13,21 @@ use Rattle.kr_base.specs.Entries.{is_spent, within, through_spent}
 use Rattle.kr_mean.specs.Problem.{Problem}
 use Rattle.kr_mean.specs.Space.{Space}
 use Rattle.kr_step.specs.declared.candidates.Ending.{Ending}
-use Rattle.kr_step_span.specs.Scans.{RunsOn}
+use Rattle.kr_step.specs.Scans.{RunsOn}
 use Rattle.kr_survey.specs.Scans.{row_of, rows_of, any_spent, last_key, walked, reached, IsScan}
+use Rattle.kr_survey.proofs.Scanning.{eq-eqb, last-more, length-more, less-not, rows-more, spent-more, take-here}
 use Rattle.kr_survey.proofs.Walks.{is_stopped}
 use Rattle.kr_scan.specs.declared.batch.Stop.{Stop}
 use Rattle.kr_scan.specs.declared.batch.Stop.TheVariants.{End, Full, Spent}
 use Rattle.kr_scan.specs.Stops.{Gathers}
+
+through-append : {R : Type 0} (xs ys : List (Entry R)) → any_spent xs ≡ false → through_spent (xs ++ ys) ≡ xs ++ through_spent ys
+through-append [] ys h = refl
+through-append {R} (x ∷ xs) ys h =
+    elim (is_spent x.mark) as (λ t. (t || any_spent xs) ≡ false → x ∷ (if t then [] else through_spent (xs ++ ys)) ≡ x ∷ (xs ++ through_spent ys)) [
+      | true ↦ λ s. absurd (cc (s))
+      | false ↦ λ s. ap (λ (l : List (Entry R)). x ∷ l) (through-append xs ys s)
+    ] h
 
 -- Of the entries of a span these are walked, none of them spent, and their rows are kept; others are left.
 pub record IsFront {R : Type 0} (all : List (Entry R)) (after : List ℕ) (upto : Bound) (most : ℕ) (done rest : List (Entry R)) (rows : List R) (tried : ℕ) : Type 0 where
@@ -30,44 +39,6 @@ pub record IsFront {R : Type 0} (all : List (Entry R)) (after : List ℕ) (upto 
 
 pub at_start : {R : Type 0} (all : List (Entry R)) (after : List ℕ) (upto : Bound) (most : ℕ) (rows : List R) (tried : ℕ) → rows ≡ [] → tried ≡ 0 → 0 < most → IsFront all after upto most [] (within (At after) upto all) rows tried
 at_start all after upto most rows tried r t h = record { whole = refl; rows_are = r; tried_are = t; below = omega (arith, t, h); none_spent = refl }
-
-through-append : {R : Type 0} (xs ys : List (Entry R)) → any_spent xs ≡ false → through_spent (xs ++ ys) ≡ xs ++ through_spent ys
-through-append [] ys h = refl
-through-append {R} (x ∷ xs) ys h =
-    elim (is_spent x.mark) as (λ t. (t || any_spent xs) ≡ false → x ∷ (if t then [] else through_spent (xs ++ ys)) ≡ x ∷ (xs ++ through_spent ys)) [
-      | true ↦ λ s. absurd (cc (s))
-      | false ↦ λ s. ap (λ (l : List (Entry R)). x ∷ l) (through-append xs ys s)
-    ] h
-
-rows-more : {R : Type 0} (w : List (Entry R)) (e : Entry R) → rows_of (w ++ e ∷ []) ≡ rows_of w ++ row_of e.mark
-rows-more {R} w e = flat_map-append (λ (x : Entry R). row_of x.mark) w (e ∷ []) ∙ ap (λ (l : List R). rows_of w ++ l) (append-nil (row_of e.mark))
-
-spent-more : {R : Type 0} (w : List (Entry R)) (e : Entry R) → any_spent w ≡ false → any_spent (w ++ e ∷ []) ≡ is_spent e.mark
-spent-more {R} w e h =
-    list_any-append (λ (x : Entry R). is_spent x.mark) w (e ∷ []) ∙ (ap (λ (t : Bool). t || (is_spent e.mark || false)) h
-    ∙ elim (is_spent e.mark) as (λ t. (t || false) ≡ t) [ true ↦ refl | false ↦ refl ])
-
-length-more : {R : Type 0} (w : List (Entry R)) (e : Entry R) → length (w ++ e ∷ []) ≡ length w + 1
-length-more w e = length-append w (e ∷ [])
-
-last-more : {R : Type 0} (b : Bound) (w : List (Entry R)) (e : Entry R) → last_key b (w ++ e ∷ []) ≡ At e.key
-last-more b [] e = refl
-last-more b (x ∷ w) e = last-more (At x.key) w e
-
--- the walk up to an entry of which there is no more to walk after it
-take-here : {A : Type 0} (w : List A) (e : A) (m : ℕ) (rest : List A) → length w < m → (rest ≡ []) ⊎ (length w + 1 ≡ m) → take m (w ++ e ∷ rest) ≡ w ++ e ∷ []
-take-here [] e zero rest h o = absurd (omega arith)
-take-here {A} [] e (suc m) rest h (inl o) = ap (λ (l : List A). e ∷ take m l) o ∙ ap (λ (l : List A). e ∷ l) (take_all m [] (omega arith))
-take-here {A} [] e (suc m) rest h (inr o) = let z : m ≡ 0 = omega arith in ap (λ (n : ℕ). e ∷ take n rest) z
-take-here (x ∷ w) e zero rest h o = absurd (omega arith)
-take-here {A} (x ∷ w) e (suc m) rest h (inl o) = ap (λ (l : List A). x ∷ l) (take-here w e m rest (omega arith) (inl o))
-take-here {A} (x ∷ w) e (suc m) rest h (inr o) = ap (λ (l : List A). x ∷ l) (take-here w e m rest (omega arith) (inr (omega arith)))
-
-eq-eqb : (a b : ℕ) → a ≡ b → (a == b) ≡ true
-eq-eqb a b h = grind (arith, nat_tests)
-
-less-not : (a b : ℕ) → a < b → (a == b) ≡ false
-less-not a b h = grind (arith, nat_tests)
 
 or-true : (t : Bool) → (t || true) ≡ true
 or-true true = refl

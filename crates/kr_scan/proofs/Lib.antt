@@ -1,3 +1,4 @@
 pub mod Gathering
 pub mod Marks
 pub mod Rows
+pub mod Walking

@@ -11,7 +11,7 @@ use Rattle.kr_mean.specs.Entries.{mark_for, mark_of, row_of}
 use Rattle.kr_mean.specs.declared.row.Row.{Row}
 use Rattle.kr_step.specs.declared.candidates.Ending.{Ending}
 use Rattle.kr_step.specs.declared.candidates.Ending.TheVariants.{Valid, Invalid, Spent}
-use Rattle.kr_step_span.specs.Scans.{ending_of}
+use Rattle.kr_step.specs.Scans.{ending_of}
 use Rattle.kr_survey.specs.Scans.{row_of as rows_at}
 use Rattle.kr_scan.specs.Stops.{IsSpent}
 

@@ -1,7 +1,7 @@
 // What one scan walks: at most so many entries, up to a bound.
 ghost use Rattle.std.specs.Prelude.{◌≡◌, ◌<◌, ◌≤◌, ◌+◌, [], IfOk};
 ghost use Rattle.kr_mean.specs.Entries.{all_entries};
-ghost use Rattle.kr_step_span.specs.Scans.{RunsOn};
+ghost use Rattle.kr_step.specs.Scans.{RunsOn};
 ghost use Rattle.kr_space_problem.specs.Posed.{posed};
 ghost use Rattle.kr_survey.specs.Scans.{IsScan};
 ghost use Rattle.kr_scan.specs.Stops.{Gathers, IsSpent, reach_at, says_spent};
@@ -10,7 +10,7 @@ use crate::maker::{RowMaker, cut_of};
 use crate::row::add_row;
 use kr_base::{Bound, NoMemory, Steps};
 use kr_mean::Row;
-use kr_step_span::{Candidates, Ending, Next, SpanSearch};
+use kr_step::{Candidate, Ending, Next, SpanSearch};
 use kr_survey::{Part, RowList};
 use std::alloc::Global;
 use std::sync::ledger::Ledger;
@@ -24,7 +24,7 @@ pub(crate) enum Stop {
 }
 
 /// Whether a run needs more than the fuel.
-fn is_spent(ending: Ending) -> bool
+pub(crate) fn is_spent(ending: Ending) -> bool
     ensures { IsSpent ending result }
 {
     match ending {
@@ -47,7 +47,7 @@ fn reach(alloc: Global, stop: Stop, key: &[u32], upto: &Bound) -> Result<Bound, 
 
 /// Walks on to the end of a span, through a spent entry, or until so many entries were walked, and keeps the rows of the
 /// valid ones.
-fn gather<C: Candidates + Drop, L: Ledger>(
+fn gather<C: Candidate + Drop, L: Ledger>(
     span: &mut SpanSearch<C>,
     most: u32,
     maker: &mut RowMaker<'_>,
@@ -95,7 +95,7 @@ fn is_at_spent(stop: Stop) -> bool
 }
 
 /// The part that a span gives, whose end is this, of at most so many entries.
-pub(crate) fn collect<C: Candidates + Drop, L: Ledger>(
+pub(crate) fn collect<C: Candidate + Drop, L: Ledger>(
     alloc: Global,
     span: &mut SpanSearch<C>,
     maker: &mut RowMaker<'_>,

@@ -2,11 +2,13 @@
 #![tactic(auto)]
 
 mod batch;
+mod handing;
 mod maker;
 mod row;
 mod scan;
 mod sharing;
 
+pub use handing::walk;
 pub use kr_mean::Row;
 pub use maker::RowMaker;
 pub use scan::{Scan, Stopped};

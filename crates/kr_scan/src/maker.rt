@@ -6,17 +6,17 @@ ghost use Rattle.kr_mean.specs.Space.{IsVector, space_of};
 ghost use Rattle.kr_space_problem.specs.Posed.{posed};
 
 use kr_base::{Cut, NoMemory};
-use kr_build::Walk;
-use kr_build_structure::structure_of;
+use kr_build::{Walk, structure_of};
 use kr_contract::Tester;
 use kr_judge_prepared::Prepared;
 use kr_mean::Row;
-use kr_step_span::Candidates;
+use kr_step::Candidate;
+use kr_vector::Vector;
 use std::alloc::Global;
 use std::marker::Model;
 
-/// What makes the rows of a problem's valid candidates, one after another, in rooms that are used again. Contracts see the
-/// problem and its code.
+/// Makes the rows of a problem's valid candidates. The walk and the tester are kept from row to row; the cut and the structure of
+/// each row are allocated anew. Contracts see the problem and its code.
 #[derive(Drop)]
 pub struct RowMaker<'p> {
     alloc: Global,
@@ -43,26 +43,26 @@ pub(crate) fn cut_of(alloc: Global, numbers: &[u32]) -> Result<Cut, NoMemory>
     Ok(Cut::new(numbers.to_vec(alloc)?))
 }
 
-/// The row of the candidate that stands, whose key this is.
-fn row_for<C: Candidates>(
+/// The row of a candidate, whose key this is.
+fn row_for(
     alloc: Global,
     prepared: &Prepared,
     walk: &mut Walk,
     tester: &mut Tester<'_>,
     key: &[u32],
-    candidate: &C,
+    vector: &Vector,
 ) -> Result<Row, NoMemory>
     requires tester { tester.old ≡ prepared.now }
-    requires vector { IsVector (space_of (posed prepared.now.problem)) (C.vector candidate.now) }
-    requires key { key.now ≡ key_of (posed prepared.now.problem) (C.vector candidate.now) }
-    ensures row { IfOk result (λ row. row ≡ row_of (posed prepared.now.problem) (C.vector candidate.now)) }
+    requires vector { IsVector (space_of (posed prepared.now.problem)) vector.now }
+    requires key { key.now ≡ key_of (posed prepared.now.problem) vector.now }
+    ensures row { IfOk result (λ row. row ≡ row_of (posed prepared.now.problem) vector.now) }
     ensures tester { tester.new ≡ tester.old }
 {
     prepared.laws();
     let layout = prepared.layout();
-    let verdict = tester.verdict_on(candidate)?;
+    let verdict = tester.verdict_on(vector)?;
     let key = cut_of(alloc, key)?;
-    let structure = structure_of(alloc, layout, walk, candidate)?;
+    let structure = structure_of(alloc, layout, walk, vector)?;
     Ok(Row {
         key,
         structure,
@@ -84,8 +84,8 @@ impl<'p> RowMaker<'p> {
         })
     }
 
-    /// The row of the valid candidate that stands, whose key this is: with its verdict, where a method is tested.
-    pub fn row<C: Candidates>(&mut self, key: &[u32], candidate: &C) -> Result<Row, NoMemory>
+    /// The row of a valid candidate with this key: with its verdict, where a method is tested.
+    pub fn row<C: Candidate>(&mut self, key: &[u32], candidate: &C) -> Result<Row, NoMemory>
         requires vector { IsVector (space_of (posed self.old.problem)) (C.vector candidate.now) }
         requires key { key.now ≡ key_of (posed self.old.problem) (C.vector candidate.now) }
         ensures row { IfOk result (λ row. row ≡ row_of (posed self.old.problem) (C.vector candidate.now)) }
@@ -97,7 +97,7 @@ impl<'p> RowMaker<'p> {
             &mut self.walk,
             &mut self.tester,
             key,
-            candidate,
+            candidate.current(),
         )
     }
 }

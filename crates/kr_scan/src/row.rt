@@ -3,17 +3,17 @@ ghost use Rattle.std.specs.Prelude.{◌≡◌, ◌++◌, OnOk};
 ghost use Rattle.kr_mean.specs.Entries.{mark_of};
 ghost use Rattle.kr_mean.specs.Runs.{end_on, key_of};
 ghost use Rattle.kr_mean.specs.Space.{IsVector, space_of};
-ghost use Rattle.kr_step_span.specs.Scans.{ending_of};
+ghost use Rattle.kr_step.specs.Scans.{ending_of};
 ghost use Rattle.kr_space_problem.specs.Posed.{posed};
 ghost use Rattle.kr_survey.specs.Scans.{row_of as rows_at};
 
 use crate::maker::RowMaker;
 use kr_base::NoMemory;
 use kr_mean::Row;
-use kr_step_span::{Candidates, Ending, SpanSearch};
+use kr_step::{Candidate, Ending, SpanSearch};
 
-/// Adds the row of the entry at which a walk over a span stands, if its candidate is valid.
-pub(crate) fn add_row<C: Candidates + Drop>(
+/// Adds the row of the walk's current entry, if its candidate is valid.
+pub(crate) fn add_row<C: Candidate + Drop>(
     ending: Ending,
     maker: &mut RowMaker<'_>,
     span: &SpanSearch<C>,

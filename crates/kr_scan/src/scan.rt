@@ -1,7 +1,7 @@
 // The survey of a prepared problem.
 ghost use Rattle.std.specs.Prelude.{◌≡◌, ◌<◌, ◌≤◌, ◌+◌, ◌↔◌, IfOk, IfSome, IsTrue, length};
 ghost use Rattle.kr_mean.specs.Entries.{all_entries};
-ghost use Rattle.kr_step_span.specs.Scans.{RunsOn};
+ghost use Rattle.kr_step.specs.Scans.{RunsOn};
 ghost use Rattle.kr_space_problem.specs.Posed.{posed};
 ghost use Rattle.kr_survey.specs.Scans.{IsScan};
 
@@ -9,13 +9,12 @@ use crate::batch::collect;
 use crate::maker::RowMaker;
 use kr_base::{Bound, Cut, NoMemory, Steps};
 use kr_iso::Slots;
-use kr_judge_again::Runner;
 use kr_judge_prepared::Prepared;
+use kr_judge_replay::Runner;
 use kr_laws_pruning::plain_law;
 use kr_mean::Row;
 use kr_space_problem::Problem;
-use kr_step::Search;
-use kr_step_span::{Candidates, SpanSearch};
+use kr_step::{Candidate, Search, SpanSearch};
 use kr_survey::{Part, Survey};
 use std::alloc::Global;
 use std::marker::Model;
@@ -25,8 +24,8 @@ use std::sync::ledger::Ledger;
 /// A prepared problem as a survey of its entries, with verdicts where a method is tested. Contracts see the problem.
 #[derive(Drop)]
 pub struct Scan<'p> {
-    alloc: Global,
-    prepared: &'p Prepared,
+    pub(crate) alloc: Global,
+    pub(crate) prepared: &'p Prepared,
 }
 
 impl<'p> Model for Scan<'p> {
@@ -77,13 +76,13 @@ impl<'p> Scan<'p> {
     }
 
     /// A search above a cut, from its beginning.
-    fn seek<L: Ledger>(
+    pub(crate) fn seek<L: Ledger>(
         &self,
         after: &Cut,
         runs: &mut Steps<L>,
     ) -> Result<Search<Runner<'p>>, NoMemory>
         ensures cut { IfOk result (λ search. search.cut ≡ after.now) }
-        ensures runs_on { IfOk result (λ search. RunsOn (posed self.now) (⟦<Runner<'p> as Slots>⟧.space search.candidates) (⟦<Runner<'p> as Candidates>⟧.order search.candidates) (⟦<Runner<'p> as Candidates>⟧.ending search.candidates)) }
+        ensures runs_on { IfOk result (λ search. RunsOn (posed self.now) (⟦<Runner<'p> as Slots>⟧.space search.candidates) (⟦<Runner<'p> as Candidate>⟧.order search.candidates) (⟦<Runner<'p> as Candidate>⟧.ending search.candidates)) }
         ensures runs { runs.new ≤ runs.old + length after.now + 1 }
     {
         match Runner::new(self.alloc, self.prepared) {
@@ -99,9 +98,9 @@ impl<'p> Scan<'p> {
         after: &Cut,
         runs: &mut Steps<L>,
     ) -> Result<Search<Runner<'p>>, NoMemory>
-        requires { IfSome kept (λ search. RunsOn (posed self.now) (⟦<Runner<'p> as Slots>⟧.space search.candidates) (⟦<Runner<'p> as Candidates>⟧.order search.candidates) (⟦<Runner<'p> as Candidates>⟧.ending search.candidates)) }
+        requires { IfSome kept (λ search. RunsOn (posed self.now) (⟦<Runner<'p> as Slots>⟧.space search.candidates) (⟦<Runner<'p> as Candidate>⟧.order search.candidates) (⟦<Runner<'p> as Candidate>⟧.ending search.candidates)) }
         ensures cut { IfOk result (λ search. search.cut ≡ after.now) }
-        ensures runs_on { IfOk result (λ search. RunsOn (posed self.now) (⟦<Runner<'p> as Slots>⟧.space search.candidates) (⟦<Runner<'p> as Candidates>⟧.order search.candidates) (⟦<Runner<'p> as Candidates>⟧.ending search.candidates)) }
+        ensures runs_on { IfOk result (λ search. RunsOn (posed self.now) (⟦<Runner<'p> as Slots>⟧.space search.candidates) (⟦<Runner<'p> as Candidate>⟧.order search.candidates) (⟦<Runner<'p> as Candidate>⟧.ending search.candidates)) }
         ensures runs { runs.new ≤ runs.old + length after.now + 1 }
     {
         match kept {
@@ -119,7 +118,7 @@ impl<'p> Scan<'p> {
 impl<'p> Survey for Scan<'p> {
     ghost use Rattle.std.specs.Prelude.{◌≡◌, IfSome};
     ghost use Rattle.kr_mean.specs.Entries.{all_entries};
-    ghost use Rattle.kr_step_span.specs.Scans.{RunsOn};
+    ghost use Rattle.kr_step.specs.Scans.{RunsOn};
     ghost use Rattle.kr_space_problem.specs.Posed.{posed};
 
     type Row = Row;
@@ -128,7 +127,7 @@ impl<'p> Survey for Scan<'p> {
 
     ghost all = { λ s. all_entries (posed s) };
 
-    ghost made = { λ s stopped. (stopped.maker.problem ≡ s) × IfSome stopped.search (λ search. RunsOn (posed s) (⟦<Runner<'p> as Slots>⟧.space search.candidates) (⟦<Runner<'p> as Candidates>⟧.order search.candidates) (⟦<Runner<'p> as Candidates>⟧.ending search.candidates)) };
+    ghost made = { λ s stopped. (stopped.maker.problem ≡ s) × IfSome stopped.search (λ search. RunsOn (posed s) (⟦<Runner<'p> as Slots>⟧.space search.candidates) (⟦<Runner<'p> as Candidate>⟧.order search.candidates) (⟦<Runner<'p> as Candidate>⟧.ending search.candidates)) };
 
     fn scratch(&self) -> Result<Stopped<'p>, NoMemory> {
         Ok(Stopped {
@@ -146,9 +145,9 @@ impl<'p> Survey for Scan<'p> {
         runs: &mut Steps<L>,
     ) -> Result<Part<Row>, NoMemory>
         requires some { 0 < most }
-        requires made { (scratch.old.maker.problem ≡ self.now) × IfSome scratch.old.search (λ search. RunsOn (posed self.now) (⟦<Runner<'p> as Slots>⟧.space search.candidates) (⟦<Runner<'p> as Candidates>⟧.order search.candidates) (⟦<Runner<'p> as Candidates>⟧.ending search.candidates)) }
+        requires made { (scratch.old.maker.problem ≡ self.now) × IfSome scratch.old.search (λ search. RunsOn (posed self.now) (⟦<Runner<'p> as Slots>⟧.space search.candidates) (⟦<Runner<'p> as Candidate>⟧.order search.candidates) (⟦<Runner<'p> as Candidate>⟧.ending search.candidates)) }
         ensures part { IfOk result (IsScan (all_entries (posed self.now)) after.now upto.now most) }
-        ensures made { (scratch.new.maker.problem ≡ self.now) × IfSome scratch.new.search (λ search. RunsOn (posed self.now) (⟦<Runner<'p> as Slots>⟧.space search.candidates) (⟦<Runner<'p> as Candidates>⟧.order search.candidates) (⟦<Runner<'p> as Candidates>⟧.ending search.candidates)) }
+        ensures made { (scratch.new.maker.problem ≡ self.now) × IfSome scratch.new.search (λ search. RunsOn (posed self.now) (⟦<Runner<'p> as Slots>⟧.space search.candidates) (⟦<Runner<'p> as Candidate>⟧.order search.candidates) (⟦<Runner<'p> as Candidate>⟧.ending search.candidates)) }
         ensures runs { IfOk result (λ part. runs.new ≤ runs.old + part.tried + length after.now + 3) }
     {
         let end = match upto.try_clone() {

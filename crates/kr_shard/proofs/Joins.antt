@@ -2,7 +2,8 @@
 use Rattle.std.proofs.Common.{◌≡◌, ℕ, zero, suc, ◌+◌, ◌-◌, ◌^◌, ◌<◌, ◌≤◌, Bool, true, false, List, [], ◌∷◌, ◌++◌, length, map, take, drop, get_or, min, refl, sym, ap, ◌∙◌, subst, arith, add-one, drop-cons, Option, Some, None, is_some}
 use Rattle.std.specs.List.{sum_by}
 use Rattle.std.specs.Prelude.{Result, Ok, Err, slice_get}
-use Rattle.kr_shard.specs.Merging.{IsMerged, Joins, capped, through_spent, tried_in, spent_in, or_else, fault_after, fault_between, first_fault}
+use Rattle.kr_base.specs.Causes.{capped}
+use Rattle.kr_shard.specs.Merging.{IsMerged, Joins, through_spent, tried_in, spent_in, or_else, fault_after, fault_between, first_fault}
 use Rattle.kr_shard.specs.Rows.{rows_of}
 use Rattle.kr_shard.specs.declared.merging.Merged.{Merged}
 use Rattle.kr_shard.specs.declared.merging.MergeRefusal.TheVariants.{Overlap, Gap, NoMemory}
@@ -28,43 +29,12 @@ through_all (g ∷ gs) before =
     let none : is_some g.shard.spent ≡ false = before 0 g (omega arith) in
     rw none (ap (λ (l : List Given). g ∷ l) (through_all gs (λ k d below. before (suc k) d (omega arith))))
 
--- ---- faults
-
-pub fault_now : (last next : Given) (later : List Given) (i : ℕ) (fault : MergeRefusal) → i < length later → Some fault ≡ fault_between last (get_or later i next)
-    → Some fault ≡ fault_after last (drop i later)
-fault_now last next later i fault h e =
-    let step : drop i later ≡ get_or later i next ∷ drop (i + 1) later = rw (add-one, drop-cons later i next) refl in
-    ap (λ (o : Option MergeRefusal). or_else o (fault_after (get_or later i next) (drop (i + 1) later))) e ∙ ap (fault_after last) (sym step)
-
-pub fault_later : (last next : Given) (later : List Given) (i : ℕ) → i < length later → None ≡ fault_between last (get_or later i next)
-    → fault_after last (drop i later) ≡ fault_after (get_or later i next) (drop (i + 1) later)
-fault_later last next later i h e =
-    let step : drop i later ≡ get_or later i next ∷ drop (i + 1) later = rw (add-one, drop-cons later i next) refl in
-    ap (fault_after last) step ∙ ap (λ (o : Option MergeRefusal). or_else o (fault_after (get_or later i next) (drop (i + 1) later))) (sym e)
-
--- ---- the first spent key
-
-pub spent_now : (ordered : List Given) (i : ℕ) (d : Given) (key : List ℕ) → i < length ordered → (get_or ordered i d).shard.spent ≡ Some key → Some key ≡ spent_in (drop i ordered)
-spent_now ordered i d key h e =
-    let step : drop i ordered ≡ get_or ordered i d ∷ drop (i + 1) ordered = rw (add-one, drop-cons ordered i d) refl in
-    sym (ap spent_in step ∙ ap (λ (o : Option (List ℕ)). or_else o (spent_in (drop (i + 1) ordered))) e)
-
-pub spent_later : (ordered : List Given) (i : ℕ) (d : Given) → i < length ordered → (get_or ordered i d).shard.spent ≡ None → spent_in (drop i ordered) ≡ spent_in (drop (i + 1) ordered)
-spent_later ordered i d h e =
-    let step : drop i ordered ≡ get_or ordered i d ∷ drop (i + 1) ordered = rw (add-one, drop-cons ordered i d) refl in
-    ap spent_in step ∙ ap (λ (o : Option (List ℕ)). or_else o (spent_in (drop (i + 1) ordered))) e
-
 -- ---- what they tried
 
 pub capped_more : (before now sum more : ℕ) → before ≡ capped sum → now ≡ min (before + more) (2 ^ 64 - 1) → now ≡ capped (sum + more)
 capped_more before now sum more p q = omega arith
 
 -- ---- the answer
-
-pub fault_joins : (ordered : List Given) (fault : MergeRefusal) → first_fault ordered ≡ Some fault → Joins ordered (Err fault)
-fault_joins ordered (Overlap index) e = e
-fault_joins ordered (Gap to from) e = e
-fault_joins ordered (NoMemory why) e = tt
 
 pub merged_by : (ordered kept : List Given) (merged : Merged) → kept ≡ through_spent ordered → merged.rows ≡ map rows_of kept → merged.tried ≡ capped (sum_by tried_in kept) → merged.spent ≡ spent_in ordered → IsMerged ordered merged
 merged_by ordered kept merged is rows tried spent = record {

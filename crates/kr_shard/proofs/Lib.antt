@@ -1,2 +1,8 @@
 pub mod Orders
 pub mod Joins
+pub mod Texts
+pub mod Readings
+pub mod Fronts
+pub mod Told
+pub mod Joined
+pub mod Pieces

@@ -2,7 +2,7 @@
 use Rattle.std.proofs.Common.{◌≡◌, ℕ, zero, suc, ◌+◌, ◌<◌, ◌≤◌, Bool, true, false, List, [], ◌∷◌, ◌++◌, length, take, drop, get_or, refl, sym, ap, ◌∙◌, subst, arith, add-one}
 use Rattle.std.specs.List.{insert}
 use Rattle.kr_base.specs.Cuts.{is_before}
-use Rattle.kr_shard_reading.specs.declared.shard.Shard.{Shard}
+use Rattle.kr_shard.specs.declared.shard.Shard.{Shard}
 use Rattle.kr_shard.specs.Merging.{from_of, in_order, numbered, placed}
 use Rattle.kr_shard.specs.Placing.{IsPlace}
 use Rattle.kr_shard.specs.declared.order.Given.{Given}

@@ -2,3 +2,11 @@ pub mod Rows
 pub mod Merging
 pub mod Placing
 pub mod Answers
+pub mod ReadRows
+pub mod Lines
+pub mod Shards
+pub mod Texts
+pub mod Stages
+pub mod Faults
+pub mod Files
+pub mod Found

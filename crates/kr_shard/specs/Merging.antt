@@ -1,11 +1,12 @@
 -- To be believed: what shards come to that are put together.
+use Rattle.kr_base.specs.Causes.{capped}
 use Rattle.std.specs.Prelude.{◌≡◌, ℕ, ◌+◌, ◌-◌, ◌^◌, List, [], ◌∷◌, Bool, map, min, Option, Some, None, Result, Ok, Err, is_some, if◌then◌else◌}
 use Rattle.std.specs.List.{sum_by}
 use Rattle.kr_base.specs.declared.span.Bound.{Bound}
 use Rattle.kr_base.specs.declared.span.Bound.TheVariants.{At, End}
 use Rattle.kr_base.specs.Bounds.{less}
 use Rattle.kr_base.specs.Cuts.{is_before}
-use Rattle.kr_shard_reading.specs.declared.shard.Shard.{Shard}
+use Rattle.kr_shard.specs.declared.shard.Shard.{Shard}
 use Rattle.kr_shard.specs.Rows.{rows_of}
 use Rattle.kr_shard.specs.declared.order.Given.{Given}
 use Rattle.kr_shard.specs.declared.merging.Merged.{Merged}
@@ -22,7 +23,7 @@ abbrev pub placed : Given → List Given → List Given
 placed given [] = given ∷ []
 placed given (next ∷ later) = if is_before (from_of next) (from_of given) then next ∷ placed given later else given ∷ next ∷ later
 
--- in ascending order of FROM; those that have the same FROM stay in the order in which they were given
+-- in ascending order of FROM; those with one FROM stay in the order in which they were given
 abbrev pub in_order : List Given → List Given
 in_order [] = []
 in_order (given ∷ later) = placed given (in_order later)
@@ -71,10 +72,6 @@ abbrev pub spent_in : List Given → Option (List ℕ)
 spent_in [] = None
 spent_in (given ∷ later) = or_else given.shard.spent (spent_in later)
 
--- the greatest of 64 bits where there are more
-abbrev pub capped : ℕ → ℕ
-capped n = min n (2 ^ 64 - 1)
-
 -- The rows up to and with the first spent one's, the sum of what they tried, and the spent key.
 pub record IsMerged (ordered : List Given) (merged : Merged) : Type 0 where
   pub rows : merged.rows ≡ map rows_of (through_spent ordered)
@@ -83,7 +80,7 @@ pub record IsMerged (ordered : List Given) (merged : Merged) : Type 0 where
 
 -- ---- the answer
 
--- what shards in order come to: the fault of the first pair that doesn't adjoin; else all together; or want of memory, which is
+-- the result of shards in order: the fault of the first pair that doesn't adjoin; else all together; or out of memory, which is
 -- free
 abbrev pub Joins : List Given → Result Merged MergeRefusal → Type 0
 Joins ordered (Ok merged) = (first_fault ordered ≡ None) × IsMerged ordered merged
@@ -91,6 +88,6 @@ Joins ordered (Err (Overlap index)) = first_fault ordered ≡ Some (Overlap inde
 Joins ordered (Err (Gap to from)) = first_fault ordered ≡ Some (Gap to from)
 Joins ordered (Err (NoMemory _)) = Unit {0}
 
--- the same of shards in any order
+-- the result of shards in any order
 abbrev pub Merges : List Shard → Result Merged MergeRefusal → Type 0
 Merges shards r = Joins (in_order (numbered 0 shards)) r

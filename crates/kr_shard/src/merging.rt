@@ -1,14 +1,13 @@
 // Shards put together.
 ghost use Rattle.std.specs.Prelude.{◌≡◌, ◌<◌, ◌==◌, length, slice_get, take, Some, IfOk};
 ghost use Rattle.std.specs.List.{sum_by};
-ghost use Rattle.kr_base.specs.declared.span.Bound.TheVariants.{At as AtCut};
-ghost use Rattle.kr_base.specs.Bounds.{less};
-ghost use Rattle.kr_shard.specs.Merging.{IsMerged, Merges, capped, fault_between, first_fault, gap_between, spent_in, through_spent, tried_in};
+ghost use Rattle.kr_base.specs.Causes.{capped};
+ghost use Rattle.kr_shard.specs.Merging.{IsMerged, Merges, fault_between, first_fault, gap_between, spent_in, through_spent, tried_in};
 ghost use Rattle.kr_shard.specs.declared.merging.MergeRefusal.TheVariants.{NoMemory as Lacking};
 
 use crate::order::{Given, in_order};
+use crate::{Rows, Shard};
 use kr_base::{Bound, Cut, NoMemory};
-use kr_shard_reading::{Rows, Shard};
 use std::alloc::Global;
 use std::marker::Model;
 
@@ -20,7 +19,7 @@ pub struct MergedRows {
 
 impl Model for MergedRows {
     ghost use Rattle.std.specs.Prelude.{List, map};
-    ghost use Rattle.kr_shard_reading.specs.Rows.{RowLines};
+    ghost use Rattle.kr_shard.specs.ReadRows.{RowLines};
     ghost use Rattle.kr_shard.specs.Rows.{rows_of};
 
     ghost Value = { List RowLines };
@@ -78,17 +77,6 @@ impl From<NoMemory> for MergeRefusal {
     }
 }
 
-/// Whether a shard begins before a bound.
-#[tactic(auto, unfolding(kr_base::specs::Bounds::less))]
-fn is_cut_below(cut: &Cut, bound: &Bound) -> bool
-    ensures { result ≡ less (AtCut cut.now) bound.now }
-{
-    match bound {
-        Bound::End => true,
-        Bound::At(other) => cut.is_below(other),
-    }
-}
-
 fn gap_between(to: &Bound, from: &Cut) -> Result<Option<MergeRefusal>, NoMemory>
     ensures { IfOk result (λ fault. fault ≡ gap_between to.now from.now) }
 {
@@ -110,7 +98,7 @@ fn fault_between(given: &Given, next: &Given) -> Result<Option<MergeRefusal>, No
 {
     let upto = &given.shard.span.upto;
     let from = &next.shard.span.after;
-    if is_cut_below(from, upto) {
+    if upto.is_above_cut(from) {
         return Ok(Some(MergeRefusal::Overlap(next.index)));
     }
     gap_between(upto, from)

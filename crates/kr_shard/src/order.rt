@@ -4,8 +4,8 @@ ghost use Rattle.std.specs.List.{insert};
 ghost use Rattle.kr_shard.specs.Merging.{in_order, numbered, placed};
 ghost use Rattle.kr_shard.specs.Placing.{IsPlace};
 
+use crate::Shard;
 use kr_base::{Cut, NoMemory};
-use kr_shard_reading::Shard;
 use std::alloc::Global;
 
 /// A shard with its number among those that were given.
@@ -27,7 +27,7 @@ fn place_for(ordered: &[Given], from: &Cut) -> usize
     ordered.len()
 }
 
-/// Puts a shard in its place.
+/// Writes a shard in its place.
 fn add_given(ordered: &mut Vec<Given>, given: Given) -> Result<(), NoMemory>
     ensures { IfOk result (λ none. ordered.new.items ≡ placed given ordered.old.items) }
 {

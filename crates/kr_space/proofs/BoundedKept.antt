@@ -1,13 +1,13 @@
--- What is known of a document beside a program stays as types are added.
-use Rattle.std.proofs.Common.{◌≡◌, ℕ, suc, ◌+◌, ◌<◌, true, List, [], ◌∷◌, length, drop, map, get_or, Option, All, fold, ap, sym, ◌∙◌, arith}
+-- Properties of a document beside a program are kept as types are added.
+use Rattle.std.proofs.Common.{◌≡◌, ℕ, ◌+◌, ◌<◌, true, List, length, drop, map, get_or, Option, All, fold, ap, sym, ◌∙◌, arith}
 use Rattle.std.specs.Prelude.{ℤ, pos, negsuc, nat_le, flat_map}
-use Rattle.std.specs.List.{AllByRecursion}
 use Rattle.std.proofs.lemmas.Bool.{and_parts, leb-true, le-leb}
 use Rattle.std.proofs.lemmas.List.{drop_more}
 use Rattle.std.proofs.lemmas.List.Sums.{fold-append}
+use Rattle.std.proofs.lemmas.List.Elements.{recursion_from_All}
 use Rattle.kr_classes_table.specs.Types.{JavaType}
 use Rattle.kr_classes_table.specs.Numbers.{Width, Bits32}
-use Rattle.kr_classes_types.specs.Types.{TypeList, Extends}
+use Rattle.kr_classes_names.specs.Types.{TypeList, Extends}
 use Rattle.kr_space_names.proofs.Growing.{node_types_kept}
 use Rattle.kr_mean.specs.Problem.{Problem, Choice, Domain, choices_in}
 use Rattle.kr_fin.specs.declared.document.Item.{Item as FinItem}
@@ -31,6 +31,7 @@ bounded_kept a b d e k = record {
   classes = k.classes;
   typed = node_types_kept d.classes.now.trees.now a b d.classes.now.numbers.now e k.typed;
   few = k.few;
+  objects = k.objects;
   bounds = bounds_kept a b d.document.now.arrays d.bounds.now (setting_in d).arrays e k.bounds;
   blocks = k.blocks;
   numbered = k.numbered;
@@ -42,12 +43,8 @@ pub numbers_same : (problem : Problem) (blocks : List Block) (entries : List Dom
 numbers_same problem blocks entries values item old new b d n =
     n ∙ ap (λ (cs : List Choice). fold lesser old (number_faults item cs)) (sym (b entries) ∙ ap (choices_in problem) d)
 
-pub each_of : {A : Type 0} (P : A → Type 0) (xs : List A) → All P xs → AllByRecursion P xs
-each_of P [] h = tt
-each_of P (x ∷ xs) h = (h 0 x (omega arith), each_of P xs (λ k d l. h (suc k) d (omega (arith, l))))
-
 pub lengths_values : (setting : Setting) (items : List FinItem) → All AreLengths items → values_with setting Bits32 items ≡ lengths_of setting items
-lengths_values setting items h = sym (lengths_are setting items (each_of AreLengths items h))
+lengths_values setting items h = sym (lengths_are setting items (recursion_from_All AreLengths items h))
 
 small_natural : (n : ℕ) → nat_le n 64 ≡ true → nat_le n 2147483647 ≡ true
 small_natural n h = let le = leb-true n 64 h in le-leb n 2147483647 (omega (arith, le))
@@ -71,7 +68,7 @@ pub lengths_noted : (problem : Problem) (setting : Setting) (item : List ℕ) (i
     → new ≡ fold lesser old (number_faults item (choices_in problem (values_with setting Bits32 items))) → new ≡ fold lesser old (number_faults item (choices_in problem (lengths_of setting items)))
 lengths_noted problem setting item items old new h n = n ∙ ap (λ (d : Domain). fold lesser old (number_faults item (choices_in problem d))) (lengths_values setting items h)
 
--- numbers have the width of the type that is asked for
+-- numbers have the width of the type that is required
 pub width_noted : (problem : Problem) (setting : Setting) (t : Option JavaType) (w : Width) (item : List ℕ) (items : List FinItem) (old new : Option Fault) → w ≡ width_for t
     → new ≡ fold lesser old (number_faults item (choices_in problem (values_with setting w items))) → new ≡ fold lesser old (number_faults item (choices_in problem (values_of setting t items)))
 width_noted problem setting t w item items old new e n = n ∙ ap (λ (v : Width). fold lesser old (number_faults item (choices_in problem (values_with setting v items)))) e

@@ -2,32 +2,15 @@
 use Rattle.std.proofs.Common.{◌≡◌, ℕ, zero, suc, ◌+◌, ◌<◌, List, [], ◌∷◌, ◌++◌, length, map, get_or, drop, Some, refl, ap, sym, ◌∙◌}
 use Rattle.std.proofs.lemmas.List.{append_assoc, drop_more}
 use Rattle.kr_value.specs.declared.value.Value.TheVariants.{Ref as Reference}
-use Rattle.kr_ast.specs.Tree.{Tree}
-use Rattle.kr_classes_table.specs.Table.{Heading, headings_of, table_of}
 use Rattle.kr_mean.specs.Problem as problems
-use Rattle.kr_mean.specs.Problem.{Problem, Choice, Domain, Plain, Objects, choices_in, domain_at, item_choices, no_objects, object_choice, objects_before, objects_of_domain, upto}
+use Rattle.kr_mean.specs.Problem.{Problem, Choice, Domain, Plain, Objects, choices_in, domain_at, item_choices, no_objects, object_choice, objects_before, upto}
 use Rattle.kr_space_layout.specs.declared.stretch.Block.{Block}
 use Rattle.kr_space_layout.specs.Items.{domain_of}
 use Rattle.kr_space_layout.specs.Stretches.{all_choices, stretch_of}
 use Rattle.kr_space_layout.specs.Bounds.{class_domain}
 use Rattle.kr_space_layout.specs.Tables.{blocks_from}
 use Rattle.kr_space_layout.proofs.Choices.{choices_are}
-use Rattle.kr_fin.specs.declared.document.FinDoc.{FinDoc}
-use Rattle.kr_space_meaning.specs.Bounds.{class_name, count_named, setting_of}
-use Rattle.kr_space.specs.Headings.{heading_at, no_heading}
-use Rattle.kr_space.specs.Sizes.{AreBlocks, bare_class, class_counts, counts_of}
-use Rattle.kr_space.proofs.ClassFaults.{name_at}
-
--- one class more
-pub counts_more : (files : List Tree) (document : FinDoc) (all kept new : List ℕ) (c n : ℕ) → c < length (headings_of files) → n ≡ count_named document.objects (class_name (table_of files) c) → new ≡ kept ++ n ∷ []
-    → all ≡ kept ++ class_counts (setting_of files document) (drop c (headings_of files)) → all ≡ new ++ class_counts (setting_of files document) (drop (c + 1) (headings_of files))
-unfolding setting_of table_of
-counts_more files document all kept new c n h e k a =
-    let hs = headings_of files in
-    let rest = class_counts (setting_of files document) (drop (c + 1) hs) in
-    let own : count_named document.objects (heading_at hs c).name ≡ n = sym (e ∙ ap (λ (t : List ℕ). count_named document.objects t) (name_at hs c h)) in
-    a ∙ (ap (λ (xs : List Heading). kept ++ class_counts (setting_of files document) xs) (drop_more hs c no_heading h)
-    ∙ (ap (λ (m : ℕ). kept ++ m ∷ rest) own ∙ (sym (append_assoc kept (n ∷ []) rest) ∙ ap (λ (xs : List ℕ). xs ++ rest) (sym k))))
+use Rattle.kr_space.specs.Sizes.{AreBlocks, bare_class, counts_of}
 
 -- ---- problems whose class domains have as many objects
 

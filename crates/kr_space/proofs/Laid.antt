@@ -1,12 +1,12 @@
--- Class domains as the code lays them out.
+-- Domains as the code lays them out.
 use Rattle.std.proofs.Common.{◌≡◌, ℕ, zero, suc, ◌+◌, ◌-◌, ◌<◌, List, [], ◌∷◌, ◌++◌, length, map, get_or, drop, Option, refl, ap, sym, subst, ◌∙◌, append_assoc, arith}
 use Rattle.std.specs.Prelude.{Result, IfOk, unwrap_or}
 use Rattle.std.proofs.lemmas.List.{drop_more, map-append}
 use Rattle.kr_ast.specs.Tree.{Tree}
 use Rattle.kr_classes_table.specs.Types.{JavaType}
 use Rattle.kr_classes_table.specs.Arrays.{array_number}
-use Rattle.kr_classes_table.specs.Table.{Field, Table, fields_of, headings_of, table_of}
-use Rattle.kr_classes_types.specs.Types.{TypeList, Extends, type_at}
+use Rattle.kr_classes_table.specs.Table.{Field, Table, fields_of, table_of}
+use Rattle.kr_classes_names.specs.Types.{TypeList, Extends, type_at}
 use Rattle.kr_space_names.specs.Collected.{types_shown}
 use Rattle.kr_space_names.proofs.Collecting.{numbers_kept, shown_kept}
 use Rattle.kr_value.specs.declared.object.Class.TheVariants.{Object, Array}
@@ -15,20 +15,21 @@ use Rattle.kr_mean.specs.declared.mode.Mode.{Mode}
 use Rattle.kr_mean.specs.Problem as problems
 use Rattle.kr_mean.specs.Problem.{Domain}
 use Rattle.kr_fin.specs.declared.document.ArrayBound.{ArrayBound}
+use Rattle.kr_fin.specs.declared.document.Count.{Count}
 use Rattle.kr_fin.specs.declared.document.FinDoc.{FinDoc}
 use Rattle.kr_space_layout.specs.declared.classes.ClassDomain.{ClassDomain}
 use Rattle.kr_space_layout.specs.declared.classes.Spotted.{Spotted}
 use Rattle.kr_space_layout.specs.declared.item.DomainEntry.{DomainEntry}
-use Rattle.kr_space_layout.specs.Bounds.{Bounds, bounds_of, spotted}
+use Rattle.kr_space_layout.specs.Bounds.{bounds_of, spotted}
 use Rattle.kr_space_layout.specs.Bounds as shapes
 use Rattle.kr_space_layout.specs.Items.{domain_of}
-use Rattle.kr_space_meaning.specs.Bounds.{Setting, array_class_domain, array_spots, class_domain, class_domains, class_name, count_named, domains_of, element_spots, elements_key, field_key, field_spots, greatest, lengths_of, parameter_key, root_of, setting_of, tested_parameters}
+use Rattle.kr_space_meaning.specs.Bounds.{Setting, array_class_domain, array_spots, domains_of, element_spots, elements_key, field_key, field_spots, greatest, lengths_of, object_domain, parameter_key, root_domain, setting_of, tested_parameters}
 use Rattle.kr_space_rules.specs.declared.bounds.Bound.{Bound}
+use Rattle.kr_space_rules.specs.declared.objects.Declared.{Declared}
+use Rattle.kr_space_rules.specs.ObjectDomains.{declared_shown, no_count}
 use Rattle.kr_space_rules.specs.Entries.{bound_shown, no_bound}
 use Rattle.kr_space.specs.Basis.{AreArrays, bounds_on}
-use Rattle.kr_space.specs.Headings.{heading_at}
 use Rattle.kr_space.specs.Pools.{fields_given, params_given, pool}
-use Rattle.kr_space.proofs.ClassFaults.{name_at}
 
 -- ---- lists that grow
 
@@ -67,17 +68,16 @@ spots_next files document ds all old new v xs i n x h e g k a =
     (ap (λ (d : Domain). record { spot = FieldSpot i; domain = d }) g)
     (a ∙ ap (λ (ss : List problems.Spotted). map (spotted ds) old ++ ss) (fields_next files document v xs i x h e))
 
--- ---- classes
+-- ---- object domains
 
-pub class_domain_is : (files : List Tree) (document : FinDoc) (ds : List Domain) (c n : ℕ) (name bytes : List ℕ) (spots : List Spotted) → c < length (headings_of files) → name ≡ class_name (table_of files) c → bytes ≡ name → n ≡ count_named document.objects name
-    → map (spotted ds) spots ≡ field_spots (setting_of files document) 0 (fields_of (table_of files) c)
-    → shapes.class_domain ds (record { name = bytes; class = Object c; count = n; spots = spots }) ≡ class_domain (setting_of files document) c (heading_at (headings_of files) c)
+pub object_domain_is : (files : List Tree) (document : FinDoc) (ds : List Domain) (object : Declared) (line : Count) (bytes : List ℕ) (spots : List Spotted) → line ≡ get_or document.objects object.at no_count → bytes ≡ line.name
+    → map (spotted ds) spots ≡ field_spots (setting_of files document) 0 (fields_of (table_of files) object.class)
+    → shapes.class_domain ds (record { name = bytes; class = Object object.class; count = line.count; spots = spots }) ≡ object_domain (setting_of files document) (declared_shown document.objects object)
 unfolding setting_of table_of
-class_domain_is files document ds c n name bytes spots h a b e s =
-    let own : name ≡ (heading_at (headings_of files) c).name = a ∙ name_at (headings_of files) c h in
-    ap (λ (t : List ℕ). record { name = t; class = Object c; count = n; spots = map (spotted ds) spots }) (b ∙ own)
-    ∙ (ap (λ (m : ℕ). record { name = (heading_at (headings_of files) c).name; class = Object c; count = m; spots = map (spotted ds) spots }) (e ∙ ap (count_named document.objects) own)
-    ∙ ap (λ (ss : List problems.Spotted). record { name = (heading_at (headings_of files) c).name; class = Object c; count = count_named document.objects (heading_at (headings_of files) c).name; spots = ss }) s)
+object_domain_is files document ds object line bytes spots l b s =
+    ap (λ (t : List ℕ). record { name = t; class = Object object.class; count = line.count; spots = map (spotted ds) spots }) b
+    ∙ (ap (λ (c : Count). record { name = c.name; class = Object object.class; count = c.count; spots = map (spotted ds) spots }) l
+    ∙ ap (λ (ss : List problems.Spotted). record { name = (get_or document.objects object.at no_count).name; class = Object object.class; count = (get_or document.objects object.at no_count).count; spots = ss }) s)
 
 -- ---- arrays
 
@@ -102,7 +102,7 @@ array_spots_are setting ds none first all lengths elements length_values element
     ∙ (ap (λ (d : Domain). (record { spot = Length; domain = length_values }) ∷ element_spots 0 count d) e
     ∙ ap (λ (m : ℕ). (record { spot = Length; domain = length_values }) ∷ element_spots 0 m element_values) g)))
 
-document_is : (files : List Tree) (document : FinDoc) → (setting_of files document).document ≡ document
+pub document_is : (files : List Tree) (document : FinDoc) → (setting_of files document).document ≡ document
 unfolding setting_of
 document_is files document = refl
 
@@ -130,25 +130,26 @@ arrays_kept a b setting arrays e k = record { numbers = numbers_kept a b arrays 
 pub ok_same : {T E : Type 0} (r : Result T E) (a b : T) → a ≡ b → IfOk r (λ x. x ≡ a) → IfOk r (λ x. x ≡ b)
 ok_same r a b e h = subst (λ (y : _). IfOk r (λ x. x ≡ y)) e h
 
-pub domains_whole : (files : List Tree) (document : FinDoc) (l : TypeList) (first all : List ClassDomain) (bounds : List Bound)
-    → map (shapes.class_domain (pool (setting_of files document) document)) first ≡ class_domains (setting_of files document) 0 (headings_of files)
+pub domains_whole : (files : List Tree) (document : FinDoc) (l : TypeList) (first all : List ClassDomain) (objects : List Declared) (bounds : List Bound)
+    → map (shapes.class_domain (pool (setting_of files document) document)) first ≡ map (object_domain (setting_of files document)) (map (declared_shown document.objects) objects)
     → map (shapes.class_domain (pool (setting_of files document) document)) all ≡ map (shapes.class_domain (pool (setting_of files document) document)) first ++ map (array_class_domain (setting_of files document)) (map (bound_shown l document.arrays) bounds)
-    → map (bound_shown l document.arrays) bounds ≡ (setting_of files document).arrays → map (shapes.class_domain (pool (setting_of files document) document)) all ≡ domains_of (setting_of files document)
-unfolding setting_of table_of
-domains_whole files document l first all bounds f a b =
+    → map (declared_shown document.objects) objects ≡ (setting_of files document).objects → map (bound_shown l document.arrays) bounds ≡ (setting_of files document).arrays
+    → map (shapes.class_domain (pool (setting_of files document) document)) all ≡ domains_of (setting_of files document)
+domains_whole files document l first all objects bounds f a o b =
     let setting = setting_of files document in
-    a ∙ (ap (λ (ks : List problems.ClassDomain). ks ++ map (array_class_domain setting) (map (bound_shown l document.arrays) bounds)) f ∙ ap (λ (bs : List (JavaType × ArrayBound)). class_domains setting 0 (headings_of files) ++ map (array_class_domain setting) bs) b)
+    a ∙ (ap (λ (ks : List problems.ClassDomain). ks ++ map (array_class_domain setting) (map (bound_shown l document.arrays) bounds)) (f ∙ ap (map (object_domain setting)) o)
+    ∙ ap (λ (bs : List (JavaType × ArrayBound)). map (object_domain setting) setting.objects ++ map (array_class_domain setting) bs) b)
 
-pub layout_is : (files : List Tree) (document : FinDoc) (mode : Mode) (class : Option ℕ) (root : ℕ) (parameters : List ℕ) (all : List ClassDomain) (ds : List (List DomainEntry)) → map domain_of ds ≡ pool (setting_of files document) document
-    → class ≡ root_of (setting_of files document) → root ≡ unwrap_or class 0
+pub layout_is : (files : List Tree) (document : FinDoc) (mode : Mode) (root : ℕ) (parameters : List ℕ) (all : List ClassDomain) (ds : List (List DomainEntry)) → map domain_of ds ≡ pool (setting_of files document) document
+    → root ≡ root_domain (setting_of files document)
     → map (λ n. get_or (pool (setting_of files document) document) n []) parameters ≡ map (λ p. params_given (setting_of files document) document (parameter_key mode p)) (tested_parameters (setting_of files document) mode)
     → map (shapes.class_domain (pool (setting_of files document) document)) all ≡ domains_of (setting_of files document)
     → bounds_of root mode document.fuel parameters all (map domain_of ds) ≡ bounds_on (setting_of files document) mode
 unfolding setting_of table_of params_given
-layout_is files document mode class root parameters all ds d c r p a =
+layout_is files document mode root parameters all ds d r p a =
     let setting = setting_of files document in
     let own : map (λ n. get_or (pool setting document) n []) parameters ≡ (bounds_on setting mode).parameters = p in
     ap (λ (ps : List Domain). bounds_of root mode document.fuel parameters all ps) d
-    ∙ (ap (λ (n : ℕ). record { root = n; mode = mode; parameters = map (λ n. get_or (pool setting document) n []) parameters; fuel = document.fuel; domains = map (shapes.class_domain (pool setting document)) all }) (r ∙ ap (λ (o : Option ℕ). unwrap_or o 0) c)
-    ∙ (ap (λ (ps : List Domain). record { root = unwrap_or (root_of setting) 0; mode = mode; parameters = ps; fuel = document.fuel; domains = map (shapes.class_domain (pool setting document)) all }) own
-    ∙ ap (λ (ks : List problems.ClassDomain). record { root = unwrap_or (root_of setting) 0; mode = mode; parameters = (bounds_on setting mode).parameters; fuel = document.fuel; domains = ks }) a))
+    ∙ (ap (λ (n : ℕ). record { root = n; mode = mode; parameters = map (λ n. get_or (pool setting document) n []) parameters; fuel = document.fuel; domains = map (shapes.class_domain (pool setting document)) all }) r
+    ∙ (ap (λ (ps : List Domain). record { root = root_domain setting; mode = mode; parameters = ps; fuel = document.fuel; domains = map (shapes.class_domain (pool setting document)) all }) own
+    ∙ ap (λ (ks : List problems.ClassDomain). record { root = root_domain setting; mode = mode; parameters = (bounds_on setting mode).parameters; fuel = document.fuel; domains = ks }) a))

@@ -11,7 +11,8 @@ use Rattle.kr_mean.specs.Problem.{Domain, Plain, Objects}
 use Rattle.kr_mean.specs.Problem as problems
 use Rattle.kr_fin.specs.declared.document.Item.{Item}
 use Rattle.kr_fin.specs.declared.document.Item.TheVariants.{Number, Range, Truth, Name}
-use Rattle.kr_space_layout.specs.Items.{integers_from, magnitude, width_between}
+use Rattle.kr_space_layout.specs.Items.{integers_from, width_between}
+use Rattle.kr_fin.specs.Document.{magnitude}
 use Rattle.kr_space_meaning.specs.Bounds.{Setting, greatest, item_values, lengths_in, lengths_of, values_with}
 use Rattle.kr_space_meaning.specs.Limits.{AreLengths}
 

@@ -1,11 +1,11 @@
 pub mod Named
 pub mod LengthLists
-pub mod ClassFaults
 pub mod Counts
 pub mod BoundedKept
 pub mod SlotCounts
 pub mod Parts
 pub mod ReadLimits
+pub mod Roots
 pub mod Pooled
 pub mod Laid
 pub mod Problems

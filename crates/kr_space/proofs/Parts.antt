@@ -1,24 +1,25 @@
 -- The rules part by part.
 use Rattle.std.proofs.Common.{◌≡◌, ℕ, zero, suc, ◌+◌, ◌==◌, nat_lt, List, [], ◌∷◌, ◌++◌, length, map, get_or, Option, fold, refl, ap, sym, ◌∙◌, arith}
-use Rattle.std.specs.Prelude.{codes, flat_map, unwrap_or}
+use Rattle.std.specs.Prelude.{codes, flat_map}
 use Rattle.std.proofs.lemmas.List.{length-append, length-map, map-append}
 use Rattle.std.proofs.lemmas.List.Sums.{fold-append}
 use Rattle.kr_ast.specs.Tree.{Tree}
 use Rattle.kr_classes_table.specs.Types.{JavaType}
-use Rattle.kr_classes_table.specs.Table.{Heading, headings_of, table_of}
+use Rattle.kr_classes_table.specs.Table.{headings_of, table_of}
 use Rattle.kr_mean.specs.declared.mode.Mode.{Mode}
 use Rattle.kr_mean.specs.Program.{Program}
 use Rattle.kr_mean.specs.Problem as problems
 use Rattle.kr_mean.specs.Problem.{Problem, domain_at, no_objects, slots}
 use Rattle.kr_fin.specs.declared.document.ArrayBound.{ArrayBound}
+use Rattle.kr_fin.specs.declared.document.Count.{Count}
 use Rattle.kr_fin.specs.declared.document.FinDoc.{FinDoc}
 use Rattle.kr_space_meaning.specs.declared.refusal.SpaceRule.TheVariants.{EmptyDomain, TooMany}
 use Rattle.kr_space_meaning.specs.Keys.{field_type, parameter_type}
-use Rattle.kr_space_meaning.specs.Bounds.{Setting, array_class_domain, bounded, class_domains, count_named, domains_of, problem_in, problem_of, program_in, root_of, setting_of, tested_parameters}
-use Rattle.kr_space_meaning.specs.Faults.{S1, S2, S3_S5_S6, S4, S7, S8, S9, array_S2, classes_S2, faults_in, fields_unfit, no_fields, no_params, params_unfit, numbers_of, numbers_of_lengths, parameter_S2}
+use Rattle.kr_space_meaning.specs.Bounds.{Setting, array_class_domain, bounded, declared, domains_of, object_domain, problem_in, problem_of, program_in, root_domain, root_of, setting_of, tested_parameters}
+use Rattle.kr_space_meaning.specs.Faults.{S1, S2, S3_S5_S6, S4, S7, S8, S9, array_S2, faults_in, fields_unfit, no_fields, no_params, params_unfit, numbers_of, numbers_of_lengths, object_S2, parameter_S2}
 use Rattle.kr_space_meaning.specs.Order.{Fault, break_if, lesser}
 use Rattle.kr_space.specs.Refusals.{after_S1}
-use Rattle.kr_space.specs.Sizes.{class_counts, counts_of}
+use Rattle.kr_space.specs.Sizes.{counts_of, object_counts}
 
 pub headings_are : (files : List Tree) (document : FinDoc) → (setting_of files document).table.headings ≡ headings_of files
 unfolding setting_of table_of
@@ -28,17 +29,21 @@ pub arrays_are : (files : List Tree) (document : FinDoc) → (setting_of files d
 unfolding setting_of table_of
 arrays_are files document = refl
 
+pub objects_are : (files : List Tree) (document : FinDoc) → (setting_of files document).objects ≡ declared (headings_of files) document.objects
+unfolding setting_of table_of
+objects_are files document = refl
+
 three : (old : Option Fault) (a b c : List Fault) → fold lesser old (a ++ (b ++ c)) ≡ fold lesser (fold lesser (fold lesser old a) b) c
 three old a b c = fold-append lesser old a (b ++ c) ∙ fold-append lesser (fold lesser old a) b c
 
-pub S2_is : (files : List Tree) (document : FinDoc) (mode : Mode) (arrays : List (JavaType × ArrayBound)) (old : Option Fault) → arrays ≡ (setting_of files document).arrays → fold lesser old (S2 (setting_of files document) mode)
-    ≡ fold lesser (fold lesser (fold lesser old (classes_S2 (setting_of files document) 0 (headings_of files))) (flat_map (array_S2 (setting_of files document)) arrays)) (flat_map (parameter_S2 (setting_of files document) mode) (tested_parameters (setting_of files document) mode))
-S2_is files document mode arrays old e =
+pub S2_is : (files : List Tree) (document : FinDoc) (mode : Mode) (objects : List (ℕ × Count)) (arrays : List (JavaType × ArrayBound)) (old : Option Fault) → objects ≡ (setting_of files document).objects → arrays ≡ (setting_of files document).arrays → fold lesser old (S2 (setting_of files document) mode)
+    ≡ fold lesser (fold lesser (fold lesser old (flat_map (object_S2 (setting_of files document)) objects)) (flat_map (array_S2 (setting_of files document)) arrays)) (flat_map (parameter_S2 (setting_of files document) mode) (tested_parameters (setting_of files document) mode))
+S2_is files document mode objects arrays old o e =
     let setting = setting_of files document in
     let params = flat_map (parameter_S2 setting mode) (tested_parameters setting mode) in
-    three old (classes_S2 setting 0 setting.table.headings) (flat_map (array_S2 setting) setting.arrays) params
-    ∙ (ap (λ (hs : List Heading). fold lesser (fold lesser (fold lesser old (classes_S2 setting 0 hs)) (flat_map (array_S2 setting) setting.arrays)) params) (headings_are files document)
-    ∙ ap (λ (bs : List (JavaType × ArrayBound)). fold lesser (fold lesser (fold lesser old (classes_S2 setting 0 (headings_of files))) (flat_map (array_S2 setting) bs)) params) (sym e))
+    three old (flat_map (object_S2 setting) setting.objects) (flat_map (array_S2 setting) setting.arrays) params
+    ∙ (ap (λ (os : List (ℕ × Count)). fold lesser (fold lesser (fold lesser old (flat_map (object_S2 setting) os)) (flat_map (array_S2 setting) setting.arrays)) params) (sym o)
+    ∙ ap (λ (bs : List (JavaType × ArrayBound)). fold lesser (fold lesser (fold lesser old (flat_map (object_S2 setting) objects)) (flat_map (array_S2 setting) bs)) params) (sym e))
 
 five : (old : Option Fault) (a b c d e : List Fault) → fold lesser old (a ++ (b ++ (c ++ (d ++ e)))) ≡ fold lesser (fold lesser (fold lesser (fold lesser (fold lesser old a) b) c) d) e
 five old a b c d e = three old a b (c ++ (d ++ e)) ∙ three (fold lesser (fold lesser old a) b) c d e
@@ -59,43 +64,46 @@ pub after_names : (problem : Problem) (setting : Setting) (mode : Mode) (old : O
 unfolding after_S1
 after_names problem setting mode old = three old (S2 setting mode) (S3_S5_S6 problem setting) (S4 setting ++ (S7 setting ++ (S8 setting mode ++ S9 setting)))
 
--- ---- the counts of class domains
+-- ---- the counts of domains
 
-class_counts_are : (setting : Setting) (c : ℕ) (hs : List Heading) → counts_of (class_domains setting c hs) ≡ class_counts setting hs
-class_counts_are setting c [] = refl
-class_counts_are setting c (h ∷ hs) = ap (λ (ns : List ℕ). count_named setting.document.objects h.name ∷ ns) (class_counts_are setting (c + 1) hs)
+object_counts_are : (setting : Setting) (os : List (ℕ × Count)) → counts_of (map (object_domain setting) os) ≡ object_counts os
+object_counts_are setting [] = refl
+object_counts_are setting (o ∷ os) = ap (λ (ns : List ℕ). o.1.count ∷ ns) (object_counts_are setting os)
 
 array_counts_are : (setting : Setting) (arrays : List (JavaType × ArrayBound)) → counts_of (map (array_class_domain setting) arrays) ≡ map (λ a. a.1.count) arrays
 array_counts_are setting [] = refl
 array_counts_are setting (a ∷ more) = ap (λ (ns : List ℕ). a.1.count ∷ ns) (array_counts_are setting more)
 
-domain_counts : (setting : Setting) → counts_of (domains_of setting) ≡ class_counts setting setting.table.headings ++ map (λ a. a.1.count) setting.arrays
+domain_counts : (setting : Setting) → counts_of (domains_of setting) ≡ object_counts setting.objects ++ map (λ a. a.1.count) setting.arrays
 domain_counts setting =
-    map-append _ (class_domains setting 0 setting.table.headings) (map (array_class_domain setting) setting.arrays)
-    ∙ (ap (λ (ns : List ℕ). ns ++ counts_of (map (array_class_domain setting) setting.arrays)) (class_counts_are setting 0 setting.table.headings)
-    ∙ ap (λ (ns : List ℕ). class_counts setting setting.table.headings ++ ns) (array_counts_are setting setting.arrays))
+    map-append _ (map (object_domain setting) setting.objects) (map (array_class_domain setting) setting.arrays)
+    ∙ (ap (λ (ns : List ℕ). ns ++ counts_of (map (array_class_domain setting) setting.arrays)) (object_counts_are setting setting.objects)
+    ∙ ap (λ (ns : List ℕ). object_counts setting.objects ++ ns) (array_counts_are setting setting.arrays))
 
 domains_are : (program : Program) (setting : Setting) (mode : Mode) → (problem_in program setting mode).domains ≡ domains_of setting
 unfolding problem_in
 domains_are program setting mode = refl
 
-root_is : (program : Program) (setting : Setting) (mode : Mode) → (problem_in program setting mode).root ≡ unwrap_or (root_of setting) 0
+root_is : (program : Program) (setting : Setting) (mode : Mode) → (problem_in program setting mode).root ≡ root_domain setting
 unfolding problem_in
 root_is program setting mode = refl
 
-pub counts_are : (files : List Tree) (document : FinDoc) (mode : Mode) (arrays : List (JavaType × ArrayBound)) (counts : List ℕ) → arrays ≡ (setting_of files document).arrays → counts ≡ class_counts (setting_of files document) (headings_of files) ++ map (λ a. a.1.count) arrays
-    → counts_of (problem_of files document mode).domains ≡ counts
-counts_are files document mode arrays counts e c =
+pub counts_are : (files : List Tree) (document : FinDoc) (mode : Mode) (objects : List (ℕ × Count)) (arrays : List (JavaType × ArrayBound)) (counts : List ℕ) → objects ≡ (setting_of files document).objects → arrays ≡ (setting_of files document).arrays
+    → counts ≡ object_counts objects ++ map (λ a. a.1.count) arrays → counts_of (problem_of files document mode).domains ≡ counts
+counts_are files document mode objects arrays counts o e c =
     let setting = setting_of files document in
     ap (λ (ds : List problems.ClassDomain). counts_of ds) (domains_are (program_in setting) setting mode)
     ∙ (domain_counts setting
-    ∙ (ap (λ (hs : List Heading). class_counts setting hs ++ map (λ a. a.1.count) setting.arrays) (headings_are files document)
-    ∙ (ap (λ (bs : List (JavaType × ArrayBound)). class_counts setting (headings_of files) ++ map (λ a. a.1.count) bs) (sym e) ∙ sym c)))
+    ∙ (ap (λ (os : List (ℕ × Count)). object_counts os ++ map (λ a. a.1.count) setting.arrays) (sym o)
+    ∙ (ap (λ (bs : List (JavaType × ArrayBound)). object_counts objects ++ map (λ a. a.1.count) bs) (sym e) ∙ sym c)))
 
-pub counts_long : (files : List Tree) (document : FinDoc) (arrays : List (JavaType × ArrayBound)) (counts : List ℕ) → counts ≡ class_counts (setting_of files document) (headings_of files) ++ map (λ a. a.1.count) arrays → length counts ≡ length (headings_of files) + length arrays
-counts_long files document arrays counts c =
-    ap (λ (ns : List ℕ). length ns) c
-    ∙ (let l = length-append (class_counts (setting_of files document) (headings_of files)) (map (λ a. a.1.count) arrays) in let a = length-map (headings_of files) (λ h. count_named (setting_of files document).document.objects h.name) in let b = length-map arrays (λ a. a.1.count) in omega (arith, l, a, b))
+-- how many domains there are
+pub domains_long : (setting : Setting) → length (domains_of setting) ≡ length setting.objects + length setting.arrays
+domains_long setting =
+    let l = length-append (map (object_domain setting) setting.objects) (map (array_class_domain setting) setting.arrays) in
+    let a = length-map setting.objects (object_domain setting) in
+    let b = length-map setting.arrays (array_class_domain setting) in
+    omega (arith, l, a, b)
 
 count_got : (ds : List problems.ClassDomain) (d : ℕ) → (get_or ds d no_objects).count ≡ get_or (counts_of ds) d 0
 count_got [] d = refl
@@ -103,25 +111,24 @@ count_got (x ∷ ds) zero = refl
 count_got (x ∷ ds) (suc d) = count_got ds d
 
 -- whether the root has no objects
-pub root_count : (files : List Tree) (document : FinDoc) (mode : Mode) (counts : List ℕ) (root : Option ℕ) (n : ℕ) → counts_of (problem_of files document mode).domains ≡ counts → root ≡ root_of (setting_of files document) → n ≡ get_or counts (unwrap_or root 0) 0
+pub root_count : (files : List Tree) (document : FinDoc) (mode : Mode) (counts : List ℕ) (root n : ℕ) → counts_of (problem_of files document mode).domains ≡ counts → root ≡ root_domain (setting_of files document) → n ≡ get_or counts root 0
     → n ≡ (domain_at (problem_of files document mode) (problem_of files document mode).root).count
 root_count files document mode counts root n c r e =
     let problem = problem_of files document mode in
     let setting = setting_of files document in
-    e ∙ (ap (λ (ns : List ℕ). get_or ns (unwrap_or root 0) 0) (sym c)
-    ∙ (ap (λ (o : Option ℕ). get_or (counts_of problem.domains) (unwrap_or o 0) 0) r
-    ∙ (ap (λ (k : ℕ). get_or (counts_of problem.domains) k 0) (sym (root_is (program_in setting) setting mode)) ∙ sym (count_got problem.domains problem.root))))
+    e ∙ (ap (λ (ns : List ℕ). get_or ns root 0) (sym c)
+    ∙ (ap (λ (k : ℕ). get_or (counts_of problem.domains) k 0) (r ∙ sym (root_is (program_in setting) setting mode)) ∙ sym (count_got problem.domains problem.root)))
 
 -- ---- types and methods
 
 pub types_are : (files : List Tree) (document : FinDoc) (mode : Mode) (old : Option Fault) → fold lesser old (S4 (setting_of files document) ++ (S7 (setting_of files document) ++ (S8 (setting_of files document) mode ++ S9 (setting_of files document))))
-    ≡ fold lesser (fold lesser (fold lesser (fold lesser (fold lesser (fold lesser old (fields_unfit (table_of files) document.fields)) (params_unfit (table_of files) (root_of (setting_of files document)) document.params)) (S7 (setting_of files document))) (S8 (setting_of files document) mode))
+    ≡ fold lesser (fold lesser (fold lesser (fold lesser (fold lesser (fold lesser old (fields_unfit (table_of files) document document.fields)) (params_unfit (table_of files) document (root_of (setting_of files document)) document.params)) (S7 (setting_of files document))) (S8 (setting_of files document) mode))
     (no_fields (table_of files) document.fields)) (no_params (table_of files) (root_of (setting_of files document)) document.params)
 unfolding setting_of
 types_are files document mode old =
     let setting = setting_of files document in
-    let unfit_fields = fields_unfit (table_of files) document.fields in
-    let unfit_params = params_unfit (table_of files) (root_of setting) document.params in
+    let unfit_fields = fields_unfit (table_of files) document document.fields in
+    let unfit_params = params_unfit (table_of files) document (root_of setting) document.params in
     let fields = no_fields (table_of files) document.fields in
     let params = no_params (table_of files) (root_of setting) document.params in
     fold-append lesser old (unfit_fields ++ unfit_params) (S7 setting ++ (S8 setting mode ++ (fields ++ params)))

@@ -37,7 +37,7 @@ domains_next {A = A} f all old new xs i x h e k n =
     ∙ (ap (λ (y : A). old ++ f y ∷ map f (drop (i + 1) xs)) (sym e)
     ∙ (sym (append_assoc old (f x ∷ []) (map f (drop (i + 1) xs))) ∙ ap (λ (ds : List Domain). ds ++ map f (drop (i + 1) xs)) (sym n))))
 
--- a domain whose numbers have the width that its key asks for
+-- a domain whose numbers have the width that its key requires
 pub values_added : (setting : Setting) (t : Option JavaType) (w : Width) (old new : List Domain) (items : List FinItem) → w ≡ width_for t → new ≡ old ++ values_with setting w items ∷ [] → new ≡ old ++ values_of setting t items ∷ []
 values_added setting t w old new items e n = n ∙ ap (λ (v : Width). old ++ values_with setting v items ∷ []) e
 
@@ -62,7 +62,7 @@ pool_alone setting document none all n a = a ∙ ap (λ (ds : List (List DomainE
 
 -- ---- numbers
 
--- where a key is found its domain stands
+-- where a key is found its domain is
 record IsGot (setting : Setting) (asked : List ℕ → Option JavaType) (ds : List NamedDomain) (n : List ℕ) (k i : ℕ) : Type 0 where
   at : ℕ
   is : i ≡ k + at

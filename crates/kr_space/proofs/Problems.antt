@@ -7,7 +7,7 @@ use Rattle.kr_classes_table.specs.Types.{JavaType}
 use Rattle.kr_classes_table.specs.Nodes.{nodes}
 use Rattle.kr_classes_table.specs.Table.{headings_of, table_of}
 use Rattle.kr_classes_table.specs.Arrays.{array_types_of, arrays_in, arrays_named}
-use Rattle.kr_classes_types.specs.Types.{TypeList, Extends, type_at}
+use Rattle.kr_classes_names.specs.Types.{TypeList, Extends, type_at}
 use Rattle.kr_space_names.specs.Collected.{collected, types_shown}
 use Rattle.kr_space_names.proofs.Once.{once_more}
 use Rattle.kr_space_names.proofs.Collecting.{node_types_kept}
@@ -45,7 +45,7 @@ program_kept p l e k = record {
   well_typed = k.well_typed;
 }
 
--- the array types of the files, and those of the document behind them
+-- the array types of the files, followed by those of the document
 pub arrays_whole : (files : List Tree) (document : FinDoc) (l : TypeList) (all : List ArrayBound) (bounds : List Bound) (first arrays : List ℕ) → types_shown l first ≡ array_types_of files
     → types_shown l arrays ≡ collected (types_shown l first) (flat_map (λ a. arrays_in a.0) (map (bound_shown l all) bounds)) → map (bound_shown l all) bounds ≡ (setting_of files document).arrays
     → types_shown l arrays ≡ (setting_of files document).types

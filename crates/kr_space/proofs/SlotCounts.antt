@@ -7,19 +7,20 @@ use Rattle.std.proofs.lemmas.List.Concat.{flat_map-append}
 use Rattle.std.proofs.lemmas.Bool.{cases_lt, le-ltb, lt-ltb}
 use Rattle.kr_ast.specs.Tree.{Tree}
 use Rattle.kr_classes_table.specs.Types.{JavaType}
-use Rattle.kr_classes_table.specs.Table.{Heading, Field, fields_of, headings_of, table_of}
+use Rattle.kr_classes_table.specs.Table.{Field, fields_of, table_of}
 use Rattle.kr_mean.specs.declared.mode.Mode.{Mode}
 use Rattle.kr_mean.specs.Program.{Program}
 use Rattle.kr_mean.specs.Problem.{Problem, ClassDomain, Domain, Slot, domain_at, no_objects, objects_from, objects_of_domain, parameter_slots, slots, slots_of_object}
 use Rattle.kr_fin.specs.declared.document.ArrayBound.{ArrayBound}
+use Rattle.kr_fin.specs.declared.document.Count.{Count}
 use Rattle.kr_fin.specs.declared.document.FinDoc.{FinDoc}
-use Rattle.kr_space_meaning.specs.Bounds.{Setting, array_class_domain, class_domains, class_name, count_named, elements_key, field_spots, field_values, greatest, lengths_of, parameter_key, parameter_values, problem_in, program_in, setting_of, tested_parameters}
+use Rattle.kr_space_meaning.specs.Bounds.{Setting, array_class_domain, elements_key, field_spots, field_values, greatest, lengths_of, object_domain, parameter_key, parameter_values, problem_in, program_in, setting_of, tested_parameters}
+use Rattle.kr_space_rules.specs.declared.objects.Declared.{Declared}
+use Rattle.kr_space_rules.specs.ObjectDomains.{declared_shown}
 use Rattle.kr_space_meaning.proofs.Plain.{length-element_spots}
-use Rattle.kr_space.specs.Headings.{heading_at, no_heading}
-use Rattle.kr_space.specs.Slots.{slots_of_arrays, slots_of_classes}
-use Rattle.kr_space.proofs.ClassFaults.{name_at}
+use Rattle.kr_space.specs.Slots.{slots_of_arrays, slots_of_objects}
 
--- ---- by class domains
+-- ---- by domains
 
 abbrev domains_slots : List ClassDomain → ℕ
 domains_slots [] = 0
@@ -74,7 +75,7 @@ all_long problem =
     plus : (k : ℕ) → 0 + k ≡ k
     plus k = omega arith
 
--- ---- by classes and array types
+-- ---- by object domains and array types
 
 domains_slots-append : (xs ys : List ClassDomain) → domains_slots (xs ++ ys) ≡ domains_slots xs + domains_slots ys
 domains_slots-append [] ys = omega arith
@@ -84,11 +85,11 @@ fields_long : (setting : Setting) (k : ℕ) (fs : List Field) → length (field_
 fields_long setting k [] = refl
 fields_long setting k (f ∷ fs) = ap suc (fields_long setting (k + 1) fs)
 
-classes_slots : (setting : Setting) (c : ℕ) (hs : List Heading) → domains_slots (class_domains setting c hs) ≡ slots_of_classes setting c hs
-classes_slots setting c [] = refl
-classes_slots setting c (h ∷ hs) =
-    ap (λ (n : ℕ). count_named setting.document.objects h.name * n + domains_slots (class_domains setting (c + 1) hs)) (fields_long setting 0 (fields_of setting.table c))
-    ∙ ap (λ (n : ℕ). count_named setting.document.objects h.name * length (fields_of setting.table c) + n) (classes_slots setting (c + 1) hs)
+objects_slots : (setting : Setting) (os : List (ℕ × Count)) → domains_slots (map (object_domain setting) os) ≡ slots_of_objects setting os
+objects_slots setting [] = refl
+objects_slots setting (o ∷ os) =
+    ap (λ (n : ℕ). o.1.count * n + domains_slots (map (object_domain setting) os)) (fields_long setting 0 (fields_of setting.table o.0))
+    ∙ ap (λ (n : ℕ). o.1.count * length (fields_of setting.table o.0) + n) (objects_slots setting os)
 
 array_long : (setting : Setting) (a : JavaType × ArrayBound) → length (array_class_domain setting a).spots ≡ greatest (lengths_of setting a.1.lengths) + 1
 array_long setting a =
@@ -100,51 +101,44 @@ arrays_slots setting (a ∷ more) =
     ap (λ (n : ℕ). a.1.count * n + domains_slots (map (array_class_domain setting) more)) (array_long setting a)
     ∙ ap (λ (n : ℕ). a.1.count * (greatest (lengths_of setting a.1.lengths) + 1) + n) (arrays_slots setting more)
 
-setting_slots : (program : Program) (setting : Setting) (mode : Mode) → length (slots (problem_in program setting mode)) ≡ suc (length (tested_parameters setting mode) + (slots_of_classes setting 0 setting.table.headings + slots_of_arrays setting setting.arrays))
+setting_slots : (program : Program) (setting : Setting) (mode : Mode) → length (slots (problem_in program setting mode)) ≡ suc (length (tested_parameters setting mode) + (slots_of_objects setting setting.objects + slots_of_arrays setting setting.arrays))
 unfolding problem_in
 setting_slots program setting mode =
     let all = all_long (problem_in program setting mode) in
     let p = length-map (tested_parameters setting mode) (λ p. parameter_values setting (parameter_key mode p)) in
-    let d = domains_slots-append (class_domains setting 0 setting.table.headings) (map (array_class_domain setting) setting.arrays) in
-    let c = classes_slots setting 0 setting.table.headings in
+    let d = domains_slots-append (map (object_domain setting) setting.objects) (map (array_class_domain setting) setting.arrays) in
+    let c = objects_slots setting setting.objects in
     let a = arrays_slots setting setting.arrays in
     omega (arith, all, p, d, c, a)
 
-headings_are : (files : List Tree) (document : FinDoc) → (setting_of files document).table.headings ≡ headings_of files
-unfolding setting_of table_of
-headings_are files document = refl
-
 -- the slots of a document's problem
-pub slots_are : (files : List Tree) (document : FinDoc) (mode : Mode) (arrays : List (JavaType × ArrayBound)) → arrays ≡ (setting_of files document).arrays
-    → length (slots (problem_in (program_in (setting_of files document)) (setting_of files document) mode)) ≡ suc (length (tested_parameters (setting_of files document) mode) + (slots_of_classes (setting_of files document) 0 (headings_of files) + slots_of_arrays (setting_of files document) arrays))
-slots_are files document mode arrays e =
+pub slots_are : (files : List Tree) (document : FinDoc) (mode : Mode) (objects : List (ℕ × Count)) (arrays : List (JavaType × ArrayBound)) → objects ≡ (setting_of files document).objects → arrays ≡ (setting_of files document).arrays
+    → length (slots (problem_in (program_in (setting_of files document)) (setting_of files document) mode)) ≡ suc (length (tested_parameters (setting_of files document) mode) + (slots_of_objects (setting_of files document) objects + slots_of_arrays (setting_of files document) arrays))
+slots_are files document mode objects arrays o e =
     let setting = setting_of files document in
     setting_slots (program_in setting) setting mode
-    ∙ (ap (λ (hs : List Heading). suc (length (tested_parameters setting mode) + (slots_of_classes setting 0 hs + slots_of_arrays setting setting.arrays))) (headings_are files document)
-    ∙ ap (λ (bs : List (JavaType × ArrayBound)). suc (length (tested_parameters setting mode) + (slots_of_classes setting 0 (headings_of files) + slots_of_arrays setting bs))) (sym e))
+    ∙ (ap (λ (os : List (ℕ × Count)). suc (length (tested_parameters setting mode) + (slots_of_objects setting os + slots_of_arrays setting setting.arrays))) (sym o)
+    ∙ ap (λ (bs : List (JavaType × ArrayBound)). suc (length (tested_parameters setting mode) + (slots_of_objects setting objects + slots_of_arrays setting bs))) (sym e))
 
--- ---- counts that stand still at the last number
+-- ---- counts that saturate at the last number
 
-pub class_more : (files : List Tree) (document : FinDoc) (all c total own next : ℕ) → c < length (headings_of files)
-    → own ≡ min (count_named document.objects (class_name (table_of files) c) * length (fields_of (table_of files) c)) (2 ^ 64 - 1) → next ≡ min (total + own) (2 ^ 64 - 1)
-    → min all (2 ^ 64 - 1) ≡ min (total + slots_of_classes (setting_of files document) c (drop c (headings_of files))) (2 ^ 64 - 1)
-    → min all (2 ^ 64 - 1) ≡ min (next + slots_of_classes (setting_of files document) (c + 1) (drop (c + 1) (headings_of files))) (2 ^ 64 - 1)
+pub object_more : (files : List Tree) (document : FinDoc) (objects : List Declared) (i : ℕ) (d : Declared) (all total own next : ℕ) → i < length objects
+    → own ≡ min ((declared_shown document.objects (get_or objects i d)).1.count * length (fields_of (table_of files) (declared_shown document.objects (get_or objects i d)).0)) (2 ^ 64 - 1) → next ≡ min (total + own) (2 ^ 64 - 1)
+    → min all (2 ^ 64 - 1) ≡ min (total + slots_of_objects (setting_of files document) (map (declared_shown document.objects) (drop i objects))) (2 ^ 64 - 1)
+    → min all (2 ^ 64 - 1) ≡ min (next + slots_of_objects (setting_of files document) (map (declared_shown document.objects) (drop (i + 1) objects))) (2 ^ 64 - 1)
 unfolding setting_of table_of
-class_more files document all c total own next h o n e =
-    let hs = headings_of files in
+object_more files document objects i d all total own next h o n e =
+    let x = get_or objects i d in
     let setting = setting_of files document in
-    let rest = slots_of_classes setting (c + 1) (drop (c + 1) hs) in
-    let here = count_named document.objects (heading_at hs c).name * length (fields_of (table_of files) c) in
-    let a : slots_of_classes setting c (drop c hs) ≡ here + rest = ap (λ (xs : List Heading). slots_of_classes setting c xs) (drop_more hs c no_heading h) in
-    let b : own ≡ min here (2 ^ 64 - 1) = o ∙ ap (λ (t : List ℕ). min (count_named document.objects t * length (fields_of (table_of files) c)) (2 ^ 64 - 1)) (name_at hs c h) in
-    capped all total (slots_of_classes setting c (drop c hs)) here rest own next a b n e
+    let shown = declared_shown document.objects in
+    let rest = slots_of_objects setting (map shown (drop (i + 1) objects)) in
+    let here = (shown x).1.count * length (fields_of (table_of files) (shown x).0) in
+    let a : slots_of_objects setting (map shown (drop i objects)) ≡ here + rest =
+    ap (λ (ds : List Declared). slots_of_objects setting (map shown ds)) (drop_more objects i d h) in
+    capped all total (slots_of_objects setting (map shown (drop i objects))) here rest own next a o n e
   where
     capped : (all total left here rest own next : ℕ) → left ≡ here + rest → own ≡ min here (2 ^ 64 - 1) → next ≡ min (total + own) (2 ^ 64 - 1) → min all (2 ^ 64 - 1) ≡ min (total + left) (2 ^ 64 - 1) → min all (2 ^ 64 - 1) ≡ min (next + rest) (2 ^ 64 - 1)
     capped all total left here rest own next a b n e = omega (arith, a, b, n, e)
-
--- no objects, no slots
-pub slots_none : (n w : ℕ) → n ≡ 0 → 0 ≡ min (n * w) (2 ^ 64 - 1)
-slots_none n w e = omega (arith, ap (λ (m : ℕ). m * w) e)
 
 pub shown_long : {A B : Type 0} (f : A → B) (xs : List A) (ys : List B) → map f xs ≡ ys → length xs ≡ length ys
 shown_long f xs ys e = sym (length-map xs f) ∙ ap (λ (zs : List _). length zs) e

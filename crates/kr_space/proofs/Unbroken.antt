@@ -1,5 +1,5 @@
 -- The problem of a document that breaks no rule is well formed, and it has few slots.
-use Rattle.std.proofs.Common.{◌≡◌, ℕ, ◌≤◌, ◌==◌, ◌++◌, false, nat_lt, List, [], length, map, Option, None, ap, sym, subst, ◌∙◌}
+use Rattle.std.proofs.Common.{◌≡◌, ◌≤◌, ◌==◌, ◌++◌, nat_lt, List, [], length, map, Option, None, ap, sym, subst, ◌∙◌}
 use Rattle.std.specs.Prelude.{MatchOption, codes}
 use Rattle.std.proofs.lemmas.Bool.{ltb-false}
 use Rattle.kr_ast.specs.Arena.{Arena, root}
@@ -14,9 +14,10 @@ use Rattle.kr_space_meaning.specs.Faults.{S1, S2, S3_S5_S6, S4, S7, S8, S9, faul
 use Rattle.kr_fin.specs.Least.{IsLeast}
 use Rattle.kr_space_meaning.specs.Meaning.{faults_of}
 use Rattle.kr_space_meaning.specs.Order.{Fault, break_if, least, rank_of}
-use Rattle.kr_space_meaning.proofs.Each.{both_none, unbroken}
+use Rattle.kr_space_meaning.proofs.Each.{unbroken}
 use Rattle.kr_fin.proofs.Leasts.{least_of_all}
 use Rattle.kr_space_meaning.proofs.WellFormed.{well_formed}
+use Rattle.kr_base.proofs.ListLemmas.{append_is_nil}
 
 none_broken : (faults : List Fault) → least faults ≡ None → faults ≡ []
 none_broken faults e = subst (λ (o : Option Fault). MatchOption o (faults ≡ []) (IsLeast rank_of faults)) e (least_of_all rank_of faults)
@@ -36,13 +37,13 @@ few_slots problem setting mode e =
     let this = break_if ((domain_at problem problem.root).count == 0) EmptyDomain (codes "this") in
     let many = break_if (nat_lt 4096 (length (slots problem))) TooMany (codes "slots") in
     let last = S4 setting ++ (S7 setting ++ (S8 setting mode ++ S9 setting)) in
-    let behind_names = (both_none (S1 setting) (S2 setting mode ++ (S3_S5_S6 problem setting ++ last)) e).1 in
-    let behind_domains = (both_none (S2 setting mode) (S3_S5_S6 problem setting ++ last) behind_names).1 in
-    let numbers = (both_none (S3_S5_S6 problem setting) last behind_domains).0 in
-    let behind_fields = (both_none fields (params ++ (lengths ++ (this ++ many))) numbers).1 in
-    let behind_params = (both_none params (lengths ++ (this ++ many)) behind_fields).1 in
-    let behind_lengths = (both_none lengths (this ++ many) behind_params).1 in
-    let behind_root = (both_none this many behind_lengths).1 in
+    let behind_names = (append_is_nil (S1 setting) (S2 setting mode ++ (S3_S5_S6 problem setting ++ last)) e).1 in
+    let behind_domains = (append_is_nil (S2 setting mode) (S3_S5_S6 problem setting ++ last) behind_names).1 in
+    let numbers = (append_is_nil (S3_S5_S6 problem setting) last behind_domains).0 in
+    let behind_fields = (append_is_nil fields (params ++ (lengths ++ (this ++ many))) numbers).1 in
+    let behind_params = (append_is_nil params (lengths ++ (this ++ many)) behind_fields).1 in
+    let behind_lengths = (append_is_nil lengths (this ++ many) behind_params).1 in
+    let behind_root = (append_is_nil this many behind_lengths).1 in
     ltb-false 4096 (length (slots problem)) (unbroken (nat_lt 4096 (length (slots problem))) TooMany (codes "slots") behind_root)
 
 pub few_here : (trees here : List Arena) (document : FinDoc) (mode : Mode) (p : Problem) → here ≡ trees → least (faults_of (map root here) document mode) ≡ None → p ≡ problem_of (map root trees) document mode → length (slots p) ≤ 4096

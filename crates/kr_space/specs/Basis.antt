@@ -1,14 +1,14 @@
 -- Between crates: what the problem of a document is made of, with what is known of it.
-use Rattle.std.specs.Prelude.{◌≡◌, ℕ, ◌+◌, ◌^◌, ◌<◌, List, length, map, unwrap_or}
-use Rattle.kr_classes_table.specs.Table.{headings_of}
-use Rattle.kr_classes_types.specs.Types.{TypeList}
+use Rattle.std.specs.Prelude.{◌≡◌, ℕ, ◌+◌, ◌^◌, ◌<◌, List, length, map}
+use Rattle.kr_classes_names.specs.Types.{TypeList}
 use Rattle.kr_space_names.specs.Collected.{AreNumbers, types_shown}
 use Rattle.kr_fin.specs.declared.document.FinDoc.{FinDoc}
 use Rattle.kr_mean.specs.declared.mode.Mode.{Mode}
 use Rattle.kr_space_layout.specs.Bounds.{Bounds}
-use Rattle.kr_space_meaning.specs.Bounds.{Setting, domains_of, parameter_key, parameter_values, root_of, setting_of, tested_parameters}
+use Rattle.kr_space_meaning.specs.Bounds.{Setting, domains_of, parameter_key, parameter_values, root_domain, setting_of, tested_parameters}
 use Rattle.kr_space_meaning.specs.Limits.{IsWithinLimits}
 use Rattle.kr_space_rules.specs.Classes.{AreClasses, files_of}
+use Rattle.kr_space_rules.specs.ObjectDomains.{AreDeclared}
 use Rattle.kr_space_rules.specs.Entries.{AreBounds}
 use Rattle.kr_space.specs.Keys.{AreKeys}
 use Rattle.kr_space.specs.declared.basis.Basis.{Basis}
@@ -24,7 +24,8 @@ HasFewDomains document = length document.fields + (length document.params + leng
 pub record IsBasis (b : Basis) : Type 0 where
   pub classes : AreClasses b.classes.now
   pub keys : AreKeys b.document.now b.keys.now
-  pub few : length (headings_of (files_of b.classes.now)) + length b.bounds.now < 2 ^ 32
+  pub objects : AreDeclared b.document.now.objects b.objects.now (setting_on b).objects
+  pub few : length b.objects.now + length b.bounds.now < 2 ^ 32
   pub few_domains : HasFewDomains b.document.now
   pub limits : IsWithinLimits b.document.now
 
@@ -38,10 +39,10 @@ pub record AreArrays (types : TypeList) (setting : Setting) (arrays : List ℕ) 
   pub shown : types_shown types arrays ≡ setting.types
   pub few : length arrays < 2 ^ 32
 
--- what the problem of a setting and a mode has beside its program
+-- the problem of a setting and a mode, but for its program
 abbrev pub bounds_on : Setting → Mode → Bounds
 bounds_on setting mode = record {
-  root = unwrap_or (root_of setting) 0;
+  root = root_domain setting;
   mode = mode;
   parameters = map (λ p. parameter_values setting (parameter_key mode p)) (tested_parameters setting mode);
   fuel = setting.document.fuel;

@@ -5,6 +5,5 @@ use Rattle.kr_fin.specs.declared.document.FinDoc.{FinDoc}
 use Rattle.kr_space.specs.declared.keys.Keys.{Keys}
 
 pub record AreKeys (document : FinDoc) (keys : Keys) : Type 0 where
-  pub objects : IsIndexOf (map (λ c. c.name) document.objects) keys.objects
   pub fields : IsIndexOf (map (λ d. d.key) document.fields) keys.fields
   pub params : IsIndexOf (map (λ d. d.key) document.params) keys.params

@@ -1,4 +1,3 @@
-pub mod Headings
 pub mod Sizes
 pub mod Bounded
 pub mod Slots

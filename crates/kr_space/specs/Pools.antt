@@ -14,7 +14,7 @@ use Rattle.kr_space_meaning.specs.Bounds.{Setting, domains_of, lengths_of, root_
 use Rattle.kr_space.specs.Basis.{setting_on}
 use Rattle.kr_space.specs.declared.basis.Basis.{Basis}
 
--- the domains of a table, whose keys ask for types
+-- the domains of a table, whose keys require types
 abbrev pub all_values : Setting → (List ℕ → Option JavaType) → List NamedDomain → List Domain
 all_values setting asked domains = map (λ d. values_of setting (asked d.key) d.domain) domains
 
@@ -26,7 +26,7 @@ pool setting document =
     all_values setting (field_type setting.table) document.fields
     ++ (all_values setting (parameter_type setting.table (root_of setting)) document.params ++ all_lengths setting document.arrays)
 
--- what a document gives for a key of a field or of elements, and of a parameter
+-- a document's domain for a key of a field or of elements, and of a parameter
 unfoldable pub fields_given : Setting → FinDoc → List ℕ → Domain
 fields_given setting document key = values_given setting (field_type setting.table) document.fields key
 

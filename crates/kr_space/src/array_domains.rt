@@ -2,7 +2,7 @@
 ghost use Rattle.std.specs.Prelude.{◌≡◌, ◌<◌, ◌^◌, ◌++◌, [], IfOk, List, OnOk, length, map, unwrap_or};
 ghost use Rattle.std.proofs.Common.{get_or};
 ghost use Rattle.kr_classes_table.specs.Arrays.{array_number as number_of_array};
-ghost use Rattle.kr_classes_types.specs.Types.{count, type_at};
+ghost use Rattle.kr_classes_names.specs.Types.{count, type_at};
 ghost use Rattle.kr_space_names.specs.Collected.{AreNumbers, types_shown};
 ghost use Rattle.kr_mean.specs.Problem.{Domain};
 ghost use Rattle.kr_space_layout.specs.Bounds.{class_domain as domain_shown, spotted};
@@ -16,7 +16,7 @@ use crate::elements::greatest_of;
 use crate::keys::joined;
 use crate::places::{field_domain, lengths_domain};
 use kr_base::NoMemory;
-use kr_classes_types::Types;
+use kr_classes_names::Types;
 use kr_fin::{ArrayBound, Listed};
 use kr_space_layout::{ClassDomain, Spotted};
 use kr_space_rules::Bound;

@@ -1,7 +1,7 @@
 // The array types of a problem, by number.
 ghost use Rattle.std.specs.Prelude.{◌≡◌, ◌<◌, All, IfOk, OnOk, flat_map, length, map};
 ghost use Rattle.kr_classes_table.specs.Arrays.{arrays_in};
-ghost use Rattle.kr_classes_types.specs.Types.{Extends};
+ghost use Rattle.kr_classes_names.specs.Types.{Extends};
 ghost use Rattle.kr_space_names.specs.Collected.{AreNumbers, IsClosed, collected, types_shown};
 ghost use Rattle.kr_space_rules.specs.Classes.{AreTyped};
 ghost use Rattle.kr_space_rules.specs.Entries.{IsBound, bound_shown};
@@ -9,7 +9,7 @@ ghost use Rattle.kr_space.specs.Basis.{AreArrays, AreBoundsOn, setting_on};
 
 use crate::basis::Basis;
 use kr_base::NoMemory;
-use kr_classes_types::Types;
+use kr_classes_names::Types;
 use kr_fin::ArrayBound;
 use kr_space_names::{Arrays, add_arrays_in, array_types};
 use kr_space_rules::Bound;
@@ -36,7 +36,7 @@ fn add_bounded(
     Ok(())
 }
 
-/// The array types that the files name, and behind them those that only the document does.
+/// The array types that the files name, followed by those that only the document names.
 #[tactic(auto, using(crate::proofs::Problems::arrays_whole, kr_space_rules::proofs::Bounded::bounds_kept))]
 pub(crate) fn arrays_of(
     alloc: Global,

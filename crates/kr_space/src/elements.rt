@@ -1,5 +1,5 @@
 // Rule S2 of the elements of arrays, and of the parameters of the method under test.
-ghost use Rattle.std.specs.Prelude.{◌≡◌, ◌&&◌, nat_lt, ◌++◌, All, IfOk, OnOk, codes, flat_map, fold, map};
+ghost use Rattle.std.specs.Prelude.{◌≡◌, ◌&&◌, nat_lt, All, OnOk, flat_map, fold, map};
 ghost use Rattle.kr_classes_names.specs.Listed.{IsIndexOf};
 ghost use Rattle.kr_mean.specs.declared.mode.Mode.TheVariants.{Method as Testing};
 ghost use Rattle.kr_space_meaning.specs.Bounds.{greatest, lengths_of, root_of, setting_of, tested_parameters};
@@ -15,12 +15,11 @@ use crate::lengths::greatest_length;
 use crate::undefined::note_absent;
 use kr_ast::tree_of;
 use kr_base::NoMemory;
-use kr_classes_names::Index;
-use kr_classes_types::Types;
+use kr_classes_names::{Index, Types};
 use kr_fin::{ArrayBound, FinDoc, Least};
 use kr_mean::Mode;
 use kr_space_meaning::SpaceRule;
-use kr_space_rules::{Bound, Classes, Parameter, parameters_of};
+use kr_space_rules::{Bound, Classes, Parameter, instance_parameters};
 
 /// The greatest of the lengths of an array type.
 pub(crate) fn greatest_of(classes: &Classes, document: &FinDoc, bound: &ArrayBound) -> u32
@@ -155,7 +154,7 @@ pub(crate) fn note_parameters(
         Mode::List => Ok(()),
         Mode::Method(name) => {
             let method = name.as_str().as_bytes();
-            let parameters = parameters_of(least.alloc(), classes, root, method)?;
+            let parameters = instance_parameters(least.alloc(), classes, root, method)?;
             note_each_parameter(least, classes, params, document, method, &parameters)
         }
     }

@@ -1,10 +1,11 @@
 // Rule S2 as a whole.
 ghost use Rattle.std.specs.Prelude.{◌≡◌, All, OnOk, fold};
-ghost use Rattle.kr_space_meaning.specs.Bounds.{root_of, setting_of};
+ghost use Rattle.kr_space_meaning.specs.Bounds.{setting_of};
 ghost use Rattle.kr_space_meaning.specs.Faults.{S2};
 ghost use Rattle.kr_space_meaning.specs.Limits.{AreLengths};
 ghost use Rattle.kr_space_meaning.specs.Order.{lesser};
 ghost use Rattle.kr_space_rules.specs.Classes.{AreClasses, files_of};
+ghost use Rattle.kr_space_rules.specs.ObjectDomains.{AreDeclared};
 ghost use Rattle.kr_space_rules.specs.Entries.{AreBounds};
 ghost use Rattle.kr_space.specs.Keys.{AreKeys};
 
@@ -13,11 +14,11 @@ use crate::keys::Keys;
 use crate::slots::root_number;
 use crate::undefined::note_undefined;
 use kr_base::NoMemory;
-use kr_classes_types::Types;
+use kr_classes_names::Types;
 use kr_fin::{FinDoc, Least};
 use kr_mean::Mode;
 use kr_space_meaning::SpaceRule;
-use kr_space_rules::{Bound, Classes};
+use kr_space_rules::{Bound, Classes, Declared};
 
 /// S2: each field, element and parameter that has slots has a domain.
 pub(crate) fn note_given(
@@ -27,15 +28,17 @@ pub(crate) fn note_given(
     document: &FinDoc,
     mode: &Mode,
     keys: &Keys,
+    objects: &[Declared],
     bounds: &[Bound],
 ) -> Result<(), NoMemory>
     requires classes { AreClasses classes.now }
     requires keys { AreKeys document.now keys.now }
+    requires objects { AreDeclared document.now.objects objects.now (setting_of (files_of classes.now) document.now).objects }
     requires bounds { AreBounds types.now document.now.arrays bounds.now (setting_of (files_of classes.now) document.now).arrays }
     requires lengths { All (λ b. All AreLengths b.lengths) document.now.arrays }
     ensures { OnOk result (least.new ≡ fold lesser least.old (S2 (setting_of (files_of classes.now) document.now) mode.now)) }
 {
-    note_undefined(least, classes, &keys.objects, &keys.fields, document)?;
+    note_undefined(least, classes, objects, &keys.fields, document)?;
     note_all_elements(least, classes, types, &keys.fields, document, bounds)?;
     let root = root_number(classes, document);
     note_parameters(least, classes, &keys.params, document, mode, root)

@@ -1,12 +1,13 @@
 // All rules: whether a document is one of a program, or the least rule that it breaks.
 ghost use Rattle.std.specs.Prelude.{◌≡◌, ◌++◌, None, IfErr, IfOk, OnOk, fold};
-ghost use Rattle.kr_classes_types.specs.Types.{Extends};
+ghost use Rattle.kr_classes_names.specs.Types.{Extends};
 ghost use Rattle.kr_space_meaning.specs.Bounds.{problem_of, root_of, setting_of};
-ghost use Rattle.kr_space_meaning.specs.Faults.{S4, S7, S8, S9, faults_in};
+ghost use Rattle.kr_space_meaning.specs.Faults.{S4, S7, S8, S9};
 ghost use Rattle.kr_space_meaning.specs.Limits.{IsWithinLimits};
 ghost use Rattle.kr_space_meaning.specs.Meaning.{faults_of};
 ghost use Rattle.kr_space_meaning.specs.Order.{least as least_of, lesser};
 ghost use Rattle.kr_space_rules.specs.Classes.{AreClasses, AreTyped, files_of};
+ghost use Rattle.kr_space_rules.specs.ObjectDomains.{AreDeclared};
 ghost use Rattle.kr_space_rules.specs.Entries.{AreBounds};
 ghost use Rattle.kr_space.specs.Keys.{AreKeys};
 ghost use Rattle.kr_space.specs.Refusals.{Refuses, after_S1};
@@ -16,13 +17,14 @@ use crate::keys::Keys;
 use crate::slots::root_number;
 use crate::whole::note_numbers;
 use kr_base::NoMemory;
-use kr_classes_types::Types;
+use kr_classes_names::Types;
 use kr_fin::{FinDoc, Least};
 use kr_mean::Mode;
 use kr_space_meaning::{SpaceRefusal, SpaceRule};
 use kr_space_names::note_names;
 use kr_space_rules::{
-    Bound, Classes, bounds_of, note_method, note_predicate, note_slots, note_unfit,
+    Bound, Classes, Declared, bounds_of, declared_of, note_method, note_predicate, note_slots,
+    note_unfit,
 };
 use std::alloc::Global;
 
@@ -63,7 +65,7 @@ fn note_types(
     let root = root_number(classes, document);
     let fields = document.fields.as_slice();
     let params = document.params.as_slice();
-    note_unfit(least, classes, types, root, fields, params)?;
+    note_unfit(least, classes, types, document, root)?;
     note_predicate(least, classes, &*types, root)?;
     note_tested(least, classes, document, mode, root)?;
     note_slots(least, classes, types, root, fields, params)
@@ -78,23 +80,27 @@ fn note_after_names(
     document: &FinDoc,
     mode: &Mode,
     keys: &Keys,
+    objects: &[Declared],
     bounds: &[Bound],
 ) -> Result<(), NoMemory>
     requires classes { AreClasses classes.now }
     requires typed { AreTyped classes.now types.old }
     requires limits { IsWithinLimits document.now }
     requires keys { AreKeys document.now keys.now }
+    requires objects { AreDeclared document.now.objects objects.now (setting_of (files_of classes.now) document.now).objects }
     requires bounds { AreBounds types.old document.now.arrays bounds.now (setting_of (files_of classes.now) document.now).arrays }
     ensures noted { OnOk result (least.new ≡ fold lesser least.old (after_S1 (problem_of (files_of classes.now) document.now mode.now) (setting_of (files_of classes.now) document.now) mode.now)) }
     ensures extends { Extends types.old types.new }
 {
-    note_given(least, classes, &*types, document, mode, keys, bounds)?;
-    note_numbers(least, classes, types, document, mode, keys, bounds)?;
+    note_given(
+        least, classes, &*types, document, mode, keys, objects, bounds,
+    )?;
+    note_numbers(least, classes, types, document, mode, objects, bounds)?;
     note_types(least, classes, types, document, mode)
 }
 
 /// Notes all that the document breaks.
-#[tactic(auto, using(crate::proofs::Parts::faults_are, crate::proofs::Parts::arrays_are, kr_space_names::proofs::Growing::node_types_kept))]
+#[tactic(auto, using(crate::proofs::Parts::faults_are, crate::proofs::Parts::arrays_are, crate::proofs::Parts::objects_are, kr_space_names::proofs::Growing::node_types_kept))]
 fn note_faults(
     least: &mut Least<SpaceRule>,
     classes: &Classes,
@@ -113,7 +119,15 @@ fn note_faults(
     note_names(least, types, classes.trees, classes.heads, document)?;
     let keys = Keys::of(alloc, document)?;
     let bounds = bounds_of(alloc, types, classes.trees, classes.heads, arrays)?;
-    note_after_names(least, classes, types, document, mode, &keys, &bounds)
+    let objects = declared_of(
+        alloc,
+        classes.trees,
+        classes.heads,
+        document.objects.as_slice(),
+    )?;
+    note_after_names(
+        least, classes, types, document, mode, &keys, &objects, &bounds,
+    )
 }
 
 /// Whether a document breaks no rule beside a program; else the least of the rules that it breaks, and there the least item

@@ -1,37 +1,21 @@
 // The keys of a document's tables, found by their names.
 ghost use Rattle.std.specs.Prelude.{◌≡◌, ◌++◌, IfOk, is_none, map};
-ghost use Rattle.std.proofs.Common.{get_or};
 ghost use Rattle.kr_classes_names.specs.Listed.{IsIndexOf};
-ghost use Rattle.kr_space_meaning.specs.Bounds.{count_named as count_in, given};
-ghost use Rattle.kr_space.specs.Headings.{no_count};
+ghost use Rattle.kr_space_meaning.specs.Bounds.{given};
 ghost use Rattle.kr_space.specs.Keys.{AreKeys};
 
 use kr_base::NoMemory;
 use kr_classes_names::Index;
-use kr_fin::{Count, FinDoc, NamedDomain};
+use kr_fin::{FinDoc, NamedDomain};
 use std::alloc::Global;
 
-/// Two texts, one behind the other.
+/// Two texts, one after the other.
 pub(crate) fn joined(alloc: Global, first: &[u8], second: &[u8]) -> Result<Vec<u8>, NoMemory>
     ensures { IfOk result (λ text. text.items ≡ first.now ++ second.now) }
 {
     let mut text = Vec::from_slice(alloc, first)?;
     text.extend_from_slice(second)?;
     Ok(text)
-}
-
-/// The names that have objects, by their places.
-pub(crate) fn count_index(alloc: Global, counts: &[Count]) -> Result<Index, NoMemory>
-    ensures { IfOk result (λ index. IsIndexOf (map (λ c. c.name) counts.now) index) }
-{
-    if counts.len() >= 0xffff_ffff {
-        return Err(NoMemory::at_limit(counts.len() as u64));
-    }
-    let mut index = Index::new(alloc);
-    for (at, count) in counts.iter().enumerate() {
-        index.add(alloc, count.name.as_str().as_bytes(), at as u32)?;
-    }
-    Ok(index)
 }
 
 /// The keys of domains, by their places.
@@ -46,28 +30,6 @@ pub(crate) fn domain_index(alloc: Global, domains: &[NamedDomain]) -> Result<Ind
         index.add(alloc, domain.key.as_str().as_bytes(), at as u32)?;
     }
     Ok(index)
-}
-
-/// The count at a place; 0 where there is none.
-fn count_at(counts: &[Count], at: u32) -> u32
-    ensures { result ≡ (get_or counts.now at no_count).count }
-{
-    if (at as usize) < counts.len() {
-        counts[at as usize].count
-    } else {
-        0
-    }
-}
-
-/// How many objects the document gives a name.
-pub(crate) fn count_named(index: &Index, counts: &[Count], name: &[u8]) -> u32
-    requires { IsIndexOf (map (λ c. c.name) counts.now) index.now }
-    ensures { result ≡ count_in counts.now name.now }
-{
-    match index.find(name) {
-        None => 0,
-        Some(at) => count_at(counts, at),
-    }
 }
 
 /// Whether no domain is given for a key.
@@ -85,7 +47,6 @@ pub(crate) fn is_absent(index: &Index, domains: &[NamedDomain], key: &[u8]) -> b
 /// The keys of a document's tables, by their places.
 #[derive(Drop)]
 pub(crate) struct Keys {
-    pub(crate) objects: Index,
     pub(crate) fields: Index,
     pub(crate) params: Index,
 }
@@ -95,13 +56,8 @@ impl Keys {
     pub(crate) fn of(alloc: Global, document: &FinDoc) -> Result<Keys, NoMemory>
         ensures { IfOk result (λ keys. AreKeys document.now keys) }
     {
-        let objects = count_index(alloc, document.objects.as_slice())?;
         let fields = domain_index(alloc, document.fields.as_slice())?;
         let params = domain_index(alloc, document.params.as_slice())?;
-        Ok(Keys {
-            objects,
-            fields,
-            params,
-        })
+        Ok(Keys { fields, params })
     }
 }

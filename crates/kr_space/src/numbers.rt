@@ -1,7 +1,7 @@
 // Rules S3, S5 and S6 of the domains that are given.
 ghost use Rattle.std.specs.Prelude.{◌≡◌, ◌++◌, All, OnOk, fold};
 ghost use Rattle.kr_classes_table.specs.Numbers.{Bits32};
-ghost use Rattle.kr_classes_types.specs.Types.{Extends};
+ghost use Rattle.kr_classes_names.specs.Types.{Extends};
 ghost use Rattle.kr_mean.specs.Problem.{choices_in};
 ghost use Rattle.kr_space_meaning.specs.Bounds.{lengths_of, values_of, values_with};
 ghost use Rattle.kr_space_meaning.specs.Faults.{number_faults, numbers_of, numbers_of_lengths, of_arrays};
@@ -12,7 +12,7 @@ ghost use Rattle.kr_space.specs.Bounded.{IsBounded, problem_in, setting_in};
 
 use crate::bounded::Bounded;
 use kr_base::NoMemory;
-use kr_classes_types::Types;
+use kr_classes_names::Types;
 use kr_fin::{ArrayBound, Item, Least, NamedDomain};
 use kr_space_meaning::SpaceRule;
 use kr_space_names::item_of;
@@ -40,6 +40,7 @@ fn note_values(
         classes.trees,
         classes.heads,
         bounded.document,
+        bounded.objects,
         bounded.bounds,
         width,
         items,
@@ -66,7 +67,7 @@ fn note_domain(
     note_values(least, types, bounded, width, item.as_str(), items)
 }
 
-/// The numbers of the values of a domain, for the type that its key asks for.
+/// The numbers of the values of a domain, for the type that its key requires.
 #[tactic(auto, using(crate::proofs::BoundedKept::bounded_kept))]
 fn note_keyed(
     least: &mut Least<SpaceRule>,

@@ -14,7 +14,7 @@ use kr_ast::tree_of;
 use kr_base::NoMemory;
 use kr_fin::Listed;
 use kr_mean::Mode;
-use kr_space_rules::{Parameter, parameters_of};
+use kr_space_rules::{Parameter, instance_parameters};
 use std::alloc::Global;
 
 /// The key of a parameter of a method.
@@ -67,7 +67,7 @@ pub(crate) fn parameter_domains(
         Mode::List => Ok(Listed::new(alloc)),
         Mode::Method(name) => {
             let method = name.as_str().as_bytes();
-            let parameters = parameters_of(alloc, basis.classes, root, method)?;
+            let parameters = instance_parameters(alloc, basis.classes, root, method)?;
             numbers_of(alloc, basis, method, &parameters)
         }
     }

@@ -1,8 +1,7 @@
 // A program with a document beside it, posed as a problem.
 ghost use Rattle.std.specs.Prelude.{◌≡◌, ◌+◌, ◌^◌, ◌<◌, ◌≤◌, None, IfErr, IfOk, length, map};
 ghost use Rattle.kr_ast.specs.Arena.{root};
-ghost use Rattle.kr_classes_table.specs.Table.{headings_of};
-ghost use Rattle.kr_classes_types.specs.Types.{Extends};
+ghost use Rattle.kr_classes_names.specs.Types.{Extends};
 ghost use Rattle.kr_types.specs.Programs.{IsProgram};
 ghost use Rattle.kr_space_problem.specs.Posed.{IsPosed, posed};
 ghost use Rattle.kr_mean.specs.Problem.{slots};
@@ -12,6 +11,7 @@ ghost use Rattle.kr_space_meaning.specs.Limits.{IsWithinLimits};
 ghost use Rattle.kr_space_meaning.specs.Meaning.{faults_of};
 ghost use Rattle.kr_space_meaning.specs.Order.{least as least_of};
 ghost use Rattle.kr_space_rules.specs.Classes.{AreClasses, AreTyped, files_of};
+ghost use Rattle.kr_space_rules.specs.ObjectDomains.{AreDeclared};
 ghost use Rattle.kr_space_rules.specs.Entries.{AreBounds};
 ghost use Rattle.kr_space.specs.Basis.{AreArrays, AreBoundsOn, HasFewDomains, IsBasis, bounds_on, setting_on};
 ghost use Rattle.kr_space.specs.Keys.{AreKeys};
@@ -22,45 +22,33 @@ use crate::basis::Basis;
 use crate::judge_space;
 use crate::keys::Keys;
 use crate::layout::layout_of;
+use crate::sizes::have_numbers;
 use kr_base::NoMemory;
 use kr_classes::ClassTable;
-use kr_classes_types::Types;
+use kr_classes_names::Types;
 use kr_fin::FinDoc;
 use kr_mean::Mode;
 use kr_space_layout::Layout;
 use kr_space_meaning::SpaceRefusal;
 use kr_space_problem::Problem;
-use kr_space_rules::{Bound, Classes, bounds_of};
+use kr_space_rules::{Bound, Classes, Declared, bounds_of, declared_of};
 use kr_types::Program;
 use std::alloc::Global;
 
-/// Asks that a sum has 32 bits.
-fn have_numbers(first: usize, second: usize) -> Result<(), NoMemory>
-    ensures { IfOk result (λ none. first + second < 2 ^ 32) }
-{
-    let sum = first.saturating_add(second);
-    if sum < 0x1_0000_0000 {
-        Ok(())
-    } else {
-        Err(NoMemory::at_limit(sum as u64))
-    }
-}
-
-/// Asks that class domains and given domains have numbers of 32 bits.
-fn ask_numbers(classes: &Classes, document: &FinDoc, bounds: &[Bound]) -> Result<(), NoMemory>
-    requires { AreClasses classes.now }
-    ensures classes { IfOk result (λ none. length (headings_of (files_of classes.now)) + length bounds.now < 2 ^ 32) }
+/// Asks that object domains and given domains have numbers of 32 bits.
+fn ask_numbers(document: &FinDoc, objects: &[Declared], bounds: &[Bound]) -> Result<(), NoMemory>
+    ensures objects { IfOk result (λ none. length objects.now + length bounds.now < 2 ^ 32) }
     ensures domains { IfOk result (λ none. HasFewDomains document.now) }
 {
     let fields = document.fields.as_slice().len();
     let params = document.params.as_slice().len();
     let arrays = document.arrays.as_slice().len();
-    have_numbers(classes.heads.len(), bounds.len())?;
+    have_numbers(objects.len(), bounds.len())?;
     have_numbers(params, arrays)?;
     have_numbers(fields, params + arrays)
 }
 
-/// What a document gives a program to be a problem.
+/// The parts of a problem that a document gives to a program.
 #[derive(Drop)]
 struct Laid {
     arrays: Vec<u32>,
@@ -83,7 +71,7 @@ fn laid_on(alloc: Global, types: &mut Types, basis: &Basis, mode: Mode) -> Resul
     Ok(Laid { arrays, layout })
 }
 
-/// The same of classes and a document, by the keys of its tables and the array types that it bounds.
+/// Likewise of classes and a document, by the keys of its tables and the array types that it bounds.
 fn laid_by(
     alloc: Global,
     classes: &Classes,
@@ -91,6 +79,7 @@ fn laid_by(
     document: &FinDoc,
     mode: Mode,
     keys: &Keys,
+    objects: &[Declared],
     bounds: &[Bound],
 ) -> Result<Laid, NoMemory>
     requires few { length classes.now.trees.now < 65 }
@@ -98,23 +87,25 @@ fn laid_by(
     requires typed { AreTyped classes.now types.old }
     requires limits { IsWithinLimits document.now }
     requires keys { AreKeys document.now keys.now }
+    requires objects { AreDeclared document.now.objects objects.now (setting_of (files_of classes.now) document.now).objects }
     requires bounds { AreBounds types.old document.now.arrays bounds.now (setting_of (files_of classes.now) document.now).arrays }
     ensures arrays { IfOk result (λ laid. AreArrays types.new (setting_of (files_of classes.now) document.now) laid.arrays.items) }
     ensures layout { IfOk result (λ laid. laid.layout ≡ bounds_on (setting_of (files_of classes.now) document.now) mode) }
     ensures extends { Extends types.old types.new }
 {
-    ask_numbers(classes, document, bounds)?;
+    ask_numbers(document, objects, bounds)?;
     let basis = Basis {
         classes,
         document,
         keys,
+        objects,
         bounds,
     };
     laid_on(alloc, types, &basis, mode)
 }
 
 /// The array types and the layout of a document's problem.
-#[tactic(auto, using(crate::proofs::Parts::arrays_are, kr_space_names::proofs::Growing::node_types_kept))]
+#[tactic(auto, using(crate::proofs::Parts::arrays_are, crate::proofs::Parts::objects_are, kr_space_names::proofs::Growing::node_types_kept))]
 fn lay(
     alloc: Global,
     classes: &Classes,
@@ -133,11 +124,15 @@ fn lay(
     let keys = Keys::of(alloc, document)?;
     let named = document.arrays.as_slice();
     let bounds = bounds_of(alloc, types, classes.trees, classes.heads, named)?;
-    laid_by(alloc, classes, types, document, mode, &keys, &bounds)
+    let declared = document.objects.as_slice();
+    let objects = declared_of(alloc, classes.trees, classes.heads, declared)?;
+    laid_by(
+        alloc, classes, types, document, mode, &keys, &objects, &bounds,
+    )
 }
 
-/// What a document gives a program to be a problem; or the least of the rules that it breaks, and there the least item in
-/// the order of bytes.
+/// The parts of a problem that a document gives to a program; or the least of the rules that it breaks, and there the least
+/// item in the order of bytes.
 #[tactic(auto, using(kr_space_names::proofs::Growing::node_types_kept))]
 fn judge_and_lay(
     alloc: Global,

@@ -1,40 +1,30 @@
-// How many objects each class domain has, and which numbers they have in the heap.
-ghost use Rattle.std.specs.Prelude.{◌≡◌, ◌+◌, ◌++◌, All, IfOk, OnOk, map};
-ghost use Rattle.kr_classes_table.specs.Table.{headings_of};
-ghost use Rattle.kr_classes_names.specs.Listed.{IsIndexOf};
+// How many objects each object domain has, and which numbers they have in the heap.
+ghost use Rattle.std.specs.Prelude.{◌≡◌, ◌+◌, ◌^◌, ◌<◌, ◌++◌, All, IfOk, OnOk, map};
 ghost use Rattle.kr_space_layout.specs.Stretches.{IsNumbered};
 ghost use Rattle.kr_space_layout.specs.Tables.{blocks_from};
-ghost use Rattle.kr_space_meaning.specs.Bounds.{setting_of};
-ghost use Rattle.kr_space_rules.specs.Classes.{AreClasses, files_of};
+ghost use Rattle.kr_space_rules.specs.ObjectDomains.{IsDeclared, declared_shown};
 ghost use Rattle.kr_space_rules.specs.Entries.{IsBound, bound_shown};
-ghost use Rattle.kr_space.specs.Sizes.{bare_class, class_counts};
+ghost use Rattle.kr_space.specs.Sizes.{bare_class, object_counts};
 
-use crate::keys::count_named;
-use crate::undefined::class_name;
 use kr_base::NoMemory;
-use kr_classes_names::Index;
-use kr_classes_types::Types;
+use kr_classes_names::Types;
 use kr_fin::FinDoc;
-use kr_space_layout::Block;
-use kr_space_rules::{Bound, Classes};
+use kr_space_layout::{Block, further};
+use kr_space_rules::{Bound, Declared};
 use std::alloc::Global;
 
-/// Adds how many objects each class has.
-#[tactic(auto, using(crate::proofs::Counts::counts_more), unfolding(kr_space_meaning::specs::Bounds::setting_of))]
-fn add_classes(
+/// Adds how many objects each object domain has.
+fn add_objects(
     counts: &mut Vec<u32>,
-    classes: &Classes,
-    objects: &Index,
     document: &FinDoc,
+    objects: &[Declared],
 ) -> Result<(), NoMemory>
-    requires classes { AreClasses classes.now }
-    requires objects { IsIndexOf (map (λ c. c.name) document.now.objects) objects.now }
-    ensures { OnOk result (counts.new.items ≡ counts.old.items ++ class_counts (setting_of (files_of classes.now) document.now) (headings_of (files_of classes.now))) }
+    requires { All (IsDeclared document.now.objects) objects.now }
+    ensures { OnOk result (counts.new.items ≡ counts.old.items ++ object_counts (map (declared_shown document.now.objects) objects.now)) }
 {
-    let number = classes.heads.len() as u32;
-    for class in 0..number {
-        let name = class_name(classes, class);
-        counts.push(count_named(objects, document.objects.as_slice(), name))?;
+    let all = document.objects.as_slice();
+    for object in objects {
+        counts.push(all[object.at as usize].count)?;
     }
     Ok(())
 }
@@ -57,37 +47,37 @@ fn add_arrays(
     Ok(())
 }
 
-/// How many objects each class domain has.
+/// How many objects each object domain and each array type has.
 pub(crate) fn counts_of(
     alloc: Global,
-    classes: &Classes,
     types: &Types,
-    objects: &Index,
     document: &FinDoc,
+    objects: &[Declared],
     bounds: &[Bound],
 ) -> Result<Vec<u32>, NoMemory>
-    requires classes { AreClasses classes.now }
-    requires objects { IsIndexOf (map (λ c. c.name) document.now.objects) objects.now }
+    requires objects { All (IsDeclared document.now.objects) objects.now }
     requires bounds { All (IsBound types.now document.now.arrays) bounds.now }
-    ensures { IfOk result (λ counts. counts.items ≡ class_counts (setting_of (files_of classes.now) document.now) (headings_of (files_of classes.now)) ++ map (λ a. a.1.count) (map (bound_shown types.now document.now.arrays) bounds.now)) }
+    ensures { IfOk result (λ counts. counts.items ≡ object_counts (map (declared_shown document.now.objects) objects.now) ++ map (λ a. a.1.count) (map (bound_shown types.now document.now.arrays) bounds.now)) }
 {
     let mut counts = Vec::new(alloc);
-    add_classes(&mut counts, classes, objects, document)?;
+    add_objects(&mut counts, document, objects)?;
     add_arrays(&mut counts, types, document, bounds)?;
     Ok(counts)
 }
 
-/// The number so many further on, where there is one.
-fn further(number: u32, count: u32) -> Result<u32, NoMemory>
-    ensures { IfOk result (λ next. next ≡ number + count) }
+/// Asks that a sum has 32 bits.
+pub(crate) fn have_numbers(first: usize, second: usize) -> Result<(), NoMemory>
+    ensures { IfOk result (λ none. first + second < 2 ^ 32) }
 {
-    match number.checked_add(count) {
-        Some(next) => Ok(next),
-        None => Err(NoMemory::at_limit(u64::from(number) + u64::from(count))),
+    let sum = first.saturating_add(second);
+    if sum < 0x1_0000_0000 {
+        Ok(())
+    } else {
+        Err(NoMemory::at_limit(sum as u64))
     }
 }
 
-/// The objects of class domains of so many objects, numbered one after another.
+/// The objects of domains of so many objects, numbered one after another.
 pub(crate) fn blocks_of(alloc: Global, counts: &[u32]) -> Result<Vec<Block>, NoMemory>
     ensures are { IfOk result (λ blocks. blocks.items ≡ blocks_from 0 0 (map bare_class counts.now)) }
     ensures numbered { IfOk result (λ blocks. All IsNumbered blocks.items) }

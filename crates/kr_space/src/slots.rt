@@ -1,22 +1,20 @@
 // How many slots there are, as far as the number goes.
 ghost use Rattle.std.specs.Prelude.{◌≡◌, ◌+◌, ◌*◌, ◌-◌, ◌^◌, All, IfOk, length, map, min};
-ghost use Rattle.kr_classes_table.specs.Table.{fields_of, headings_of};
-ghost use Rattle.kr_classes_names.specs.Listed.{IsIndexOf};
-ghost use Rattle.kr_space_meaning.specs.Bounds.{class_name as class_name_in, count_named as count_in, greatest, lengths_of, root_of, setting_of, tested_parameters};
+ghost use Rattle.kr_classes_table.specs.Table.{fields_of};
+ghost use Rattle.kr_space_meaning.specs.Bounds.{greatest, lengths_of, root_of, setting_of, tested_parameters};
 ghost use Rattle.kr_space_meaning.specs.Limits.{AreLengths};
 ghost use Rattle.kr_space_rules.specs.Classes.{AreClasses, files_of, table_of};
+ghost use Rattle.kr_space_rules.specs.ObjectDomains.{IsDeclared, declared_shown};
 ghost use Rattle.kr_space_rules.specs.Entries.{IsBound, bound_shown};
-ghost use Rattle.kr_space.specs.Slots.{slots_of_arrays, slots_of_classes};
+ghost use Rattle.kr_space.specs.Slots.{slots_of_arrays, slots_of_objects};
 
 use crate::elements::greatest_of;
-use crate::keys::count_named;
-use crate::undefined::class_name;
 use kr_base::NoMemory;
-use kr_classes_names::Index;
-use kr_classes_types::Types;
+use kr_classes_names::Types;
 use kr_fin::FinDoc;
 use kr_mean::Mode;
-use kr_space_rules::{Bound, Classes, parameters_of};
+use kr_space_names::class_of;
+use kr_space_rules::{Bound, Classes, Declared, instance_parameters};
 use std::alloc::Global;
 
 /// How many instance fields each object of a class has.
@@ -28,43 +26,36 @@ fn field_count(alloc: Global, classes: &Classes, class: u32) -> Result<u64, NoMe
     Ok(own.len() as u64)
 }
 
-/// How many slots the objects of a class have.
-#[tactic(auto, using(crate::proofs::SlotCounts::slots_none))]
-fn class_slots(
+/// How many slots the objects of a domain have.
+fn object_slots(
     alloc: Global,
     classes: &Classes,
-    objects: &Index,
     document: &FinDoc,
-    class: u32,
+    object: Declared,
 ) -> Result<u64, NoMemory>
     requires classes { AreClasses classes.now }
-    requires objects { IsIndexOf (map (λ c. c.name) document.now.objects) objects.now }
-    ensures { IfOk result (λ slots. slots ≡ min (count_in document.now.objects (class_name_in (table_of classes.now) class) * length (fields_of (table_of classes.now) class)) (2 ^ 64 - 1)) }
+    requires object { IsDeclared document.now.objects object }
+    ensures { IfOk result (λ slots. slots ≡ min ((declared_shown document.now.objects object).1.count * length (fields_of (table_of classes.now) (declared_shown document.now.objects object).0)) (2 ^ 64 - 1)) }
 {
-    let name = class_name(classes, class);
-    let count = count_named(objects, document.objects.as_slice(), name);
-    if count == 0 {
-        return Ok(0);
-    }
-    let fields = field_count(alloc, classes, class)?;
-    Ok(u64::from(count).saturating_mul(fields))
+    let fields = field_count(alloc, classes, object.class)?;
+    let line = &document.objects.as_slice()[object.at as usize];
+    Ok(u64::from(line.count).saturating_mul(fields))
 }
 
-/// How many slots the objects of all classes have.
-fn all_class_slots(
+/// How many slots the objects of all domains have.
+fn all_object_slots(
     alloc: Global,
     classes: &Classes,
-    objects: &Index,
     document: &FinDoc,
+    objects: &[Declared],
 ) -> Result<u64, NoMemory>
     requires classes { AreClasses classes.now }
-    requires objects { IsIndexOf (map (λ c. c.name) document.now.objects) objects.now }
-    ensures { IfOk result (λ slots. slots ≡ min (slots_of_classes (setting_of (files_of classes.now) document.now) 0 (headings_of (files_of classes.now))) (2 ^ 64 - 1)) }
+    requires objects { All (IsDeclared document.now.objects) objects.now }
+    ensures { IfOk result (λ slots. slots ≡ min (slots_of_objects (setting_of (files_of classes.now) document.now) (map (declared_shown document.now.objects) objects.now)) (2 ^ 64 - 1)) }
 {
     let mut total: u64 = 0;
-    let number = classes.heads.len() as u32;
-    for class in 0..number {
-        let own = class_slots(alloc, classes, objects, document, class)?;
+    for object in objects {
+        let own = object_slots(alloc, classes, document, *object)?;
         total = total.saturating_add(own);
     }
     Ok(total)
@@ -112,7 +103,7 @@ fn parameter_count(
     match mode {
         Mode::List => Ok(0),
         Mode::Method(name) => {
-            let parameters = parameters_of(alloc, classes, root, name.as_str().as_bytes())?;
+            let parameters = instance_parameters(alloc, classes, root, name.as_str().as_bytes())?;
             Ok(parameters.len() as u64)
         }
     }
@@ -123,34 +114,34 @@ pub(crate) fn slot_count(
     alloc: Global,
     classes: &Classes,
     types: &Types,
-    objects: &Index,
     document: &FinDoc,
     mode: &Mode,
+    objects: &[Declared],
     bounds: &[Bound],
 ) -> Result<u64, NoMemory>
     requires classes { AreClasses classes.now }
-    requires objects { IsIndexOf (map (λ c. c.name) document.now.objects) objects.now }
+    requires objects { All (IsDeclared document.now.objects) objects.now }
     requires bounds { All (IsBound types.now document.now.arrays) bounds.now }
     requires lengths { All (λ b. All AreLengths b.lengths) document.now.arrays }
-    ensures { IfOk result (λ n. n ≡ min (length (tested_parameters (setting_of (files_of classes.now) document.now) mode.now) + (slots_of_classes (setting_of (files_of classes.now) document.now) 0 (headings_of (files_of classes.now)) + slots_of_arrays (setting_of (files_of classes.now) document.now) (map (bound_shown types.now document.now.arrays) bounds.now)) + 1) (2 ^ 64 - 1)) }
+    ensures { IfOk result (λ n. n ≡ min (length (tested_parameters (setting_of (files_of classes.now) document.now) mode.now) + (slots_of_objects (setting_of (files_of classes.now) document.now) (map (declared_shown document.now.objects) objects.now) + slots_of_arrays (setting_of (files_of classes.now) document.now) (map (bound_shown types.now document.now.arrays) bounds.now)) + 1) (2 ^ 64 - 1)) }
 {
     let root = root_number(classes, document);
     let parameters = parameter_count(alloc, classes, document, mode, root)?;
-    let of_classes = all_class_slots(alloc, classes, objects, document)?;
+    let of_objects = all_object_slots(alloc, classes, document, objects)?;
     let of_arrays = all_array_slots(classes, types, document, bounds);
     Ok(
         parameters
-            .saturating_add(of_classes)
+            .saturating_add(of_objects)
             .saturating_add(of_arrays)
             .saturating_add(1),
     )
 }
 
-/// The class that is the root, if it is one.
+/// The class of the root, if it has one.
 #[tactic(auto, unfolding(kr_space_meaning::specs::Bounds::setting_of, kr_classes_table::specs::Table::table_of))]
 pub(crate) fn root_number(classes: &Classes, document: &FinDoc) -> Option<u32>
     requires { AreClasses classes.now }
     ensures { result ≡ root_of (setting_of (files_of classes.now) document.now) }
 {
-    classes.heads.number_of(document.root.as_str().as_bytes())
+    class_of(classes.heads, document, document.root.as_str().as_bytes())
 }

@@ -1,23 +1,21 @@
 // Rule S2: each field, element and parameter that has slots has a domain.
-ghost use Rattle.std.specs.Prelude.{◌≡◌, ◌<◌, ◌++◌, All, IfOk, OnOk, codes, flat_map, fold, length, map};
-ghost use Rattle.kr_ast.specs.Arena.{Arena};
-ghost use Rattle.kr_classes_table.specs.Table.{headings_of};
+ghost use Rattle.std.specs.Prelude.{◌≡◌, All, IfOk, OnOk, codes, flat_map, fold, map};
 ghost use Rattle.kr_classes_names.specs.Listed.{IsIndexOf};
 ghost use Rattle.kr_classes_members.specs.Shown.{IsField, field_shown};
 ghost use Rattle.kr_space_meaning.specs.Bounds.{class_name as class_name_in, field_key as key_of_field, setting_of};
-ghost use Rattle.kr_space_meaning.specs.Faults.{class_S2, classes_S2, no_domain};
+ghost use Rattle.kr_space_meaning.specs.Faults.{no_domain, object_S2};
 ghost use Rattle.kr_space_meaning.specs.Order.{lesser};
+ghost use Rattle.kr_space_rules.specs.ObjectDomains.{declared_shown};
 ghost use Rattle.kr_space_rules.specs.Classes.{AreClasses, files_of, table_of};
-ghost use Rattle.kr_space.specs.Headings.{heading_at};
 
-use crate::keys::{count_named, is_absent, joined};
+use crate::keys::{is_absent, joined};
 use kr_ast::tree_of;
 use kr_base::NoMemory;
 use kr_classes_members::Field;
 use kr_classes_names::Index;
 use kr_fin::{FinDoc, Least, NamedDomain};
 use kr_space_meaning::SpaceRule;
-use kr_space_rules::Classes;
+use kr_space_rules::{Classes, Declared};
 use std::alloc::Global;
 
 /// Notes a key that no domain is given for.
@@ -82,46 +80,37 @@ fn note_fields(
     Ok(())
 }
 
-/// The fields of a class that has objects have domains.
-#[tactic(auto, using(crate::proofs::ClassFaults::class_none, crate::proofs::ClassFaults::class_some))]
-fn note_class(
+/// The fields of the objects of a domain have domains.
+#[tactic(auto, unfolding(kr_space_meaning::specs::Bounds::setting_of))]
+fn note_object(
     least: &mut Least<SpaceRule>,
     classes: &Classes,
-    objects: &Index,
     fields: &Index,
     document: &FinDoc,
-    class: u32,
+    object: Declared,
 ) -> Result<(), NoMemory>
     requires classes { AreClasses classes.now }
-    requires objects { IsIndexOf (map (λ c. c.name) document.now.objects) objects.now }
     requires fields { IsIndexOf (map (λ d. d.key) document.now.fields) fields.now }
-    requires class { class < length (headings_of (files_of classes.now)) }
-    ensures { OnOk result (least.new ≡ fold lesser least.old (class_S2 (setting_of (files_of classes.now) document.now) class (heading_at (headings_of (files_of classes.now)) class))) }
+    ensures { OnOk result (least.new ≡ fold lesser least.old (object_S2 (setting_of (files_of classes.now) document.now) (declared_shown document.now.objects object))) }
 {
-    let name = class_name(classes, class);
-    if count_named(objects, document.objects.as_slice(), name) == 0 {
-        return Ok(());
-    }
-    let own = classes.members.fields_of(least.alloc(), class)?;
+    let own = classes.members.fields_of(least.alloc(), object.class)?;
     note_fields(least, classes, fields, document.fields.as_slice(), &own)
 }
 
-/// The fields of classes that have objects have domains.
+/// The fields of the objects that are declared have domains.
 pub(crate) fn note_undefined(
     least: &mut Least<SpaceRule>,
     classes: &Classes,
-    objects: &Index,
+    objects: &[Declared],
     fields: &Index,
     document: &FinDoc,
 ) -> Result<(), NoMemory>
     requires classes { AreClasses classes.now }
-    requires objects { IsIndexOf (map (λ c. c.name) document.now.objects) objects.now }
     requires fields { IsIndexOf (map (λ d. d.key) document.now.fields) fields.now }
-    ensures { OnOk result (least.new ≡ fold lesser least.old (classes_S2 (setting_of (files_of classes.now) document.now) 0 (headings_of (files_of classes.now)))) }
+    ensures { OnOk result (least.new ≡ fold lesser least.old (flat_map (object_S2 (setting_of (files_of classes.now) document.now)) (map (declared_shown document.now.objects) objects.now))) }
 {
-    let count = classes.heads.len() as u32;
-    for class in 0..count {
-        note_class(least, classes, objects, fields, document, class)?;
+    for object in objects {
+        note_object(least, classes, fields, document, *object)?;
     }
     Ok(())
 }

@@ -1,38 +1,38 @@
 // Rules S3, S5 and S6 as a whole.
-ghost use Rattle.std.specs.Prelude.{◌≡◌, ◌==◌, All, OnOk, fold, length, nat_lt, unwrap_or};
+ghost use Rattle.std.specs.Prelude.{◌≡◌, ◌==◌, ◌+◌, ◌^◌, ◌<◌, OnOk, fold, length, nat_lt};
 ghost use Rattle.std.proofs.Common.{get_or};
-ghost use Rattle.kr_classes_types.specs.Types.{Extends};
+ghost use Rattle.kr_classes_names.specs.Types.{Extends};
 ghost use Rattle.kr_mean.specs.Problem.{domain_at, slots};
-ghost use Rattle.kr_space_meaning.specs.Bounds.{problem_of, setting_of};
+ghost use Rattle.kr_space_meaning.specs.Bounds.{problem_of, root_domain as domain_of_root, setting_of};
 ghost use Rattle.kr_space_meaning.specs.Faults.{S3_S5_S6};
 ghost use Rattle.kr_space_meaning.specs.Limits.{IsWithinLimits};
 ghost use Rattle.kr_space_meaning.specs.Order.{lesser};
 ghost use Rattle.kr_space_rules.specs.Classes.{AreClasses, AreTyped, files_of};
+ghost use Rattle.kr_space_rules.specs.ObjectDomains.{AreDeclared};
 ghost use Rattle.kr_space_rules.specs.Entries.{AreBounds};
 ghost use Rattle.kr_space.specs.Bounded.{IsBounded, problem_in, setting_in};
-ghost use Rattle.kr_space.specs.Keys.{AreKeys};
 
 use crate::bounded::Bounded;
-use crate::keys::Keys;
 use crate::numbers::{note_all_lengths, note_domains};
-use crate::sizes::{blocks_of, counts_of};
-use crate::slots::{root_number, slot_count};
+use crate::root::root_domain;
+use crate::sizes::{blocks_of, counts_of, have_numbers};
+use crate::slots::slot_count;
 use kr_base::NoMemory;
-use kr_classes_types::Types;
+use kr_classes_names::Types;
 use kr_fin::{FinDoc, Least};
 use kr_mean::Mode;
 use kr_space_meaning::SpaceRule;
-use kr_space_rules::{Bound, Classes, Keyed, note_if};
+use kr_space_rules::{Bound, Classes, Declared, Keyed, note_if};
 
-/// The count of a root's class domain; 0 where there is none.
-fn count_of_root(counts: &[u32], root: Option<u32>) -> u32
-    ensures { result ≡ get_or counts.now (unwrap_or root 0) 0 }
+/// The count of the domain of a number; 0 where there is none.
+fn count_at(counts: &[u32], at: u32) -> u32
+    ensures { result ≡ get_or counts.now at 0 }
 {
-    let at = match root {
-        None => 0,
-        Some(class) => class as usize,
-    };
-    if at < counts.len() { counts[at] } else { 0 }
+    if (at as usize) < counts.len() {
+        counts[at as usize]
+    } else {
+        0
+    }
 }
 
 #[tactic(auto, using(crate::proofs::Parts::numbers_are, crate::proofs::BoundedKept::bounded_kept), unfolding(kr_space_meaning::specs::Bounds::setting_of))]
@@ -61,40 +61,64 @@ fn note_numbers_of(
     note_if(least, has_many, SpaceRule::TooMany, "slots")
 }
 
-/// S3, S5 and S6: each domain that is given has a value, none twice, and at most 65,536; the root has objects; and there
-/// are at most 4,096 slots.
-pub(crate) fn note_numbers(
+/// S3, S5 and S6 where the root has the domain of this number.
+fn note_numbers_at(
     least: &mut Least<SpaceRule>,
     classes: &Classes,
     types: &mut Types,
     document: &FinDoc,
     mode: &Mode,
-    keys: &Keys,
+    objects: &[Declared],
     bounds: &[Bound],
+    root: u32,
 ) -> Result<(), NoMemory>
     requires classes { AreClasses classes.now }
     requires typed { AreTyped classes.now types.old }
-    requires keys { AreKeys document.now keys.now }
+    requires few { length objects.now + length bounds.now < 2 ^ 32 }
+    requires root { root ≡ domain_of_root (setting_of (files_of classes.now) document.now) }
+    requires objects { AreDeclared document.now.objects objects.now (setting_of (files_of classes.now) document.now).objects }
     requires bounds { AreBounds types.old document.now.arrays bounds.now (setting_of (files_of classes.now) document.now).arrays }
     requires limits { IsWithinLimits document.now }
     ensures noted { OnOk result (least.new ≡ fold lesser least.old (S3_S5_S6 (problem_of (files_of classes.now) document.now mode.now) (setting_of (files_of classes.now) document.now))) }
     ensures extends { Extends types.old types.new }
 {
     let alloc = least.alloc();
-    let objects = &keys.objects;
-    let slots = slot_count(alloc, classes, &*types, objects, document, mode, bounds)?;
-    let counts = counts_of(alloc, classes, &*types, objects, document, bounds)?;
-    if counts.len() >= 0xffff_ffff {
-        return Err(NoMemory::at_limit(counts.len() as u64));
-    }
+    let slots = slot_count(alloc, classes, &*types, document, mode, objects, bounds)?;
+    let counts = counts_of(alloc, &*types, document, objects, bounds)?;
     let blocks = blocks_of(alloc, &counts)?;
-    let objects_of_root = count_of_root(&counts, root_number(classes, document));
+    let objects_of_root = count_at(&counts, root);
     let bounded = Bounded {
         classes,
         document,
         mode,
+        objects,
         bounds,
         blocks: &blocks,
     };
     note_numbers_of(least, types, &bounded, objects_of_root == 0, slots > 4_096)
+}
+
+/// S3, S5 and S6: each domain that is given has a value, none twice, and at most 65,536; the root has objects; and there
+/// are at most 4,096 slots.
+#[tactic(auto, using(kr_space_names::proofs::Growing::node_types_kept, kr_space_rules::proofs::Bounded::bounds_kept))]
+pub(crate) fn note_numbers(
+    least: &mut Least<SpaceRule>,
+    classes: &Classes,
+    types: &mut Types,
+    document: &FinDoc,
+    mode: &Mode,
+    objects: &[Declared],
+    bounds: &[Bound],
+) -> Result<(), NoMemory>
+    requires classes { AreClasses classes.now }
+    requires typed { AreTyped classes.now types.old }
+    requires objects { AreDeclared document.now.objects objects.now (setting_of (files_of classes.now) document.now).objects }
+    requires bounds { AreBounds types.old document.now.arrays bounds.now (setting_of (files_of classes.now) document.now).arrays }
+    requires limits { IsWithinLimits document.now }
+    ensures noted { OnOk result (least.new ≡ fold lesser least.old (S3_S5_S6 (problem_of (files_of classes.now) document.now mode.now) (setting_of (files_of classes.now) document.now))) }
+    ensures extends { Extends types.old types.new }
+{
+    have_numbers(objects.len(), bounds.len())?;
+    let root = root_domain(least.alloc(), types, classes, document, objects, bounds)?;
+    note_numbers_at(least, classes, types, document, mode, objects, bounds, root)
 }

@@ -21,7 +21,7 @@ use Rattle.kr_space_layout.proofs.Both.{ap2}
 
 -- ---- blocks
 
--- what stands at a class domain's number
+-- the class domain of a number
 pub record IsBlock (d first : ℕ) (ds : List problems.ClassDomain) (i : ℕ) (b : Block) : Type 0 where
   pub domain : b.domain ≡ d + i
   pub count : b.count ≡ (get_or ds i no_objects).count
@@ -84,7 +84,7 @@ module _ (problem : Problem) (domains : List Domain) (classes : List ClassDomain
   choices_are [] = refl
   choices_are (i ∷ is) = flat_map-append (item_choices problem) (entries.meant i) (entries.domain_of is) ∙ ap2 (λ (x : List Choice) (y : List Choice). x ++ y) (item_is i) (choices_are is)
 
--- the domain that stretches say is the one of their entries
+-- the domain of stretches is the one of their entries
 meant_is : (classes : List ClassDomain) (item : DomainEntry) → meant (stretch_of (blocks_from 0 0 classes) item) ≡ entries.meant item
 meant_is classes (Plain v) = refl
 meant_is classes (Integers from to) = refl

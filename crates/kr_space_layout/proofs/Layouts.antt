@@ -1,4 +1,4 @@
--- What the tables of a layout say of the problem's slots.
+-- The tables of a layout are right about the problem's slots.
 use Rattle.std.proofs.Common.{◌≡◌, ℕ, zero, suc, ◌<◌, List, [], ◌∷◌, length, get_or, Option, Some, None, refl, sym, ap, ◌∙◌, arith, subst}
 use Rattle.std.specs.Prelude.{map}
 use Rattle.std.proofs.lemmas.List.{get_or-map, length-map}
@@ -65,7 +65,7 @@ module _ (root : ℕ) (mode : Mode) (fuel : ℕ) (parameters : List ℕ) (classe
           at (i ∷ is) zero = sym (choices_are problem domains classes refl i) ∙ ap (choices_in problem) (sym (domain_is classes i))
           at (i ∷ is) (suc d) = at is d
 
--- ---- what is known of a layout, beside its bounds
+-- ---- a layout, beside its bounds
 
 pub record Known (i : Inside) (b : Bounds) : Type 0 where
   pub count : i.count ≡ length (slots (bare b))

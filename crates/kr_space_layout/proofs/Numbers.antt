@@ -18,13 +18,13 @@ next_domain (suc d) (c ∷ cs) h = let r = next_domain d cs (omega (arith, h)) i
 pub before_more : (d : ℕ) (ds : List ClassDomain) → d < length ds → objects_before (d + 1) ds ≡ objects_before d ds + (get_or ds d no_objects).count
 before_more d ds h = let n : d + 1 ≡ suc d = omega arith in ap (λ (n : ℕ). objects_before n ds) n ∙ next_domain d ds h
 
--- an object is before all that are behind the class domains
+-- an object is numbered before all those after the class domains
 pub before_all : (d k : ℕ) (ds : List ClassDomain) → d < length ds → k < (get_or ds d no_objects).count → objects_before d ds + k < objects_before (length ds) ds
 before_all d k [] h b = absurd (omega (arith, h))
 before_all zero k (c ∷ cs) h b = omega (arith, b)
 before_all (suc d) k (c ∷ cs) h b = let r = before_all d k cs (omega (arith, h)) b in omega (arith, r)
 
--- what stands in the table of class domains
+-- the entries of the table of class domains
 pub record AtBlock (b : Bounds) (blocks : List Block) (d : ℕ) (x : Block) : Type 0 where
   pub inside : d < length b.domains
   pub domain : (get_or blocks d x).domain ≡ d

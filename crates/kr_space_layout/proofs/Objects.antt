@@ -1,4 +1,4 @@
--- What a layout knows of its class domains and their objects.
+-- A layout's class domains and their objects.
 use Rattle.std.proofs.Common.{◌≡◌, ℕ, suc, ◌+◌, ◌*◌, ◌^◌, ◌<◌, ◌≤◌, List, [], length, get_or, sym, ap, ◌∙◌, arith, subst, zero-add}
 use Rattle.std.specs.Prelude.{map}
 use Rattle.std.proofs.lemmas.List.{get_or-map, get_or_default, length-append, length-map}

@@ -1,4 +1,4 @@
--- Which value stands at an index of some pieces.
+-- The value at an index of some pieces.
 use Rattle.std.proofs.Common.{◌≡◌, ℕ, zero, suc, ◌+◌, ◌-◌, ◌<◌, ◌≤◌, List, [], ◌∷◌, ◌++◌, length, get_or, refl, sym, ap, ◌∙◌, arith, subst, append_assoc, append-nil}
 use Rattle.std.specs.Prelude.{ℤ, pos, ◌+ℤ◌, All}
 use Rattle.std.proofs.lemmas.Int.{ints}
@@ -98,7 +98,7 @@ object_at b i h = get_or-map-range_with_len (object_choice b) 0 b.count i i no_c
 pub fit_push : (ps : List Piece) (p : Piece) → All (λ q. Fits q.stretch) ps → Fits p.stretch → All (λ q. Fits q.stretch) (ps ++ p ∷ [])
 fit_push ps p a h = All-push (λ (q : Piece). Fits q.stretch) ps p a h
 
--- what is known of the pieces where the value is looked for
+-- the pieces in which the value is looked for
 pub there : (ps qs : List Piece) (now : List Stretch) (size index k : ℕ) → ps ≡ qs → stretches_of qs ≡ now → ArePieces qs size → index < length (all_choices now) → IsLast ps index k → InPiece 0 ps index k × (stretches_of ps ≡ now)
 there ps qs now size index k e v a h l =
     let w : stretches_of ps ≡ now = ap stretches_of e ∙ v in

@@ -64,7 +64,7 @@ module _ (problem : Problem) (root : ℕ) (domains : List Domain) where
       ap2 (λ (x : List Slot) (y : List Slot). x ++ y) (object_is b c e f a) (rows_are b c e f (a + 1) n)
       ∙ sym (map-append (slot_of root domains) (object_entries b c.spots a) (flat_map (object_entries b c.spots) (range_with_len (a + 1) n)))
 
-  -- the slots of all objects of the class domains behind some
+  -- the slots of all objects of the class domains after some
   classes_are : (before : List problems.ClassDomain) (d first : ℕ) (cs : List ClassDomain) → problem.domains ≡ before ++ map (class_domain domains) cs → length before ≡ d → count_all before ≡ first
       → flat_map (slots_of_object problem) (objects_from d (map (class_domain domains) cs)) ≡ map (slot_of root domains) (entries_with (blocks_from d first cs) cs)
   classes_are before d first [] e l f = refl

@@ -26,7 +26,7 @@ problem_with program b = record {
   domains = b.domains;
 }
 
--- Slots and their domains don't depend on the program: they are said of the problem without classes.
+-- Slots and their domains don't depend on the program: they are defined on the problem without classes.
 abbrev pub no_program : Program
 no_program = record { table = record { headings = []; classes = [] }; values = []; arrays = [] }
 

@@ -1,4 +1,4 @@
--- Between crates: what a layout keeps beside its bounds, and how its tables stand to them.
+-- Between crates: the tables of a layout beside its bounds, and their relation to these.
 use Rattle.std.specs.Prelude.{◌≡◌, ℕ, zero, suc, ◌+◌, ◌*◌, ◌^◌, ◌<◌, List, [], ◌∷◌, length, map, All}
 use Rattle.kr_mean.specs.Problem as problems
 use Rattle.kr_mean.specs.Problem.{DomainObject}
@@ -36,12 +36,12 @@ slots_before zero cs = 0
 slots_before (suc d) [] = 0
 slots_before (suc d) (c ∷ cs) = c.count * length c.spots + slots_before d cs
 
--- Of an object its slots stand one after another: behind `this`, the parameters, what the class domains before its own
--- have, and what the objects before it have.
+-- An object's slots are consecutive: after `this`, the parameters, the slots of the class domains before its own, and those of
+-- the objects before it.
 abbrev pub first_slot : Problem → DomainObject → ℕ
 first_slot problem o = length problem.parameters + 1 + slots_before o.domain problem.domains + o.number * length (domain_at problem o.domain).spots
 
--- slots, values and space are the same with every program
+-- slots, values and space don't depend on the program
 pub record AnyProgram (program : Program) (b : Bounds) : Type 0 where
   pub slots_same : slots (problem_with program b) ≡ slots (bare b)
   pub choices_same : (s : ℕ) → choices_at (problem_with program b) s ≡ choices_at (bare b) s

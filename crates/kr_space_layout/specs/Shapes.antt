@@ -1,4 +1,4 @@
--- Between crates: where the objects of a domain stand among its values.
+-- Between crates: the positions of a domain's objects among its values.
 use Rattle.std.specs.Prelude.{◌≡◌, ℕ, ◌-◌, ◌<◌, List, [], length, Option, Some, None, Bool, true, nat_lt, if◌then◌else◌}
 use Rattle.std.proofs.Common.{get_or}
 use Rattle.kr_mean.specs.Problem.{Choice, DomainObject}
@@ -12,12 +12,12 @@ use Rattle.kr_space_layout.specs.Stretches.{all_choices}
 abbrev pub object_from : ℕ → ℕ → ℕ → Option DomainObject
 object_from from domain i = if nat_lt i from then None else Some (record { domain = domain; number = i - from })
 
--- how many values there are, and where it is simple, where the objects stand
+-- how many values there are, and where it is simple, the positions of the objects
 pub record IsShape (choices : List Choice) (shape : Shape) : Type 0 where
   pub size : shape.size ≡ length choices
   pub objects : shape.simple ≡ true → (i : ℕ) → i < length choices → (get_or choices i no_choice).object ≡ object_from shape.from shape.domain i
 
--- where it is told so, no value is an object
+-- where this is recorded, no value is an object
 abbrev pub IsPlainShape : Shape → Bool → Type 0
 IsPlainShape s told = told ≡ true → (s.simple ≡ true) × (s.from ≡ s.size)
 

@@ -1,4 +1,4 @@
--- Between crates: stretches of values that stand one after another in a domain, with all that their values are made of.
+-- Between crates: stretches of consecutive values of a domain, with all that their values are made of.
 use Rattle.std.specs.Prelude.{◌≡◌, ℕ, ◌+◌, ◌^◌, ◌<◌, ◌≤◌, ℤ, pos, List, [], ◌∷◌, map, flat_map, length, All, Some, None}
 use Rattle.std.specs.List.{range_with_len}
 use Rattle.std.proofs.Common.{get_or}
@@ -35,7 +35,7 @@ count_of (Objects b) = b.count
 abbrev pub all_choices : List Stretch → List Choice
 all_choices stretches = flat_map choices_of stretches
 
--- what a stretch is in a problem
+-- the meaning of a stretch in a problem
 abbrev pub meant : Stretch → List problems.DomainItem
 meant (Plain v) = problems.Plain v ∷ []
 meant (Integers from to) = map (λ z. problems.Plain (Int z)) (integers from to)
@@ -64,7 +64,7 @@ stretch_of blocks (items.Objects d) = Objects (get_or blocks d (no_block d))
 abbrev pub stretches_of : List Piece → List Stretch
 stretches_of pieces = map (λ p. p.stretch) pieces
 
--- each stretch says how many values stand before it, from a number on and up to another
+-- each stretch records how many values precede it, from a number on and up to another
 abbrev pub AreCounted : ℕ → List Piece → ℕ → Type 0
 AreCounted n [] total = n ≡ total
 AreCounted n (p ∷ ps) total = (p.start ≡ n) × AreCounted (n + count_of p.stretch) ps total

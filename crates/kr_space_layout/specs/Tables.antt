@@ -9,11 +9,10 @@ use Rattle.kr_iso.specs.Objects.{shown}
 use Rattle.kr_space_layout.specs.declared.classes.Spotted.{Spotted}
 use Rattle.kr_space_layout.specs.declared.classes.ClassDomain.{ClassDomain}
 use Rattle.kr_space_layout.specs.declared.stretch.Block.{Block}
-use Rattle.kr_value.specs.declared.place.SlotPlace.{SlotPlace}
 use Rattle.kr_value.specs.declared.place.SlotPlace.TheVariants.{This, Parameter, At}
 use Rattle.kr_space_layout.specs.declared.entry.Entry.{Entry}
 
--- the objects of the class domains, from one of these on; so many objects stand before it
+-- the objects of the class domains, from one of these on; so many objects precede it
 abbrev pub blocks_from : ℕ → ℕ → List ClassDomain → List Block
 blocks_from d first [] = []
 blocks_from d first (c ∷ cs) = record { domain = d; first = first; count = c.count } ∷ blocks_from (d + 1) (first + c.count) cs
@@ -33,7 +32,7 @@ spot_entry b k s = record { place = At (b.first + k) s.spot; owner = Some (recor
 abbrev pub object_entries : Block → List Spotted → ℕ → List Entry
 object_entries b spots k = map (spot_entry b k) spots
 
--- what the objects of a class domain have
+-- the slots of a class domain's objects
 abbrev pub class_entries : Block → List Spotted → List Entry
 class_entries b spots = flat_map (object_entries b spots) (range_with_len 0 b.count)
 
@@ -46,7 +45,7 @@ entries_with (b ∷ bs) (c ∷ cs) = class_entries b c.spots ++ entries_with bs 
 abbrev pub all_entries : List ℕ → List Block → List ClassDomain → List Entry
 all_entries parameters blocks classes = this_entry ∷ (parameter_entries 0 parameters ++ entries_with blocks classes)
 
--- the first slot of each class domain, where so many stand before
+-- the first slot of each class domain, where so many precede
 abbrev pub starts_with : ℕ → List Block → List ClassDomain → List ℕ
 starts_with n [] cs = []
 starts_with n (b ∷ bs) [] = []

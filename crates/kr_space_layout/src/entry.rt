@@ -3,7 +3,7 @@
 use kr_iso::Object;
 use kr_value::SlotPlace;
 
-/// A slot: where it stands, whose it is, and the number of its domain.
+/// A slot: its place, its owner, and the number of its domain.
 #[derive(Clone, Copy, PartialEq, Eq)]
 pub(crate) struct Entry {
     pub(crate) place: SlotPlace,

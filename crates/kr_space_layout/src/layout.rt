@@ -75,7 +75,7 @@ fn pool_of(
     Ok(pool)
 }
 
-/// Where the objects of the domain of this number stand; of none, those of `this`.
+/// The positions of the objects of the domain of this number; of none, those of `this`.
 fn shape_with(this: &Values, pool: &[Values], domain: Option<u32>) -> Shape
     ensures { IsShape (values_with this.now pool.now domain) result }
 {
@@ -88,7 +88,7 @@ fn shape_with(this: &Values, pool: &[Values], domain: Option<u32>) -> Shape
     }
 }
 
-/// Where the objects of each slot's domain stand.
+/// The positions of the objects of each slot's domain.
 fn shapes_of(
     alloc: Global,
     this: &Values,
@@ -157,7 +157,7 @@ impl Layout {
         self.entries[slot as usize].owner
     }
 
-    /// Where it stands.
+    /// Its place.
     pub fn place(&self, slot: u32) -> SlotPlace
         requires { slot < length (slots (bare self.now)) }
         ensures { place_of result ≡ (slot_at (bare self.now) slot).place }
@@ -244,7 +244,7 @@ impl Layout {
         class.name.as_slice()
     }
 
-    /// What the objects of a class domain are of.
+    /// The class of a class domain's objects.
     pub fn class(&self, domain: u32) -> Class
         requires { domain < length self.now.domains }
         ensures { result ≡ (domain_at (bare self.now) domain).class }
@@ -295,7 +295,7 @@ impl Layout {
         None
     }
 
-    /// An object's first slot; its others stand behind it.
+    /// An object's first slot; its others follow.
     pub fn first_slot(&self, object: Object) -> u32
         requires domain { object.domain < length self.now.domains }
         requires number { object.number < (domain_at (bare self.now) object.domain).count }
@@ -354,7 +354,7 @@ impl Slots for Layout {
     }
 }
 
-/// Slots, their values and the space of candidates are the same with every program.
+/// Slots, their values and the space of candidates don't depend on the program.
 pub fn any_program_law()
     ensures { AnyProgramLaw }
 {}

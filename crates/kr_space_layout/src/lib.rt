@@ -1,5 +1,5 @@
-//! The slots of a problem and their domains, by number and never written out: who owns a slot and where it stands, how many
-//! values its domain has, and which value, and which object, stands at an index of it.
+//! The slots of a problem and their domains, by number and never written out: the owner and the place of a slot, how many
+//! values its domain has, and the value, and the object, at an index of it.
 #![tactic(auto)]
 
 mod classes;
@@ -15,4 +15,5 @@ pub use classes::{ClassDomain, Spotted};
 pub use item::DomainEntry;
 pub use layout::{Layout, any_program_law};
 pub use stretch::{Block, Chosen, Stretch};
+pub use tables::further;
 pub use values::Values;

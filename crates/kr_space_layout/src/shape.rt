@@ -1,4 +1,4 @@
-// Where the objects of a domain stand among its values.
+// The positions of a domain's objects among its values.
 ghost use Rattle.std.specs.Prelude.{◌≡◌, ◌+◌, ◌++◌, [], List};
 ghost use Rattle.kr_iso.specs.Objects.{shown};
 ghost use Rattle.kr_mean.specs.Problem.{Choice};
@@ -31,14 +31,14 @@ impl Shape {
         }
     }
 
-    /// Whether it is told that no value is an object.
+    /// Whether it is known that no value is an object.
     fn has_none(self) -> bool
         ensures { IsPlainShape self result }
     {
         self.simple && self.from == self.size
     }
 
-    /// With the values of a stretch behind the others, which makes so many.
+    /// With the values of a stretch after the others, which makes so many.
     pub(crate) fn with(self, stretch: Stretch, size: u32) -> Shape
         requires { size ≡ self.size + count_of stretch }
         ensures { (choices : List Choice) → IsShape choices self → IsShape (choices ++ choices_of stretch) result }

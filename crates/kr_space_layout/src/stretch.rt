@@ -17,8 +17,8 @@ pub struct Block {
     pub count: u32,
 }
 
-/// Some values of a domain that stand one after another: a plain value, the integers from one to another, both included,
-/// or the objects of a class domain.
+/// Some consecutive values of a domain: a plain value, the integers from one to another, both included, or the objects of a
+/// class domain.
 #[derive(Clone, Copy, PartialEq, Eq)]
 pub enum Stretch {
     Plain(Value),
@@ -44,7 +44,7 @@ fn width_of(from: i32, to: i32) -> u64
     }
 }
 
-/// The integer so many places behind the first.
+/// The integer so many places after the first.
 #[inline(always)]
 fn integer_at(from: i32, to: i32, index: u32) -> i32
     requires { index < width_between from to }

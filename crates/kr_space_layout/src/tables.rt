@@ -1,7 +1,7 @@
 // The tables of slots and of class domains, filled from the class domains one after another.
-ghost use Rattle.std.specs.Prelude.{◌≡◌, ◌<◌, ◌+◌, ◌++◌, ◌∷◌, [], All, IfOk, OnOk, length};
+ghost use Rattle.std.specs.Prelude.{◌≡◌, ◌<◌, ◌+◌, ◌++◌, All, IfOk, OnOk, length};
 ghost use Rattle.kr_space_layout.specs.Stretches.{IsNumbered};
-ghost use Rattle.kr_space_layout.specs.Tables.{all_entries, blocks_from, class_entries, entries_with, object_entries, parameter_entries, starts_with, this_entry};
+ghost use Rattle.kr_space_layout.specs.Tables.{all_entries, blocks_from, class_entries, entries_with, object_entries, parameter_entries, starts_with};
 
 use crate::classes::{ClassDomain, Spotted};
 use crate::entry::Entry;
@@ -12,7 +12,7 @@ use kr_value::SlotPlace;
 use std::alloc::Global;
 
 /// The number so many further on, where there is one.
-fn further(number: u32, count: u32) -> Result<u32, NoMemory>
+pub fn further(number: u32, count: u32) -> Result<u32, NoMemory>
     ensures { IfOk result (λ next. next ≡ number + count) }
 {
     match number.checked_add(count) {

@@ -12,7 +12,7 @@ use kr_base::NoMemory;
 use std::alloc::Global;
 use std::marker::Model;
 
-/// A stretch, and how many values of the domain stand before it.
+/// A stretch, and how many values of the domain precede it.
 #[derive(Clone, Copy)]
 struct Piece {
     start: u32,
@@ -111,7 +111,7 @@ impl Values {
         self.size
     }
 
-    /// Where the objects stand among them.
+    /// The positions of the objects among them.
     pub(crate) fn shape(&self) -> Shape
         ensures { IsShape (all_choices self.now) result }
     {

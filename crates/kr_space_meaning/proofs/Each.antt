@@ -1,13 +1,10 @@
--- What holds of each element of a list.
+-- Properties of each element of a list.
 use Rattle.std.proofs.Common.{◌≡◌, ℕ, zero, suc, ◌+◌, ◌<◌, Bool, true, false, List, [], ◌∷◌, ◌++◌, length, map, get_or, refl, arith}
 use Rattle.std.specs.Prelude.{flat_map}
 use Rattle.std.specs.List.{AllByRecursion, range_with_len}
 use Rattle.kr_space_meaning.specs.declared.refusal.SpaceRule.{SpaceRule}
 use Rattle.kr_space_meaning.specs.Order.{Fault, break_if}
-
-pub both_none : (xs ys : List Fault) → xs ++ ys ≡ [] → (xs ≡ []) × (ys ≡ [])
-both_none [] ys e = (refl, e)
-both_none (x ∷ xs) ys e = absurd (cc (e))
+use Rattle.kr_base.proofs.ListLemmas.{append_is_nil}
 
 pub unbroken : (b : Bool) (rule : SpaceRule) (item : List ℕ) → break_if b rule item ≡ [] → b ≡ false
 unbroken false rule item e = refl
@@ -16,7 +13,7 @@ unbroken true rule item e = absurd (cc (e))
 -- no element has a fault
 pub none_each : {X : Type 0} (f : X → List Fault) (xs : List X) → flat_map f xs ≡ [] → AllByRecursion (λ x. f x ≡ []) xs
 none_each f [] e = tt
-none_each f (x ∷ xs) e = let parts = both_none (f x) (flat_map f xs) e in (parts.0, none_each f xs parts.1)
+none_each f (x ∷ xs) e = let parts = append_is_nil (f x) (flat_map f xs) e in (parts.0, none_each f xs parts.1)
 
 pub each_of_both : {X : Type 0} (P : X → Type 0) (xs ys : List X) → AllByRecursion P xs → AllByRecursion P ys → AllByRecursion P (xs ++ ys)
 each_of_both P [] ys a b = b

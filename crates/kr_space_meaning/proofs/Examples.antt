@@ -1,13 +1,13 @@
 -- The examples, by computing.
 use Rattle.std.proofs.Common.{refl}
 use Rattle.kr_classes_table.specs.Table.{table_of}
-use Rattle.kr_space_meaning.specs.Names.{array_type, meant}
-use Rattle.kr_space_meaning.specs.Bounds.{setting_of, width_for, problem_in}
+use Rattle.kr_space_meaning.specs.Names.{array_type, class_of, meant}
+use Rattle.kr_space_meaning.specs.Bounds.{setting_of, width_for, root_domain, problem_in}
 use Rattle.kr_space_meaning.specs.Faults.{faults_in}
 use Rattle.kr_space_meaning.specs.Examples.{Problems, Refusals, CloseRefusals, Sizes}
 
 pub problems : Problems
-unfolding table_of array_type meant setting_of width_for problem_in faults_in
+unfolding table_of array_type class_of meant setting_of width_for root_domain problem_in faults_in
 problems = record {
   of_nodes = refl;
   of_heirs = refl;
@@ -22,7 +22,7 @@ problems = record {
 }
 
 pub refusals : Refusals
-unfolding table_of array_type meant setting_of width_for problem_in faults_in
+unfolding table_of array_type class_of meant setting_of width_for root_domain problem_in faults_in
 refusals = record {
   root_unknown = refl;
   class_unknown = refl;
@@ -51,7 +51,7 @@ refusals = record {
 }
 
 pub close_refusals : CloseRefusals
-unfolding table_of array_type meant setting_of width_for problem_in faults_in
+unfolding table_of array_type class_of meant setting_of width_for root_domain problem_in faults_in
 close_refusals = record {
   least_item = refl;
   bounded_unknown = refl;
@@ -70,11 +70,12 @@ close_refusals = record {
   predicate_with_parameter = refl;
   static_tested = refl;
   static_parameter = refl;
+  static_without_domain = refl;
   static_field = refl;
 }
 
 pub sizes : Sizes
-unfolding table_of array_type meant setting_of width_for problem_in faults_in
+unfolding table_of array_type class_of meant setting_of width_for root_domain problem_in faults_in
 sizes = record {
   many_slots = refl;
   too_many_slots = refl;

@@ -1,4 +1,4 @@
--- What holds of all domains that are given holds of that of a key.
+-- A property of all domains that are given is one of that of a key.
 use Rattle.std.proofs.Common.{◌≡◌, ℕ, Bool, true, false, cond, List, [], ◌∷◌, Option, Some, None, refl, ap, subst}
 use Rattle.std.specs.Prelude.{bytes_eq}
 use Rattle.std.specs.List.{AllByRecursion}

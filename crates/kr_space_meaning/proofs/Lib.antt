@@ -1,3 +1,4 @@
+pub mod DomainExamples
 pub mod Each
 pub mod Examples
 pub mod Given

@@ -1,21 +1,20 @@
 -- Values of domains: no plain one is a reference, lengths are natural numbers.
-use Rattle.std.proofs.Common.{◌≡◌, ℕ, zero, suc, ◌+◌, ◌≤◌, ℤ, pos, negsuc, Bool, true, false, cond, List, [], ◌∷◌, ◌++◌, length, map, Option, refl, ap, arith}
+use Rattle.std.proofs.Common.{◌≡◌, ℕ, zero, suc, ◌+◌, ◌≤◌, ℤ, pos, negsuc, Bool, List, [], ◌∷◌, ◌++◌, length, map, Option, Some, None, refl, ap, arith}
 use Rattle.std.specs.Prelude.{unwrap_or}
-use Rattle.kr_classes_table.specs.Types.{JavaType, is_same}
+use Rattle.kr_classes_table.specs.Types.{JavaType}
 use Rattle.kr_classes_table.specs.Numbers.{Width, Bits32}
 use Rattle.kr_classes_table.specs.Operators.{number}
 use Rattle.kr_value.specs.declared.value.Value.TheVariants.{Int, Bool as Truth, Null, Ref as Reference}
 use Rattle.kr_mean.specs.Problem.{Domain, Plain, Objects}
 use Rattle.kr_mean.specs.WellFormed.{ArePlain, AreLengths, AreElements, AreFields}
 use Rattle.kr_classes_table.specs.Table.{Field}
-use Rattle.kr_fin.specs.declared.document.ArrayBound.{ArrayBound}
 use Rattle.kr_fin.specs.declared.document.NamedDomain.{NamedDomain}
 use Rattle.kr_fin.specs.declared.document.Item.{Item as FinItem}
 use Rattle.kr_fin.specs.declared.document.Item.TheVariants.{Number, Range, Truth as FinTruth, Name}
 use Rattle.kr_space_meaning.specs.Names.{Meant, NoReference, Unknown, meant}
 use Rattle.kr_space_meaning.specs.Names as names
 use Rattle.kr_space_layout.specs.Items.{integers}
-use Rattle.kr_space_meaning.specs.Bounds.{Setting, array_domain, meant_values, given, width_for, item_values, values_with, values_given, lengths_in, greatest, element_spots, field_spots}
+use Rattle.kr_space_meaning.specs.Bounds.{Setting, all_of, bound_number, meant_values, object_number, given, width_for, item_values, values_with, values_given, lengths_in, greatest, element_spots, field_spots}
 
 plain_both : (xs ys : Domain) → ArePlain xs → ArePlain ys → ArePlain (xs ++ ys)
 plain_both [] ys a b = b
@@ -26,25 +25,21 @@ plain_numbers : (w : Width) (zs : List ℤ) → ArePlain (map (λ z. Plain (numb
 plain_numbers w [] = tt
 plain_numbers Bits32 (z ∷ zs) = (tt, plain_numbers Bits32 zs)
 
-plain_array : (d : ℕ) (bounds : List (JavaType × ArrayBound)) (t : JavaType) → ArePlain (array_domain d bounds t)
-plain_array d [] t = tt
-plain_array d (a ∷ more) t = go (is_same a.0 t) (plain_array (d + 1) more t)
-  where
-    go : (b : Bool) → ArePlain (array_domain (d + 1) more t) → ArePlain (cond b (Objects d ∷ []) (array_domain (d + 1) more t))
-    go true rest = tt
-    go false rest = rest
+plain_all : (o : Option ℕ) → ArePlain (all_of o)
+plain_all None = tt
+plain_all (Some d) = tt
 
-plain_meant : (setting : Setting) (m : Meant) → ArePlain (meant_values setting m)
-plain_meant setting NoReference = (tt, tt)
-plain_meant setting (names.Objects c) = tt
-plain_meant setting (names.Arrays t) = plain_array (length setting.table.headings) setting.arrays t
-plain_meant setting Unknown = tt
+plain_meant : (setting : Setting) (name : List ℕ) (m : Meant) → ArePlain (meant_values setting name m)
+plain_meant setting name NoReference = (tt, tt)
+plain_meant setting name (names.Objects c) = plain_all (object_number 0 setting.objects name c)
+plain_meant setting name (names.Arrays t) = plain_all (bound_number (length setting.objects) setting.arrays t)
+plain_meant setting name Unknown = tt
 
 plain_item : (setting : Setting) (w : Width) (item : FinItem) → ArePlain (item_values setting w item)
 plain_item setting Bits32 (Number z) = (tt, tt)
 plain_item setting w (Range from to) = plain_numbers w (integers from to)
 plain_item setting w (FinTruth b) = (tt, tt)
-plain_item setting w (Name name) = plain_meant setting (meant setting.table.headings name)
+plain_item setting w (Name name) = plain_meant setting name (meant setting.table.headings setting.document name)
 
 plain_values : (setting : Setting) (w : Width) (items : List FinItem) → ArePlain (values_with setting w items)
 plain_values setting w [] = tt

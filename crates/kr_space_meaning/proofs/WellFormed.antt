@@ -1,45 +1,40 @@
 -- A document that breaks no rule gives a well formed problem.
 use Rattle.std.proofs.Common.{◌≡◌, ℕ, zero, suc, ◌+◌, ◌<◌, ◌≤◌, Bool, true, false, cond, ◌&&◌, ◌==◌, nat_lt, List, [], ◌∷◌, ◌++◌, length, map, get_or, Option, Some, None, refl, sym, ap, subst, arith}
-use Rattle.std.specs.Prelude.{flat_map, is_none, unwrap_or, bytes_eq, codes}
+use Rattle.std.specs.Prelude.{flat_map, is_none, unwrap_or, codes}
 use Rattle.std.specs.List.{AllByRecursion}
 use Rattle.std.proofs.lemmas.Bool.{le-leb}
 use Rattle.kr_ast.specs.Tree.{Tree}
 use Rattle.kr_classes_table.specs.Types.{JavaType}
 use Rattle.kr_classes_table.specs.Numbers.{Bits32}
-use Rattle.kr_classes_table.specs.Table.{Heading, Field, number_from, fields_of}
+use Rattle.kr_classes_table.specs.Table.{Heading, Field, fields_of}
 use Rattle.kr_mean.specs.declared.mode.Mode.{Mode}
 use Rattle.kr_mean.specs.Problem.{Problem, ClassDomain, Domain, DomainObject, slots, no_slot, choices_in, domain_at, Choice, no_objects, objects_of_domain, objects_from, all_objects, parameter_slots, slots_of_object, object_choice, Objects, upto}
 use Rattle.kr_mean.specs.Program.{Program}
 use Rattle.kr_mean.specs.WellFormed.{IsWellFormed, ArePlain, AreSpots}
-use Rattle.std.proofs.Common.{length-append}
 use Rattle.kr_fin.specs.declared.document.FinDoc.{FinDoc}
+use Rattle.kr_fin.specs.declared.document.Count.{Count}
 use Rattle.kr_fin.specs.declared.document.NamedDomain.{NamedDomain}
 use Rattle.kr_fin.specs.declared.document.ArrayBound.{ArrayBound}
 use Rattle.kr_fin.specs.declared.document.Item.{Item as FinItem}
 use Rattle.kr_space_meaning.specs.Names.{array_type}
 use Rattle.kr_space_meaning.specs.Keys.{field_type, parameter_type}
-use Rattle.kr_space_meaning.specs.Bounds.{Setting, setting_of, bounded, typed_bound, problem_in, program_in, root_of, given, values_of, values_with, lengths_of, values_given, field_values, parameter_values, field_spots, field_key, class_domain, class_domains, array_class_domain, element_spots, elements_key, greatest, domains_of, count_named, tested_parameters, parameter_key}
-use Rattle.kr_space_meaning.specs.Faults.{S1, S2, S3_S5_S6, number_faults, numbers_of, numbers_of_lengths, faults_in, classes_S2, class_S2, array_S2, parameter_S2, no_domain}
+use Rattle.kr_space_meaning.specs.Bounds.{Setting, setting_of, bounded, typed_bound, problem_in, program_in, root_of, given, values_of, values_with, lengths_of, values_given, field_values, parameter_values, field_spots, field_key, object_domain, array_class_domain, element_spots, elements_key, greatest, domains_of, tested_parameters, parameter_key}
+use Rattle.kr_space_meaning.specs.Faults.{S1, S2, S3_S5_S6, number_faults, numbers_of, numbers_of_lengths, faults_in, object_S2, array_S2, parameter_S2, no_domain}
 use Rattle.kr_space_meaning.specs.declared.refusal.SpaceRule.TheVariants.{EmptyDomain, TooMany}
 use Rattle.kr_space_meaning.specs.Order.{Fault, break_if}
 use Rattle.kr_space_meaning.specs.Laws.{WellFormedLaw}
-use Rattle.kr_space_meaning.proofs.Each.{both_none, unbroken, none_each, each_of_both, each_mapped, each_flat, each_weaker, each_always, each_at, each_number}
+use Rattle.kr_space_meaning.proofs.Each.{unbroken, none_each, each_of_both, each_mapped, each_flat, each_weaker, each_always, each_at, each_number}
 use Rattle.kr_space_meaning.proofs.Given.{given_holds}
 use Rattle.kr_space_meaning.proofs.Plain.{plain_given, plain_lengths, lengths_upto, length-element_spots, elements_in_order, fields_in_order}
+use Rattle.kr_base.proofs.ListLemmas.{append_is_nil}
 
 -- ---- the root
 
-number_is_below : (k : ℕ) (hs : List Heading) (n : List ℕ) (c : ℕ) → number_from k hs n ≡ Some c → c < k + length hs
-number_is_below k [] n c e = absurd (cc (e))
-number_is_below k (h ∷ hs) n c e = go (bytes_eq h.name n) e (λ later. number_is_below (k + 1) hs n c later)
-  where
-    go : (b : Bool) → cond b (Some k) (number_from (k + 1) hs n) ≡ Some c → (number_from (k + 1) hs n ≡ Some c → c < (k + 1) + length hs) → c < k + suc (length hs)
-    go true e rest = let same : k ≡ c = cc in omega arith
-    go false e rest = let below = rest e in omega arith
-
-length-class_domains : (setting : Setting) (c : ℕ) (ds : List Heading) → length (class_domains setting c ds) ≡ length ds
-length-class_domains setting c [] = refl
-length-class_domains setting c (d ∷ ds) = ap suc (length-class_domains setting (c + 1) ds)
+-- a domain with objects is one of all
+counted_below : (ds : List ClassDomain) (d : ℕ) → ((get_or ds d no_objects).count == 0) ≡ false → d < length ds
+counted_below [] d e = absurd (cc (e))
+counted_below (x ∷ xs) zero e = omega arith
+counted_below (x ∷ xs) (suc d) e = let below = counted_below xs d e in omega (arith, below)
 
 -- ---- domains that have values
 
@@ -50,7 +45,7 @@ not_zero : {X : Type 0} (xs : List X) → (length xs == 0) ≡ false → 0 < len
 not_zero [] e = absurd (cc (e))
 not_zero (x ∷ xs) e = omega arith
 
--- what a list of given domains has, whose keys ask for types
+-- a list of given domains, whose keys require types
 abbrev AllFilled : Problem → Setting → (List ℕ → Option JavaType) → List NamedDomain → Type 0
 AllFilled problem setting asked domains = AllByRecursion (λ d. Filled problem (values_of setting (asked d.key) d.domain)) domains
 
@@ -62,7 +57,7 @@ given_filled problem setting asked domains key h some = go (given domains key) r
     go None e absent = absurd (cc (absent))
     go (Some items) e there = given_holds (λ k is. Filled problem (values_of setting (asked k) is)) domains key items h e
 
--- what the keys of `fields` and of `params` ask for
+-- the types that the keys of `fields` and of `params` require
 abbrev field_asked : Setting → List ℕ → Option JavaType
 field_asked setting key = field_type setting.table key
 
@@ -76,7 +71,7 @@ record AreFilled (problem : Problem) (setting : Setting) : Type 0 where
 
 -- the choices are some
 some : (item : List ℕ) (choices : List Choice) → number_faults item choices ≡ [] → 0 < length choices
-some item choices e = not_zero choices (unbroken _ _ item (both_none _ _ e).0)
+some item choices e = not_zero choices (unbroken _ _ item (append_is_nil _ _ e).0)
 
 table_filled : (problem : Problem) (setting : Setting) (asked : List ℕ → Option JavaType) (table : List ℕ) (domains : List NamedDomain) → numbers_of problem setting asked table domains ≡ [] → AllFilled problem setting asked domains
 table_filled problem setting asked table domains e =
@@ -96,10 +91,10 @@ record AreNumbered (problem : Problem) (setting : Setting) : Type 0 where
 parts : (fields params lengths : List Fault) (none : Bool) (slots : List Fault) → fields ++ (params ++ (lengths ++ (break_if none EmptyDomain (codes "this") ++ slots))) ≡ []
     → (fields ≡ []) × (params ≡ []) × (lengths ≡ []) × (none ≡ false)
 parts fields params lengths none slots e =
-    let first = both_none fields (params ++ (lengths ++ (break_if none EmptyDomain (codes "this") ++ slots))) e in
-    let second = both_none params (lengths ++ (break_if none EmptyDomain (codes "this") ++ slots)) first.1 in
-    let third = both_none lengths (break_if none EmptyDomain (codes "this") ++ slots) second.1 in
-    (first.0, second.0, third.0, unbroken none EmptyDomain (codes "this") (both_none (break_if none EmptyDomain (codes "this")) slots third.1).0)
+    let first = append_is_nil fields (params ++ (lengths ++ (break_if none EmptyDomain (codes "this") ++ slots))) e in
+    let second = append_is_nil params (lengths ++ (break_if none EmptyDomain (codes "this") ++ slots)) first.1 in
+    let third = append_is_nil lengths (break_if none EmptyDomain (codes "this") ++ slots) second.1 in
+    (first.0, second.0, third.0, unbroken none EmptyDomain (codes "this") (append_is_nil (break_if none EmptyDomain (codes "this")) slots third.1).0)
 
 numbered : (problem : Problem) (setting : Setting) → S3_S5_S6 problem setting ≡ [] → AreNumbered problem setting
 numbered problem setting e =
@@ -118,7 +113,7 @@ all_filled problem setting e =
 
 -- ---- the class domains
 
--- what holds of the domains of a class domain's spots, where it has objects
+-- the domains of a class domain's spots, where it has objects
 abbrev SpotsHave : (Domain → Type 0) → ClassDomain → Type 0
 SpotsHave P domain = 0 < domain.count → AllByRecursion (λ s. P s.domain) domain.spots
 
@@ -131,18 +126,15 @@ fields_filled problem setting filled k (f ∷ fs) h =
 some_objects : (n : ℕ) → 0 < n → nat_lt 0 n ≡ true
 some_objects n h = le-leb 1 n h
 
-class_filled : (problem : Problem) (setting : Setting) → AllFilled problem setting (field_asked setting) setting.document.fields → (c : ℕ) (d : Heading) → class_S2 setting c d ≡ []
-    → SpotsHave (Filled problem) (class_domain setting c d)
-class_filled problem setting filled c d e some =
-    let all = subst (λ (b : Bool). cond b (flat_map (λ f. no_domain (codes "fields.") setting.document.fields (field_key setting.table f)) (fields_of setting.table c)) [] ≡ []) (some_objects (count_named setting.document.objects d.name) some) e in
-    fields_filled problem setting filled 0 (fields_of setting.table c) (none_each _ (fields_of setting.table c) all)
+object_filled : (problem : Problem) (setting : Setting) → AllFilled problem setting (field_asked setting) setting.document.fields → (o : ℕ × Count) → object_S2 setting o ≡ []
+    → SpotsHave (Filled problem) (object_domain setting o)
+object_filled problem setting filled o e some = fields_filled problem setting filled 0 (fields_of setting.table o.0) (none_each _ (fields_of setting.table o.0) e)
 
-classes_filled : (problem : Problem) (setting : Setting) → AllFilled problem setting (field_asked setting) setting.document.fields → (c : ℕ) (ds : List Heading) → classes_S2 setting c ds ≡ []
-    → AllByRecursion (SpotsHave (Filled problem)) (class_domains setting c ds)
-classes_filled problem setting filled c [] e = tt
-classes_filled problem setting filled c (d ∷ ds) e =
-    let parts = both_none (class_S2 setting c d) (classes_S2 setting (c + 1) ds) e in
-    (class_filled problem setting filled c d parts.0, classes_filled problem setting filled (c + 1) ds parts.1)
+objects_filled : (problem : Problem) (setting : Setting) → AllFilled problem setting (field_asked setting) setting.document.fields → (os : List (ℕ × Count)) → flat_map (object_S2 setting) os ≡ []
+    → AllByRecursion (SpotsHave (Filled problem)) (map (object_domain setting) os)
+objects_filled problem setting filled os e =
+    each_mapped (SpotsHave (Filled problem)) (object_domain setting) os
+    (each_weaker (λ o. object_S2 setting o ≡ []) (λ o. SpotsHave (Filled problem) (object_domain setting o)) os (λ o none. object_filled problem setting filled o none) (none_each (object_S2 setting) os e))
 
 all_elements : (P : Domain → Type 0) (k n : ℕ) (domain : Domain) → P domain → AllByRecursion (λ s. P s.domain) (element_spots k n domain)
 all_elements P k zero domain p = tt
@@ -166,7 +158,7 @@ arrays_filled : (problem : Problem) (setting : Setting) → AllFilled problem se
 arrays_filled problem setting filled [] none long = tt
 arrays_filled problem setting filled (a ∷ more) none long = (array_filled problem setting filled a none.0 long.0, arrays_filled problem setting filled more none.1 long.1)
 
--- what holds of each bound holds of those whose array type is known
+-- a property of each bound is one of those whose array type is known
 of_bounded : (P : ArrayBound → Type 0) (hs : List Heading) (bounds : List ArrayBound) → AllByRecursion P bounds → AllByRecursion (λ a. P a.1) (bounded hs bounds)
 of_bounded P hs [] h = tt
 of_bounded P hs (b ∷ bs) h = each_of_both (λ a. P a.1) (typed_bound (array_type hs b.name) b) (bounded hs bs) (one (array_type hs b.name)) (of_bounded P hs bs h.1)
@@ -182,9 +174,9 @@ fields_plain setting k [] = tt
 fields_plain setting k (f ∷ fs) =
     (plain_given setting (field_asked setting) setting.document.fields (field_key setting.table f), fields_plain setting (k + 1) fs)
 
-classes_plain : (setting : Setting) (c : ℕ) (ds : List Heading) → AllByRecursion (SpotsHave ArePlain) (class_domains setting c ds)
-classes_plain setting c [] = tt
-classes_plain setting c (d ∷ ds) = ((λ some. fields_plain setting 0 (fields_of setting.table c)), classes_plain setting (c + 1) ds)
+objects_plain : (setting : Setting) (os : List (ℕ × Count)) → AllByRecursion (SpotsHave ArePlain) (map (object_domain setting) os)
+objects_plain setting [] = tt
+objects_plain setting (o ∷ os) = ((λ some. fields_plain setting 0 (fields_of setting.table o.0)), objects_plain setting os)
 
 array_plain : (setting : Setting) (a : JavaType × ArrayBound) → SpotsHave ArePlain (array_class_domain setting a)
 array_plain setting a some = (
@@ -193,9 +185,9 @@ array_plain setting a some = (
       (plain_given setting (field_asked setting) setting.document.fields (elements_key a.1.name)),
 )
 
-classes_spotted : (setting : Setting) (c : ℕ) (ds : List Heading) → AllByRecursion (λ d. AreSpots d.class d.spots) (class_domains setting c ds)
-classes_spotted setting c [] = tt
-classes_spotted setting c (d ∷ ds) = (fields_in_order setting 0 (fields_of setting.table c), classes_spotted setting (c + 1) ds)
+objects_spotted : (setting : Setting) (os : List (ℕ × Count)) → AllByRecursion (λ d. AreSpots d.class d.spots) (map (object_domain setting) os)
+objects_spotted setting [] = tt
+objects_spotted setting (o ∷ os) = (fields_in_order setting 0 (fields_of setting.table o.0), objects_spotted setting os)
 
 array_spotted : (setting : Setting) (a : JavaType × ArrayBound) → AreSpots (array_class_domain setting a).class (array_class_domain setting a).spots
 array_spotted setting a =
@@ -221,7 +213,7 @@ parameters_all : (P : Domain → Type 0) (i : ℕ) (ds : List Domain) → AllByR
 parameters_all P i [] h = tt
 parameters_all P i (d ∷ ds) h = (h.0, parameters_all P (i + 1) ds h.1)
 
--- what holds of the domains of the root, of the parameters and of the spots of what has objects holds of each slot's
+-- a property of the domains of the root, of the parameters and of the spots of classes with objects is one of each slot's
 slots_all : (P : Domain → Type 0) (problem : Problem) → P (Objects problem.root ∷ []) → AllByRecursion P problem.parameters
     → AllByRecursion (SpotsHave P) problem.domains → AllByRecursion (λ s. P s.domain) (slots problem)
 slots_all P problem root parameters domains = (
@@ -239,69 +231,57 @@ some_choices problem d (suc n) e = omega arith
 
 -- ---- the whole
 
-root_below : (setting : Setting) → is_none (root_of setting) ≡ false → unwrap_or (root_of setting) 0 < length (domains_of setting)
-root_below setting known = go (root_of setting) refl known
-  where
-    go : (o : Option ℕ) → root_of setting ≡ o → is_none o ≡ false → unwrap_or o 0 < length (domains_of setting)
-    go None e absent = absurd (cc (absent))
-    go (Some c) e there =
-        let below = number_is_below 0 setting.table.headings setting.document.root c e in
-        omega (arith, length-append (class_domains setting 0 setting.table.headings) (map (array_class_domain setting) setting.arrays), length-class_domains setting 0 setting.table.headings)
-
--- the three rules that a well formed problem rests on
+-- the two rules that a well formed problem rests on
 record Rules (problem : Problem) (setting : Setting) (mode : Mode) : Type 0 where
-  names : S1 setting ≡ []
   given_all : S2 setting mode ≡ []
   filled_all : S3_S5_S6 problem setting ≡ []
 
 rules_of : (problem : Problem) (setting : Setting) (mode : Mode) → faults_in problem setting mode ≡ [] → Rules problem setting mode
 unfolding faults_in
 rules_of problem setting mode e =
-    let first = both_none (S1 setting) _ e in
-    let second = both_none (S2 setting mode) _ first.1 in
-    record { names = first.0; given_all = second.0; filled_all = (both_none (S3_S5_S6 problem setting) _ second.1).0 }
+    let first = append_is_nil (S1 setting) _ e in
+    let second = append_is_nil (S2 setting mode) _ first.1 in
+    record { given_all = second.0; filled_all = (append_is_nil (S3_S5_S6 problem setting) _ second.1).0 }
 
 domains_filled : (problem : Problem) (setting : Setting) (mode : Mode) → setting.arrays ≡ bounded setting.table.headings setting.document.arrays
     → Rules problem setting mode → AllByRecursion (SpotsHave (Filled problem)) (domains_of setting)
 domains_filled problem setting mode bounds rules =
     let filled = all_filled problem setting rules.filled_all in
-    let parts = both_none (classes_S2 setting 0 setting.table.headings) _ rules.given_all in
-    let arrays = both_none (flat_map (array_S2 setting) setting.arrays) _ parts.1 in
+    let parts = append_is_nil (flat_map (object_S2 setting) setting.objects) _ rules.given_all in
+    let arrays = append_is_nil (flat_map (array_S2 setting) setting.arrays) _ parts.1 in
     let lengths = subst (λ (all : List (JavaType × ArrayBound)). AllByRecursion (λ a. Filled problem (lengths_of setting a.1.lengths)) all) (sym bounds)
     (of_bounded (λ b. Filled problem (lengths_of setting b.lengths)) setting.table.headings setting.document.arrays filled.lengths) in
-    each_of_both (SpotsHave (Filled problem)) (class_domains setting 0 setting.table.headings) (map (array_class_domain setting) setting.arrays)
-    (classes_filled problem setting filled.fields 0 setting.table.headings parts.0)
+    each_of_both (SpotsHave (Filled problem)) (map (object_domain setting) setting.objects) (map (array_class_domain setting) setting.arrays)
+    (objects_filled problem setting filled.fields setting.objects parts.0)
     (arrays_filled problem setting filled.fields setting.arrays (none_each (array_S2 setting) setting.arrays arrays.0) lengths)
 
 parameters_filled : (problem : Problem) (setting : Setting) (mode : Mode) → Rules problem setting mode
     → AllByRecursion (λ p. Filled problem (parameter_values setting (parameter_key mode p))) (tested_parameters setting mode)
 parameters_filled problem setting mode rules =
     let filled = all_filled problem setting rules.filled_all in
-    let parts = both_none (classes_S2 setting 0 setting.table.headings) _ rules.given_all in
-    let arrays = both_none (flat_map (array_S2 setting) setting.arrays) _ parts.1 in
+    let parts = append_is_nil (flat_map (object_S2 setting) setting.objects) _ rules.given_all in
+    let arrays = append_is_nil (flat_map (array_S2 setting) setting.arrays) _ parts.1 in
     each_weaker (λ p. parameter_S2 setting mode p ≡ []) (λ p. Filled problem (parameter_values setting (parameter_key mode p))) (tested_parameters setting mode)
     (λ p none. given_filled problem setting (parameter_asked setting) setting.document.params (parameter_key mode p) filled.params (unbroken _ _ _ none))
     (none_each (parameter_S2 setting mode) (tested_parameters setting mode) arrays.1)
 
 domains_plain : (setting : Setting) → AllByRecursion (SpotsHave ArePlain) (domains_of setting)
-domains_plain setting = each_of_both (SpotsHave ArePlain) (class_domains setting 0 setting.table.headings) (map (array_class_domain setting) setting.arrays)
-    (classes_plain setting 0 setting.table.headings)
+domains_plain setting = each_of_both (SpotsHave ArePlain) (map (object_domain setting) setting.objects) (map (array_class_domain setting) setting.arrays)
+    (objects_plain setting setting.objects)
     (each_mapped (SpotsHave ArePlain) (array_class_domain setting) setting.arrays (each_always (λ a. SpotsHave ArePlain (array_class_domain setting a)) setting.arrays (array_plain setting)))
 
 domains_spotted : (setting : Setting) → AllByRecursion (λ d. AreSpots d.class d.spots) (domains_of setting)
-domains_spotted setting = each_of_both (λ d. AreSpots d.class d.spots) (class_domains setting 0 setting.table.headings) (map (array_class_domain setting) setting.arrays)
-    (classes_spotted setting 0 setting.table.headings)
+domains_spotted setting = each_of_both (λ d. AreSpots d.class d.spots) (map (object_domain setting) setting.objects) (map (array_class_domain setting) setting.arrays)
+    (objects_spotted setting setting.objects)
     (each_mapped (λ d. AreSpots d.class d.spots) (array_class_domain setting) setting.arrays (each_always (λ a. AreSpots (array_class_domain setting a).class (array_class_domain setting a).spots) setting.arrays (array_spotted setting)))
 
 -- a problem whose parts are those of the setting
 record IsOf (problem : Problem) (setting : Setting) (mode : Mode) : Type 0 where
-  root : problem.root ≡ unwrap_or (root_of setting) 0
   parameters : problem.parameters ≡ map (λ p. parameter_values setting (parameter_key mode p)) (tested_parameters setting mode)
   domains : problem.domains ≡ domains_of setting
 
 well_formed_of : (problem : Problem) (setting : Setting) (mode : Mode) → setting.arrays ≡ bounded setting.table.headings setting.document.arrays → IsOf problem setting mode → Rules problem setting mode → IsWellFormed problem
 well_formed_of problem setting mode bounds is rules =
-    let known = unbroken _ _ (codes "root") (both_none _ _ rules.names).0 in
     let some_root = (numbered problem setting rules.filled_all).root in
     let root_filled : Filled problem (Objects problem.root ∷ []) = some_choices problem problem.root (domain_at problem problem.root).count some_root in
     let params_filled = subst (λ (ds : List Domain). AllByRecursion (Filled problem) ds) (sym is.parameters)
@@ -313,7 +293,7 @@ well_formed_of problem setting mode bounds is rules =
     let spots_plain = subst (λ (ds : List ClassDomain). AllByRecursion (SpotsHave ArePlain) ds) (sym is.domains) (domains_plain setting) in
     let spotted = subst (λ (ds : List ClassDomain). AllByRecursion (λ d. AreSpots d.class d.spots) ds) (sym is.domains) (domains_spotted setting) in
     record {
-      root = subst (λ (n : ℕ). n < length problem.domains) (sym is.root) (subst (λ (ds : List ClassDomain). unwrap_or (root_of setting) 0 < length ds) (sym is.domains) (root_below setting known));
+      root = counted_below problem.domains problem.root some_root;
       filled = λ s below. each_at (λ slot. Filled problem slot.domain) (slots problem) s no_slot (slots_all (Filled problem) problem root_filled params_filled spots_filled) below;
       plain = λ s below. each_at (λ slot. ArePlain slot.domain) (slots problem) s no_slot (slots_all ArePlain problem tt params_plain spots_plain) below;
       spots = λ d below. each_at (λ domain. AreSpots domain.class domain.spots) problem.domains d no_objects spotted below;
@@ -321,7 +301,7 @@ well_formed_of problem setting mode bounds is rules =
 
 is_of : (program : Program) (setting : Setting) (mode : Mode) → IsOf (problem_in program setting mode) setting mode
 unfolding problem_in
-is_of program setting mode = record { root = refl; parameters = refl; domains = refl }
+is_of program setting mode = record { parameters = refl; domains = refl }
 
 bounds_of : (files : List Tree) (document : FinDoc) → (setting_of files document).arrays ≡ bounded (setting_of files document).table.headings (setting_of files document).document.arrays
 unfolding setting_of

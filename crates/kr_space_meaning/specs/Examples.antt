@@ -1,6 +1,5 @@
 -- Between crates: small sources with finitizations, their problems, and the rules that others break, worked by hand.
 use Rattle.std.specs.Prelude.{◌≡◌, ◌++◌, ℕ, pos, negsuc, Bool, true, false, List, [], ◌∷◌, Option, Some, None, codes, map}
-use Rattle.kr_base.specs.declared.place.Place.{Place}
 use Rattle.kr_ast.specs.declared.node.BinaryOperator.TheVariants.{Equal}
 use Rattle.kr_ast.specs.Tree as trees
 use Rattle.kr_ast.specs.Tree.{Tree, Nil, Cons}
@@ -21,14 +20,12 @@ use Rattle.kr_fin.specs.declared.document.Item.TheVariants.{Number, Range, Truth
 use Rattle.kr_space_meaning.specs.Order.{Fault, least, rule_code}
 use Rattle.kr_space_meaning.specs.Bounds.{problem_of}
 use Rattle.kr_space_meaning.specs.Meaning.{faults_of}
+use Rattle.kr_base.specs.Places.{nowhere}
 
 abbrev Text : Type 0
 Text = List ℕ
 
 -- ---- sources
-
-abbrev pub nowhere : Place
-nowhere = record { file = 0; line = 0; col = 0 }
 
 abbrev pub list_of : List Tree → Tree
 list_of [] = Nil
@@ -95,7 +92,7 @@ files classes = list_of classes ∷ []
 -- ---- documents
 
 abbrev pub objects : Text → ℕ → Count
-objects name count = record { name = name; count = count }
+objects name count = record { name = name; class = name; count = count }
 
 abbrev pub given : Text → List FinItem → NamedDomain
 given key domain = record { key = key; domain = domain }
@@ -104,12 +101,12 @@ abbrev pub arrays : Text → ℕ → List FinItem → ArrayBound
 arrays name count lengths = record { name = name; count = count; lengths = lengths }
 
 abbrev pub plain_document : Text → List Count → List NamedDomain → FinDoc
-plain_document root counts fields = record { root = root; fuel = 9; objects = counts; arrays = []; fields = fields; params = [] }
+plain_document root counts fields = record { version = 1; root = root; fuel = 9; objects = counts; arrays = []; fields = fields; params = [] }
 
 abbrev pub name : Text → FinItem
 name n = Name n
 
--- ---- what they come to
+-- ---- their problems
 
 abbrev pub domains : List Tree → FinDoc → List ClassDomain
 domains classes document = (problem_of (files classes) document Listing).domains
@@ -150,6 +147,7 @@ one_heir = objects (codes "Base") 2 ∷ objects (codes "R") 1 ∷ []
 -- an array of two arrays of one number, and an array type that only the document names
 abbrev pub of_arrays : List FinItem → List FinItem → FinDoc
 of_arrays lengths numbers = record {
+  version = 1;
   root = codes "R";
   fuel = 9;
   objects = objects (codes "R") 1 ∷ [];
@@ -160,6 +158,7 @@ of_arrays lengths numbers = record {
 
 abbrev pub with_params : List NamedDomain → FinDoc
 with_params params = record {
+  version = 1;
   root = codes "R";
   fuel = 9;
   objects = one_heir;
@@ -191,6 +190,7 @@ two_classes = class_named (codes "Other") [] ∷ node ∷ []
 -- 63 arrays of 64 numbers, which have 4,095 slots
 abbrev pub long_arrays : List NamedDomain → FinDoc
 long_arrays fields = record {
+  version = 1;
   root = codes "R";
   fuel = 9;
   objects = objects (codes "R") 1 ∷ [];
@@ -205,6 +205,7 @@ plain_root fields = class_named (codes "R") (fields ++ rep_ok_of always ∷ []) 
 -- one node, and an array type with these lengths
 abbrev pub bounding : Text → List FinItem → FinDoc
 bounding type lengths = record {
+  version = 1;
   root = codes "N";
   fuel = 9;
   objects = objects (codes "N") 1 ∷ [];
@@ -234,7 +235,7 @@ pub record Problems : Type 0 where
       ∷ record { name = codes "boolean[]"; class = Array 2; count = 1; spots = record { spot = Length; domain = int_items (0 ∷ []) } ∷ [] }
       ∷ record { name = codes "int[]"; class = Array 0; count = 2; spots = record { spot = Length; domain = int_items (1 ∷ []) } ∷ record { spot = Element 0; domain = int_items (7 ∷ []) } ∷ [] }
       ∷ record { name = codes "int[][]"; class = Array 1; count = 1; spots = record { spot = Length; domain = int_items (0 ∷ 2 ∷ []) } ∷ record { spot = Element 0; domain = Plain Null ∷ Objects 2 ∷ [] } ∷ record { spot = Element 1; domain = Plain Null ∷ Objects 2 ∷ [] } ∷ [] } ∷ []
-  -- the array types that only the document names have numbers behind the program's own
+  -- the array types that only the document names have numbers after the program's own
   pub of_named_types : array_types with_arrays (of_arrays (Number (pos 0) ∷ []) (Number (pos 7) ∷ [])) ≡ ArrayType IntType ∷ ArrayType (ArrayType IntType) ∷ ArrayType BooleanType ∷ []
   pub of_parameters : parameters with_heir (with_params (given (codes "put.x") (Truth true ∷ []) ∷ [])) (codes "put") ≡ (Plain (TruthValue true) ∷ []) ∷ []
   pub of_numbers_given : parameters (node_and (rep_ok_of always ∷ method_of (codes "put") int ∷ [])) (with_parameter two_nodes (codes "put.x") (Range (negsuc 0) (pos 1) ∷ [])) (codes "put") ≡ (Plain (Int (negsuc 0)) ∷ int_items (0 ∷ 1 ∷ [])) ∷ []
@@ -290,6 +291,7 @@ pub record CloseRefusals : Type 0 where
   pub predicate_with_parameter : refused (node_and (method_of (codes "repOk") int ∷ [])) two_nodes Listing ≡ broken (codes "S7") (codes "root")
   pub static_tested : refused (node_and (rep_ok_of always ∷ static_method (codes "put") int ∷ [])) (with_parameter two_nodes (codes "put.x") (Number (pos 0) ∷ [])) (Testing (codes "put")) ≡ broken (codes "S8") (codes "method")
   pub static_parameter : refused (node_and (rep_ok_of always ∷ static_method (codes "put") int ∷ [])) (with_parameter two_nodes (codes "put.x") (Number (pos 0) ∷ [])) Listing ≡ None
+  pub static_without_domain : refused (node_and (rep_ok_of always ∷ static_method (codes "put") int ∷ [])) two_nodes (Testing (codes "put")) ≡ broken (codes "S8") (codes "method")
   pub static_field : refused (node_and (rep_ok_of always ∷ constant (codes "K") ∷ [])) (plain_document (codes "N") (objects (codes "N") 1 ∷ []) (given (codes "N.K") (Number (pos 0) ∷ []) ∷ given (codes "N.next") (name (codes "N") ∷ []) ∷ [])) Listing ≡ broken (codes "S9") (codes "fields.N.K")
 
 -- the greatest number of slots, and one more

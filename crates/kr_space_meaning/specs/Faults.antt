@@ -15,8 +15,9 @@ use Rattle.kr_fin.specs.declared.document.NamedDomain.{NamedDomain}
 use Rattle.kr_fin.specs.declared.document.Item.{Item}
 use Rattle.kr_fin.specs.declared.document.Item.TheVariants.{Number, Range, Truth as FinTruth, Name}
 use Rattle.kr_space_meaning.specs.declared.refusal.SpaceRule.TheVariants.{UnknownName, NoDomain, EmptyDomain, UnfitValue, ValueTwice, TooMany, NoPredicate, NoMethod, NoSlot}
-use Rattle.kr_space_meaning.specs.Names.{Meant, NoReference, Objects, Arrays, Unknown, array_type, meant}
-use Rattle.kr_space_meaning.specs.Bounds.{Setting, root_of, tested_parameters, parameter_key, given, values_of, lengths_of, field_key, elements_key, count_named, greatest}
+use Rattle.kr_space_meaning.specs.Names.{Meant, NoReference, Objects, Arrays, Unknown, array_type, class_of, meant, names_domains}
+use Rattle.kr_fin.specs.declared.document.FinDoc.{FinDoc}
+use Rattle.kr_space_meaning.specs.Bounds.{Setting, root_of, tested_parameters, parameter_key, given, values_of, lengths_of, field_key, elements_key, greatest}
 use Rattle.kr_space_meaning.specs.Keys.{is_elements, owner_part, field_type, method_at, parameter_type}
 use Rattle.kr_space_meaning.specs.Order.{Fault, break_if}
 
@@ -43,17 +44,22 @@ abbrev pub is_unknown : Meant → Bool
 is_unknown Unknown = true
 is_unknown m = false
 
-abbrev pub names_unknown : List Heading → Item → Bool
-names_unknown hs (Name name) = is_unknown (meant hs name)
-names_unknown hs item = false
+abbrev pub names_unknown : List Heading → FinDoc → Item → Bool
+names_unknown hs document (Name name) = is_unknown (meant hs document name)
+names_unknown hs document item = false
 
--- what stands before the dot is no class, or before `.*` no array type
+-- the root is a class in version 1, and an object domain or an array type in version 2
+abbrev pub root_unknown : List Heading → FinDoc → Bool
+root_unknown hs document =
+    is_none (class_of hs document document.root) && (not (names_domains document) || is_none (array_type hs document.root))
+
+-- the text before the dot is no class, or before `.*` no array type
 abbrev pub owner_unknown : List Heading → Text → Bool
 owner_unknown hs key =
     if is_elements key then is_none (array_type hs (owner_part key)) else is_none (number_of hs (owner_part key))
 
 abbrev pub objects_unknown : List Heading → List Count → List Fault
-objects_unknown hs counts = flat_map (λ c. break_if (is_none (number_of hs c.name)) UnknownName (of_objects c.name)) counts
+objects_unknown hs counts = flat_map (λ c. break_if (is_none (number_of hs c.class)) UnknownName (of_objects c.name)) counts
 
 abbrev pub arrays_unknown : List Heading → List ArrayBound → List Fault
 arrays_unknown hs bounds = flat_map (λ b. break_if (is_none (array_type hs b.name)) UnknownName (of_arrays b.name)) bounds
@@ -62,20 +68,20 @@ abbrev pub owners_unknown : List Heading → List NamedDomain → List Fault
 owners_unknown hs domains = flat_map (λ d. break_if (owner_unknown hs d.key) UnknownName (of_fields d.key)) domains
 
 -- a domain of a table that has a name that stands for nothing among its values
-abbrev pub value_unknown : List Heading → Text → NamedDomain → List Fault
-value_unknown hs table d = break_if (list_any (names_unknown hs) d.domain) UnknownName (table ++ d.key)
+abbrev pub value_unknown : List Heading → FinDoc → Text → NamedDomain → List Fault
+value_unknown hs document table d = break_if (list_any (names_unknown hs document) d.domain) UnknownName (table ++ d.key)
 
-abbrev pub values_unknown : List Heading → Text → List NamedDomain → List Fault
-values_unknown hs table domains = flat_map (value_unknown hs table) domains
+abbrev pub values_unknown : List Heading → FinDoc → Text → List NamedDomain → List Fault
+values_unknown hs document table domains = flat_map (value_unknown hs document table) domains
 
 abbrev pub S1 : Setting → List Fault
 S1 setting =
-    break_if (is_none (root_of setting)) UnknownName (codes "root")
+    break_if (root_unknown setting.table.headings setting.document) UnknownName (codes "root")
     ++ (objects_unknown setting.table.headings setting.document.objects
     ++ (arrays_unknown setting.table.headings setting.document.arrays
     ++ (owners_unknown setting.table.headings setting.document.fields
-    ++ (values_unknown setting.table.headings (codes "fields.") setting.document.fields
-    ++ values_unknown setting.table.headings (codes "params.") setting.document.params))))
+    ++ (values_unknown setting.table.headings setting.document (codes "fields.") setting.document.fields
+    ++ values_unknown setting.table.headings setting.document (codes "params.") setting.document.params))))
 
 -- ---- S2: each slot has a domain
 
@@ -83,16 +89,9 @@ S1 setting =
 abbrev pub no_domain : Text → List NamedDomain → Text → List Fault
 no_domain table domains key = break_if (is_none (given domains key)) NoDomain (table ++ key)
 
--- the fields of a class that has objects
-abbrev pub class_S2 : Setting → ℕ → Heading → List Fault
-class_S2 setting c h =
-    if nat_lt 0 (count_named setting.document.objects h.name)
-    then flat_map (λ f. no_domain (codes "fields.") setting.document.fields (field_key setting.table f)) (fields_of setting.table c)
-    else []
-
-abbrev pub classes_S2 : Setting → ℕ → List Heading → List Fault
-classes_S2 setting c [] = []
-classes_S2 setting c (h ∷ hs) = class_S2 setting c h ++ classes_S2 setting (c + 1) hs
+-- the fields of the objects of a domain
+abbrev pub object_S2 : Setting → ℕ × Count → List Fault
+object_S2 setting o = flat_map (λ f. no_domain (codes "fields.") setting.document.fields (field_key setting.table f)) (fields_of setting.table o.0)
 
 -- the elements of an array type that has arrays with elements
 abbrev pub array_S2 : Setting → JavaType × ArrayBound → List Fault
@@ -106,7 +105,7 @@ parameter_S2 setting mode p = no_domain (codes "params.") setting.document.param
 
 abbrev pub S2 : Setting → Mode → List Fault
 S2 setting mode =
-    classes_S2 setting 0 setting.table.headings
+    flat_map (object_S2 setting) setting.objects
     ++ (flat_map (array_S2 setting) setting.arrays
     ++ flat_map (parameter_S2 setting mode) (tested_parameters setting mode))
 
@@ -123,7 +122,7 @@ number_faults item choices =
     ++ (break_if (has_twice choices) ValueTwice item
     ++ break_if (nat_lt 65536 (length choices)) TooMany item)
 
--- of the domains of a table, whose keys ask for types
+-- of the domains of a table, whose keys require types
 abbrev pub numbers_of : Problem → Setting → (Text → Option JavaType) → Text → List NamedDomain → List Fault
 numbers_of problem setting asked table domains = flat_map (λ d. number_faults (table ++ d.key) (choices_in problem (values_of setting (asked d.key) d.domain))) domains
 
@@ -149,24 +148,26 @@ meant_fits table t (Arrays a) = is_assignable table a t
 meant_fits table t Unknown = true
 
 -- a range that is empty has no value that could be unfit; a name is judged also where it has no objects
-abbrev pub fits : Table → JavaType → Item → Bool
-fits table t (Number z) = is_same t IntType
-fits table t (Range from to) = not (le_z from to) || is_same t IntType
-fits table t (FinTruth b) = is_same t BooleanType
-fits table t (Name name) = meant_fits table t (meant table.headings name)
+abbrev pub fits : Table → FinDoc → JavaType → Item → Bool
+fits table document t (Number z) = is_same t IntType
+fits table document t (Range from to) = not (le_z from to) || is_same t IntType
+fits table document t (FinTruth b) = is_same t BooleanType
+fits table document t (Name name) = meant_fits table t (meant table.headings document name)
 
-abbrev pub is_unfit : Table → Option JavaType → List Item → Bool
-is_unfit table None items = false
-is_unfit table (Some t) items = list_any (λ i. not (fits table t i)) items
+abbrev pub is_unfit : Table → FinDoc → Option JavaType → List Item → Bool
+is_unfit table document None items = false
+is_unfit table document (Some t) items = list_any (λ i. not (fits table document t i)) items
 
-abbrev pub fields_unfit : Table → List NamedDomain → List Fault
-fields_unfit table domains = flat_map (λ d. break_if (is_unfit table (field_type table d.key) d.domain) UnfitValue (of_fields d.key)) domains
+abbrev pub fields_unfit : Table → FinDoc → List NamedDomain → List Fault
+fields_unfit table document domains = flat_map (λ d. break_if (is_unfit table document (field_type table d.key) d.domain) UnfitValue (of_fields d.key)) domains
 
-abbrev pub params_unfit : Table → Option ℕ → List NamedDomain → List Fault
-params_unfit table root domains = flat_map (λ d. break_if (is_unfit table (parameter_type table root d.key) d.domain) UnfitValue (of_params d.key)) domains
+abbrev pub params_unfit : Table → FinDoc → Option ℕ → List NamedDomain → List Fault
+params_unfit table document root domains = flat_map (λ d. break_if (is_unfit table document (parameter_type table root d.key) d.domain) UnfitValue (of_params d.key)) domains
 
 abbrev pub S4 : Setting → List Fault
-S4 setting = fields_unfit setting.table setting.document.fields ++ params_unfit setting.table (root_of setting) setting.document.params
+S4 setting =
+    fields_unfit setting.table setting.document setting.document.fields
+    ++ params_unfit setting.table setting.document (root_of setting) setting.document.params
 
 -- ---- S7, S8: the predicate and the method under test
 

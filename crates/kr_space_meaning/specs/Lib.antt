@@ -6,4 +6,5 @@ pub mod Faults
 pub mod Meaning
 pub mod Laws
 pub mod Examples
+pub mod DomainExamples
 pub mod Limits

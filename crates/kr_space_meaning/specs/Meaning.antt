@@ -1,4 +1,4 @@
--- To be believed: what a program, a document and a mode come to: their problem, or the rule that they break first.
+-- To be believed: the meaning of a program, a document and a mode: their problem, or the rule that they break first.
 use Rattle.std.specs.Prelude.{List, Option, Some, None, Result, Ok, Err}
 use Rattle.kr_ast.specs.Tree.{Tree}
 use Rattle.kr_mean.specs.declared.mode.Mode.{Mode}

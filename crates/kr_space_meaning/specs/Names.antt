@@ -1,9 +1,11 @@
--- To be believed: what the names of a finitization mean: classes by their simple names, and array types as they are written
--- without spaces.
-use Rattle.std.specs.Prelude.{ℕ, zero, suc, ◌+◌, ◌-◌, Bool, ◌&&◌, List, length, take, drop, nat_eq, bytes_eq, codes, Option, Some, None, option_map, if◌then◌else◌}
+-- To be believed: what the names of a finitization mean: classes by their simple names (version 1), or object domains by theirs
+-- (version 2), and array types as they are written without spaces.
+use Rattle.std.specs.Prelude.{ℕ, zero, suc, ◌+◌, ◌-◌, ◌==◌, Bool, ◌&&◌, List, length, take, drop, find, nat_eq, bytes_eq, codes, Option, Some, None, option_map, option_and_then, if◌then◌else◌}
 use Rattle.std.specs.List.{starts_with, ends_with}
 use Rattle.kr_classes_table.specs.Types.{JavaType, IntType, BooleanType, ClassType, ArrayType, SetType, ListType, is_element}
 use Rattle.kr_classes_table.specs.Table.{Heading, number_of}
+use Rattle.kr_fin.specs.declared.document.Count.{Count}
+use Rattle.kr_fin.specs.declared.document.FinDoc.{FinDoc}
 
 abbrev Text : Type 0
 Text = List ℕ
@@ -61,7 +63,20 @@ array_or_none t = None
 unfoldable pub array_type : List Heading → Text → Option JavaType
 array_type hs text = array_or_none (type_within (length text) hs text)
 
--- what a name in a domain stands for
+-- names are those of object domains, else of classes
+abbrev pub names_domains : FinDoc → Bool
+names_domains document = document.version == 2
+
+abbrev pub line_of : List Count → Text → Option Count
+line_of counts name = find (λ c. bytes_eq c.name name) counts
+
+-- the class of the objects that a name stands for: that of the object domain of this name, or the class of this name
+unfoldable pub class_of : List Heading → FinDoc → Text → Option ℕ
+class_of hs document name =
+    if names_domains document then option_and_then (λ c. number_of hs c.class) (line_of document.objects name)
+    else number_of hs name
+
+-- what a name in a domain stands for: null, objects of a class, arrays of a type, or nothing
 pub data Meant : Type 0 where
   NoReference : Meant
   Objects : ℕ → Meant
@@ -76,5 +91,5 @@ abbrev pub class_meant : List Heading → Text → Option ℕ → Meant
 class_meant hs text (Some c) = Objects c
 class_meant hs text None = array_meant (array_type hs text)
 
-unfoldable pub meant : List Heading → Text → Meant
-meant hs text = if bytes_eq text (codes "null") then NoReference else class_meant hs text (number_of hs text)
+unfoldable pub meant : List Heading → FinDoc → Text → Meant
+meant hs document text = if bytes_eq text (codes "null") then NoReference else class_meant hs text (class_of hs document text)

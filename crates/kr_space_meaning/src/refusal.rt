@@ -22,7 +22,7 @@ pub enum SpaceRule {
     TooMany,
     /// S7: the root has no instance method `boolean repOk()`.
     NoPredicate,
-    /// S8: the root has no instance method of the name asked for.
+    /// S8: the root has no instance method of the given name.
     NoMethod,
     /// S9: a domain of no field, element or parameter.
     NoSlot,

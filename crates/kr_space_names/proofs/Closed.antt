@@ -1,28 +1,16 @@
 -- Lists in which the array types in each type are listed too.
 use Rattle.std.proofs.Common.{◌≡◌, ℕ, ◌<◌, ◌⊎◌, inl, inr, Bool, true, false, cond, List, [], ◌∷◌, ◌++◌, refl, sym, ap, subst, ◌∙◌}
-use Rattle.std.specs.Prelude.{◌||◌}
 use Rattle.std.proofs.lemmas.List.Sums.{fold-append}
+use Rattle.std.proofs.lemmas.Bool.{or_cases, or_right, or_left}
 use Rattle.kr_classes_table.specs.Types.{JavaType, ArrayType, SetType, ListType, is_same}
 use Rattle.kr_classes_table.specs.Arrays.{arrays_in, is_listed}
-use Rattle.kr_classes_types.specs.Types.{TypeList, AreDistinct, Extends, count, type_at}
-use Rattle.kr_classes_types.proofs.Same.{equal, same_itself}
+use Rattle.kr_classes_names.specs.Types.{TypeList, AreDistinct, Extends, count, type_at}
+use Rattle.kr_classes_names.proofs.Same.{equal, same_itself}
 use Rattle.kr_space_names.specs.Collected.{AreNumbers, IsClosed, collect, collected, types_shown}
 use Rattle.kr_space_names.specs.Numbers.{has_number}
 use Rattle.kr_space_names.proofs.Collecting.{collect_there, listed_number, shown_kept}
 
-or_left : (a b : Bool) → a ≡ true → (a || b) ≡ true
-or_left true b e = refl
-or_left false b e = absurd (cc (e))
-
-or_right : (a b : Bool) → b ≡ true → (a || b) ≡ true
-or_right true b e = refl
-or_right false b e = e
-
-or_cases : (a b : Bool) → (a || b) ≡ true → (a ≡ true) ⊎ (b ≡ true)
-or_cases true b e = inl refl
-or_cases false b e = inr e
-
--- ---- what is listed in two lists
+-- ---- types of two lists
 
 front : (t : JavaType) (xs ys : List JavaType) → is_listed t xs ≡ true → is_listed t (xs ++ ys) ≡ true
 front t [] ys e = absurd (cc (e))
@@ -55,7 +43,7 @@ inside (SetType t) u v e f = inside t u v e f
 inside (ListType t) u v e f = inside t u v e f
 inside _ u v e f = absurd (cc (e))
 
--- ---- what is listed in a list that grows
+-- ---- types of a list that grows
 
 kept_in : (done ts : List JavaType) (u : JavaType) → is_listed u done ≡ true → is_listed u (collected done ts) ≡ true
 kept_in done [] u e = e

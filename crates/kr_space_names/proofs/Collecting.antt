@@ -11,9 +11,9 @@ use Rattle.kr_ast.specs.Tree.{Tree}
 use Rattle.kr_classes_table.specs.Types.{JavaType}
 use Rattle.kr_classes_table.specs.Arrays.{arrays_in, is_listed}
 use Rattle.kr_classes_table.specs.Nodes.{nodes}
-use Rattle.kr_classes_types.specs.Types.{TypeList, AreDistinct, Extends, count, type_at}
-use Rattle.kr_classes_types.specs.Numbers.{AreNodeTypes, named_type, number_in}
-use Rattle.kr_classes_types.proofs.Growing.{number_kept}
+use Rattle.kr_classes_names.specs.Types.{TypeList, AreDistinct, Extends, count, type_at}
+use Rattle.kr_classes_names.specs.Numbers.{AreNodeTypes, named_type, number_in}
+use Rattle.kr_classes_names.proofs.Growing.{number_kept}
 use Rattle.kr_space_names.specs.Collected.{AreNumbers, collect, collected, types_shown}
 use Rattle.kr_space_names.specs.Numbers.{has_number, with_number}
 
@@ -64,7 +64,7 @@ collected_next l all done done' ns i x h e k d =
     ∙ (ap (λ (n : ℕ). collected (collect done (type_at l n)) (types_shown l (drop (i + 1) ns))) (sym e)
     ∙ ap (λ (ts : List JavaType). collected ts (types_shown l (drop (i + 1) ns))) (sym d)))
 
--- what an item of a list has, and what is left
+-- the types in an item of a list, and those left
 pub flat_next : {A B : Type 0} (f : B → List JavaType) (v : A → B) (all done done' : List JavaType) (xs : List A) (i : ℕ) (x : A) → i < length xs → x ≡ get_or xs i x → all ≡ collected done (flat_map f (map v (drop i xs)))
     → done' ≡ collected done (f (v x)) → all ≡ collected done' (flat_map f (map v (drop (i + 1) xs)))
 flat_next {A = A} f v all done done' xs i x h e k d =
@@ -74,7 +74,7 @@ flat_next {A = A} f v all done done' xs i x h e k d =
     ∙ (ap (λ (y : A). collected (collected done (f (v y))) rest) (sym e)
     ∙ ap (λ (ts : List JavaType). collected ts rest) (sym d))))
 
--- what a file's nodes have, and what is left
+-- the types in a file's nodes, and those left
 pub file_next : (f : Tree → List JavaType) (all done done' : List JavaType) (files : List Arena) (i : ℕ) (d : Arena) → i < length files → all ≡ collected done (flat_map f (flat_map nodes (map root (drop i files))))
     → done' ≡ collected done (flat_map f (nodes (root (get_or files i d)))) → all ≡ collected done' (flat_map f (flat_map nodes (map root (drop (i + 1) files))))
 file_next f all done done' files i d h k e =

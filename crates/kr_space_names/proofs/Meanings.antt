@@ -1,9 +1,9 @@
--- Which names stand for nothing.
+-- Meaningless names.
 use Rattle.std.proofs.Common.{◌≡◌, refl}
 use Rattle.kr_space_meaning.specs.Names.{Meant, NoReference, Unknown as Nothing, Arrays as ArraysOf}
 use Rattle.kr_space_meaning.specs.Names as names
 use Rattle.kr_space_meaning.specs.Faults.{is_unknown}
-use Rattle.kr_classes_types.specs.Types.{TypeList}
+use Rattle.kr_classes_names.specs.Types.{TypeList}
 use Rattle.kr_space_names.specs.declared.meaning.Meaning.{Meaning}
 use Rattle.kr_space_names.specs.declared.meaning.Meaning.TheVariants.{Null, Objects, Arrays, Unknown}
 use Rattle.kr_space_names.specs.Meanings.{IsMeaning, is_nothing}

@@ -42,7 +42,7 @@ once_again seen (x ∷ ts) = go (is_listed x seen) refl (once_again seen ts) (on
     go true e p q = p
     go false e p q = ap (λ (b : Bool). cond b (once seen (once (x ∷ seen) ts)) (x ∷ once (x ∷ seen) (once (x ∷ seen) ts))) e ∙ ap (λ (us : List JavaType). x ∷ us) q
 
--- more types behind those that are there once already
+-- more types after those that are there once already
 pub once_more : (ts us : List JavaType) → once [] (once [] ts ++ us) ≡ collected (once [] ts) us
 once_more ts us =
     once_collected (once [] ts ++ us) ∙ (fold-append collect [] (once [] ts) us

@@ -172,7 +172,7 @@ walked_on tree found found' left left' rest ps i e h t l p f m w =
     (subst (λ (ns : List ℕ). IsWalked tree (found ++ own e.node i) ns) (sym (m ∙ ap (λ (ns : List ℕ). rest ++ reverse ns) p))
     (walk_goes_on tree found rest i e h t (subst (λ (ns : List ℕ). IsWalked tree found ns) l w)))
 
--- ---- a walk ends: a node has at most four parts, which stand before it
+-- ---- a walk ends: a node has at most four parts, which come before it
 
 abbrev pub power : ℕ → ℕ
 power zero = 1

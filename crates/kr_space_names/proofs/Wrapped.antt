@@ -3,7 +3,7 @@ use Rattle.std.proofs.Common.{◌≡◌, ℕ, zero, suc, ◌<◌, ◌==◌, Bool
 use Rattle.kr_classes_table.specs.Types.{JavaType}
 use Rattle.kr_classes_table.specs.Table.{Heading}
 use Rattle.kr_space_meaning.specs.Names.{type_of}
-use Rattle.kr_classes_types.specs.Types.{TypeList, Extends}
+use Rattle.kr_classes_names.specs.Types.{TypeList, Extends}
 use Rattle.kr_space_names.specs.declared.wrapping.Wrapping.{Wrapping}
 use Rattle.kr_space_names.specs.declared.wrapping.Wrapping.TheVariants as wrappings
 use Rattle.kr_space_names.specs.Texts.{peeled, wrap, wrapped}

@@ -2,12 +2,12 @@
 use Rattle.std.specs.Prelude.{◌≡◌, ℕ, true, ◌+◌, ◌<◌, List, [], ◌∷◌, ◌++◌, map, fold, All, if◌then◌else◌}
 use Rattle.kr_classes_table.specs.Types.{JavaType, ArrayType, SetType, ListType}
 use Rattle.kr_classes_table.specs.Arrays.{arrays_in, is_listed}
-use Rattle.kr_classes_types.specs.Types.{TypeList, count, type_at}
+use Rattle.kr_classes_names.specs.Types.{TypeList, count, type_at}
 
 abbrev pub collect : List JavaType → JavaType → List JavaType
 collect done t = if is_listed t done then done else done ++ t ∷ []
 
--- some types, and behind them those of others that aren't among them, each once
+-- some types, followed by those of others that aren't among them, each once
 abbrev pub collected : List JavaType → List JavaType → List JavaType
 collected done ts = fold collect done ts
 

@@ -1,8 +1,8 @@
--- Between crates: what names stand for, with types by their numbers.
+-- Between crates: the meanings of names, with types by their numbers.
 use Rattle.std.specs.Prelude.{◌≡◌, Bool, true, false}
 use Rattle.kr_space_meaning.specs.Names.{Meant, NoReference, Unknown as Nothing, Arrays as ArraysOf}
 use Rattle.kr_space_meaning.specs.Names as names
-use Rattle.kr_classes_types.specs.Types.{TypeList, IsTypeNumber}
+use Rattle.kr_classes_names.specs.Types.{TypeList, IsTypeNumber}
 use Rattle.kr_space_names.specs.declared.meaning.Meaning.{Meaning}
 use Rattle.kr_space_names.specs.declared.meaning.Meaning.TheVariants.{Null, Objects, Arrays, Unknown}
 

@@ -2,7 +2,7 @@
 use Rattle.std.specs.Prelude.{ℕ, List, [], ◌∷◌, Option, Some, None, option_map}
 use Rattle.kr_classes_table.specs.Types.{JavaType, ArrayType, SetType, ListType}
 use Rattle.kr_space_meaning.specs.Names.{Written, ArrayOf, SetOf, ListOf, of_elements}
-use Rattle.kr_classes_types.specs.Types.{TypeList, IsTypeNumber}
+use Rattle.kr_classes_names.specs.Types.{TypeList, IsTypeNumber}
 use Rattle.kr_space_names.specs.declared.wrapping.Wrapping.{Wrapping}
 use Rattle.kr_space_names.specs.declared.wrapping.Wrapping.TheVariants as wrappings
 
@@ -23,7 +23,7 @@ abbrev pub wrapped : List Wrapping → Option JavaType → Option JavaType
 wrapped [] t = t
 wrapped (w ∷ ws) t = wrap w (wrapped ws t)
 
--- the number stands for the type, if there is one
+-- the number is that of the type, if there is one
 abbrev pub Stands : TypeList → Option ℕ → Option JavaType → Type 0
 Stands types None None = Unit {0}
 Stands types (Some n) (Some t) = IsTypeNumber types n t

@@ -1,11 +1,11 @@
 // Lists of types that grow by what isn't among them yet.
 ghost use Rattle.std.specs.Prelude.{◌≡◌, ◌<◌, OnOk};
-ghost use Rattle.kr_classes_types.specs.Types.{count, type_at};
+ghost use Rattle.kr_classes_names.specs.Types.{count, type_at};
 ghost use Rattle.kr_space_names.specs.Collected.{AreNumbers, collect, collected, types_shown};
 
 use crate::list::Arrays;
 use kr_base::NoMemory;
-use kr_classes_types::Types;
+use kr_classes_names::Types;
 
 /// Adds a type, where it isn't there yet.
 #[tactic(auto, using(crate::proofs::Collecting::collect_number, crate::proofs::Collecting::numbers_with))]

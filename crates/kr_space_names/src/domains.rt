@@ -8,7 +8,7 @@ ghost use Rattle.kr_classes_names.specs.Shown.{AreHeads};
 ghost use Rattle.kr_space_meaning.specs.Keys.{is_elements as names_elements, name_part as part_behind, owner_part as part_before};
 ghost use Rattle.kr_space_meaning.specs.Faults.{names_unknown, owner_unknown, owners_unknown, value_unknown, values_unknown};
 ghost use Rattle.kr_space_meaning.specs.Order.{lesser};
-ghost use Rattle.kr_classes_types.specs.Types.{Extends};
+ghost use Rattle.kr_classes_names.specs.Types.{Extends};
 ghost use Rattle.kr_space_names.specs.Meanings.{is_nothing};
 
 use crate::meaning::{Meaning, meaning_of};
@@ -16,9 +16,8 @@ use crate::names::item_of;
 use crate::written::array_type;
 use kr_ast::Tree;
 use kr_base::NoMemory;
-use kr_classes_names::Heads;
-use kr_classes_types::Types;
-use kr_fin::{Item, Least, NamedDomain};
+use kr_classes_names::{Heads, Types};
+use kr_fin::{FinDoc, Item, Least, NamedDomain};
 use kr_space_meaning::SpaceRule;
 use std::alloc::Global;
 
@@ -28,7 +27,7 @@ fn first_dot(key: &[u8]) -> Option<usize>
     key.iter().position(|byte| *byte == b'.')
 }
 
-/// What stands before the first dot of a key.
+/// The text before the first dot of a key.
 pub fn owner_part(key: &[u8]) -> &[u8]
     ensures { result.now ≡ part_before key.now }
 {
@@ -38,7 +37,7 @@ pub fn owner_part(key: &[u8]) -> &[u8]
     }
 }
 
-/// What stands behind the first dot of a key.
+/// The text after the first dot of a key.
 pub fn name_part(key: &[u8]) -> &[u8]
     ensures { result.now ≡ part_behind key.now }
 {
@@ -55,7 +54,7 @@ pub fn is_elements(key: &[u8]) -> bool
     name_part(key) == b"*".as_slice()
 }
 
-/// Whether what stands before the dot is no class, or before `.*` no array type.
+/// Whether the text before the dot is no class, or before `.*` no array type.
 pub fn has_no_owner(
     alloc: Global,
     types: &mut Types,
@@ -102,7 +101,7 @@ pub(crate) fn owner_names(
     Ok(())
 }
 
-/// Whether a name stands for nothing.
+/// Whether a name is meaningless.
 fn is_unknown(meaning: Meaning) -> bool
     ensures { result ≡ is_nothing meaning }
 {
@@ -114,17 +113,18 @@ fn is_unknown(meaning: Meaning) -> bool
     }
 }
 
-/// Whether a value is a name that stands for nothing.
+/// Whether a value is a meaningless name.
 #[tactic(auto, using(crate::proofs::Meanings::nothing_is))]
 fn is_value_unknown(
     alloc: Global,
     types: &mut Types,
     trees: &[Tree],
     heads: &Heads,
+    document: &FinDoc,
     item: &Item,
 ) -> Result<bool, NoMemory>
     requires { AreHeads trees.now heads.now }
-    ensures is { IfOk result (λ b. b ≡ names_unknown (headings_of (map root trees.now)) item.now) }
+    ensures is { IfOk result (λ b. b ≡ names_unknown (headings_of (map root trees.now)) document.now item.now) }
     ensures extends { Extends types.old types.new }
 {
     let _ = trees;
@@ -133,6 +133,7 @@ fn is_value_unknown(
             alloc,
             types,
             heads,
+            document,
             name.as_str().as_bytes(),
         )?)),
         Item::Number(_) => Ok(false),
@@ -141,40 +142,43 @@ fn is_value_unknown(
     }
 }
 
-/// Whether one of the values is a name that stands for nothing.
+/// Whether one of the values is a meaningless name.
 fn has_unknown(
     alloc: Global,
     types: &mut Types,
     trees: &[Tree],
     heads: &Heads,
+    document: &FinDoc,
     items: &[Item],
 ) -> Result<bool, NoMemory>
     requires { AreHeads trees.now heads.now }
-    ensures is { IfOk result (λ b. b ≡ list_any (names_unknown (headings_of (map root trees.now))) items.now) }
+    ensures is { IfOk result (λ b. b ≡ list_any (names_unknown (headings_of (map root trees.now)) document.now) items.now) }
     ensures extends { Extends types.old types.new }
 {
     for item in items {
-        if is_value_unknown(alloc, types, trees, heads, item)? {
+        if is_value_unknown(alloc, types, trees, heads, document, item)? {
             return Ok(true);
         }
     }
     Ok(false)
 }
 
-/// No value of a domain is a name that stands for nothing.
+/// No value of a domain is a meaningless name.
 fn value_names_of(
     least: &mut Least<SpaceRule>,
     types: &mut Types,
     trees: &[Tree],
     heads: &Heads,
+    document: &FinDoc,
     table: &str,
     domain: &NamedDomain,
 ) -> Result<(), NoMemory>
     requires { AreHeads trees.now heads.now }
-    ensures noted { OnOk result (least.new ≡ fold lesser least.old (value_unknown (headings_of (map root trees.now)) table.now domain.now)) }
+    ensures noted { OnOk result (least.new ≡ fold lesser least.old (value_unknown (headings_of (map root trees.now)) document.now table.now domain.now)) }
     ensures extends { Extends types.old types.new }
 {
-    if has_unknown(least.alloc(), types, trees, heads, domain.domain.as_slice())? {
+    let items = domain.domain.as_slice();
+    if has_unknown(least.alloc(), types, trees, heads, document, items)? {
         let item = item_of(least.alloc(), table, domain.key.as_str())?;
         least.note(SpaceRule::UnknownName, item.as_str())
     } else {
@@ -182,21 +186,22 @@ fn value_names_of(
     }
 }
 
-/// No value of a table's domains is a name that stands for nothing.
+/// No value of a table's domains is a meaningless name.
 pub(crate) fn value_names(
     least: &mut Least<SpaceRule>,
     types: &mut Types,
     trees: &[Tree],
     heads: &Heads,
+    document: &FinDoc,
     table: &str,
     domains: &[NamedDomain],
 ) -> Result<(), NoMemory>
     requires { AreHeads trees.now heads.now }
-    ensures noted { OnOk result (least.new ≡ fold lesser least.old (values_unknown (headings_of (map root trees.now)) table.now domains.now)) }
+    ensures noted { OnOk result (least.new ≡ fold lesser least.old (values_unknown (headings_of (map root trees.now)) document.now table.now domains.now)) }
     ensures extends { Extends types.old types.new }
 {
     for domain in domains {
-        value_names_of(least, types, trees, heads, table, domain)?;
+        value_names_of(least, types, trees, heads, document, table, domain)?;
     }
     Ok(())
 }

@@ -1,13 +1,13 @@
 // The array types in a type.
 ghost use Rattle.std.specs.Prelude.{◌≡◌, ◌<◌, ◌++◌, ◌∷◌, [], IfOk, IfSome, MatchOption, OnOk, if◌then◌else◌, reverse};
 ghost use Rattle.kr_classes_table.specs.Arrays.{arrays_in};
-ghost use Rattle.kr_classes_types.specs.Types.{count, type_at};
+ghost use Rattle.kr_classes_names.specs.Types.{count, type_at};
 ghost use Rattle.kr_space_names.specs.Collected.{AreNumbers, IsClosed, collected, depth, types_shown};
 
 use crate::collected::add_all;
 use crate::list::Arrays;
 use kr_base::NoMemory;
-use kr_classes_types::{TypeForm, Types};
+use kr_classes_names::{TypeForm, Types};
 use std::alloc::Global;
 
 /// The type of the elements of an array type, or of the members of a collection.
@@ -17,7 +17,7 @@ struct Inner {
     is_of_array: bool,
 }
 
-/// What a type is made of, if it is an array type or a collection.
+/// The parts of a type, if it is an array type or a collection.
 fn inner_of(types: &Types, number: u32) -> Option<Inner>
     requires { number < count types.now }
     ensures within { IfSome result (λ i. i.number < count types.now) }
@@ -51,7 +51,7 @@ fn add_if(found: &mut Vec<u32>, is_wanted: bool, number: u32) -> Result<(), NoMe
     Ok(())
 }
 
-/// What a type is made of, if there are array types in it that aren't listed.
+/// The parts of a type, if there are array types in it that aren't listed.
 #[tactic(auto, using(crate::proofs::Closed::there_already, crate::proofs::Closed::none_in))]
 fn inner_left(types: &Types, arrays: &Arrays, number: u32) -> Option<Inner>
     requires numbers { AreNumbers types.now arrays.now }

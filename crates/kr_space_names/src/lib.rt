@@ -1,5 +1,5 @@
-//! What the names of a finitization mean beside a program: the array types that its files name, by number; the faults that are
-//! met; and rule S1: each name is a class's or an array type's.
+//! The names of a finitization beside a program: the array types that its files name, by number; the faults that are met; and
+//! rule S1: each name is a class's or an array type's.
 #![tactic(auto)]
 
 mod collected;
@@ -18,7 +18,7 @@ mod written;
 pub use domains::{has_no_owner, is_elements, name_part, owner_part};
 pub use inside::add_arrays_in;
 pub use list::Arrays;
-pub use meaning::{Meaning, meaning_of};
+pub use meaning::{Meaning, class_of, meaning_of};
 pub use named::array_types;
 pub use names::item_of;
 pub use unknown::note_names;

@@ -81,8 +81,8 @@ impl Arrays {
         is_marked(self.marks.as_slice(), number)
     }
 
-    /// Adds a number, where it isn't there yet. Once there is room for it, it takes constant time; where memory is refused,
-    /// what was there may be gone.
+    /// Adds a number, where it isn't there yet. Once there is room for it, it takes constant time; on out-of-memory the numbers
+    /// may be lost.
     pub(crate) fn add(&mut self, number: u32) -> Result<(), NoMemory>
         ensures { OnOk result (self.new ≡ with_number self.old number) }
     {

@@ -5,8 +5,8 @@ ghost use Rattle.kr_classes_table.specs.Arrays.{array_types_of, arrays_in, array
 ghost use Rattle.kr_classes_table.specs.Nodes.{nodes};
 ghost use Rattle.kr_classes_table.specs.Table.{headings_of};
 ghost use Rattle.kr_ast.specs.Files.{file_at};
-ghost use Rattle.kr_classes_types.specs.Numbers.{AreNodeTypes};
-ghost use Rattle.kr_classes_types.specs.Types.{Extends, count, type_at};
+ghost use Rattle.kr_classes_names.specs.Numbers.{AreNodeTypes};
+ghost use Rattle.kr_classes_names.specs.Types.{Extends, count, type_at};
 ghost use Rattle.kr_space_names.specs.Collected.{AreNumbers, IsClosed, collected, types_shown};
 
 use crate::inside::add_arrays_in;
@@ -14,7 +14,7 @@ use crate::list::Arrays;
 use crate::walk::nodes_of;
 use kr_ast::{Node, Tree, tree_of};
 use kr_base::NoMemory;
-use kr_classes_types::{NodeTypes, TypeForm, Types};
+use kr_classes_names::{NodeTypes, TypeForm, Types};
 use std::alloc::Global;
 
 /// The type that a node names, if it is an array type; `new T[n]` names `T[]`.
@@ -73,7 +73,7 @@ fn add_named(
 }
 
 /// Adds the array types that some nodes name.
-#[tactic(auto, using(crate::proofs::Collecting::flat_next, crate::proofs::Collecting::node_types_kept, kr_classes_types::proofs::Growing::extends_on))]
+#[tactic(auto, using(crate::proofs::Collecting::flat_next, crate::proofs::Collecting::node_types_kept, kr_classes_names::proofs::Growing::extends_on))]
 fn add_all_named(
     alloc: Global,
     types: &mut Types,

@@ -1,19 +1,18 @@
 // Rule S1: names that no class and no array type has.
-ghost use Rattle.std.specs.Prelude.{◌≡◌, ◌++◌, IfOk, OnOk, codes, flat_map, fold, is_none, map, string_bytes};
+ghost use Rattle.std.specs.Prelude.{◌≡◌, ◌++◌, IfOk, OnOk, codes, flat_map, fold, map, string_bytes};
 ghost use Rattle.kr_ast.specs.Arena.{root};
-ghost use Rattle.kr_classes_table.specs.Table.{headings_of, number_of};
+ghost use Rattle.kr_classes_table.specs.Table.{headings_of};
 ghost use Rattle.kr_classes_names.specs.Shown.{AreHeads};
-ghost use Rattle.kr_space_meaning.specs.Names.{array_type as array_type_of};
 ghost use Rattle.kr_space_meaning.specs.Order.{break_if, lesser};
-ghost use Rattle.kr_space_meaning.specs.Faults.{arrays_unknown, objects_unknown};
-ghost use Rattle.kr_classes_types.specs.Types.{Extends};
+ghost use Rattle.kr_space_meaning.specs.Faults.{arrays_unknown, objects_unknown, root_unknown};
+ghost use Rattle.kr_classes_names.specs.Types.{Extends};
 
+use crate::meaning::{class_of, names_domains};
 use crate::written::array_type;
 use kr_ast::Tree;
 use kr_base::NoMemory;
-use kr_classes_names::Heads;
-use kr_classes_types::Types;
-use kr_fin::{ArrayBound, Count, Least};
+use kr_classes_names::{Heads, Types};
+use kr_fin::{ArrayBound, Count, FinDoc, Least};
 use kr_space_meaning::SpaceRule;
 use std::alloc::Global;
 
@@ -26,24 +25,49 @@ pub fn item_of(alloc: Global, table: &str, name: &str) -> Result<String, NoMemor
     Ok(item)
 }
 
-/// The root is a class.
-pub(crate) fn root_name(
-    least: &mut Least<SpaceRule>,
+/// Whether the root is no class, and in version 2 no object domain and no array type.
+fn is_root_unknown(
+    alloc: Global,
+    types: &mut Types,
     trees: &[Tree],
     heads: &Heads,
-    name: &str,
-) -> Result<(), NoMemory>
+    document: &FinDoc,
+) -> Result<bool, NoMemory>
     requires { AreHeads trees.now heads.now }
-    ensures { OnOk result (least.new ≡ fold lesser least.old (break_if (is_none (number_of (headings_of (map root trees.now)) name.now)) SpaceRule.UnknownName (codes "root"))) }
+    ensures is { IfOk result (λ b. b ≡ root_unknown (headings_of (map root trees.now)) document.now) }
+    ensures extends { Extends types.old types.new }
 {
     let _ = trees;
-    match heads.number_of(name.as_bytes()) {
-        Some(_) => Ok(()),
-        None => least.note(SpaceRule::UnknownName, "root"),
+    let root = document.root.as_str().as_bytes();
+    if class_of(heads, document, root).is_some() {
+        return Ok(false);
+    }
+    if !names_domains(document) {
+        return Ok(true);
+    }
+    Ok(array_type(alloc, types, heads, root)?.is_none())
+}
+
+/// The root is a class, or in version 2 an object domain or an array type.
+pub(crate) fn root_name(
+    least: &mut Least<SpaceRule>,
+    types: &mut Types,
+    trees: &[Tree],
+    heads: &Heads,
+    document: &FinDoc,
+) -> Result<(), NoMemory>
+    requires { AreHeads trees.now heads.now }
+    ensures noted { OnOk result (least.new ≡ fold lesser least.old (break_if (root_unknown (headings_of (map root trees.now)) document.now) SpaceRule.UnknownName (codes "root"))) }
+    ensures extends { Extends types.old types.new }
+{
+    if is_root_unknown(least.alloc(), types, trees, heads, document)? {
+        least.note(SpaceRule::UnknownName, "root")
+    } else {
+        Ok(())
     }
 }
 
-/// Each name that has objects is a class's.
+/// The class of each object domain is one.
 pub(crate) fn object_names(
     least: &mut Least<SpaceRule>,
     trees: &[Tree],
@@ -55,7 +79,7 @@ pub(crate) fn object_names(
 {
     let _ = trees;
     for count in counts {
-        if heads.number_of(count.name.as_str().as_bytes()).is_none() {
+        if heads.number_of(count.class.as_str().as_bytes()).is_none() {
             let item = item_of(least.alloc(), "objects.", count.name.as_str())?;
             least.note(SpaceRule::UnknownName, item.as_str())?;
         }

@@ -1,4 +1,4 @@
-// What a type's text is made of.
+// The parts of a type's text.
 ghost use Rattle.std.specs.Prelude.{◌≡◌, ◌≤◌, ◌+◌, IsTrue, MatchOption, length};
 ghost use Rattle.kr_space_meaning.specs.Names as names;
 ghost use Rattle.kr_space_names.specs.Texts.{peeled};

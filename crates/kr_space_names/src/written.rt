@@ -1,18 +1,17 @@
 // Which type a text means.
-ghost use Rattle.std.specs.Prelude.{◌≡◌, IfOk, List, Option, length, map};
+ghost use Rattle.std.specs.Prelude.{IfOk, List, Option, length, map};
 ghost use Rattle.kr_ast.specs.Arena.{Arena, root};
 ghost use Rattle.kr_classes_table.specs.Table.{headings_of};
 ghost use Rattle.kr_classes_table.specs.Types.{JavaType};
 ghost use Rattle.kr_classes_names.specs.Shown.{AreHeads};
 ghost use Rattle.kr_space_meaning.specs.Names.{array_or_none, array_type as array_type_of, type_within, word_type};
-ghost use Rattle.kr_classes_types.specs.Types.{Extends};
+ghost use Rattle.kr_classes_names.specs.Types.{Extends};
 ghost use Rattle.kr_space_names.specs.Texts.{Stands};
 
 use crate::peeling::peel;
 use crate::wrapping::{Wrapping, wrap_all};
 use kr_base::NoMemory;
-use kr_classes_names::Heads;
-use kr_classes_types::{TypeForm, Types};
+use kr_classes_names::{Heads, TypeForm, Types};
 use std::alloc::Global;
 
 /// The number of `int`, `boolean` or a class.

@@ -1,1 +1,2 @@
 pub mod Posed
+pub mod Subjects

@@ -1,11 +1,11 @@
 -- Bounded array types stay as types are added.
-use Rattle.std.proofs.Common.{◌≡◌, ℕ, suc, ◌+◌, ◌<◌, List, [], ◌∷◌, ◌++◌, length, map, get_or, take, Option, All, refl, ap, subst, ◌∙◌, arith}
-use Rattle.std.specs.Prelude.{IfSome, option_map, option_to_list, flat_map}
+use Rattle.std.proofs.Common.{◌≡◌, ℕ, suc, ◌+◌, ◌<◌, List, [], ◌∷◌, ◌++◌, length, map, get_or, take, Option, All, refl, ap, ◌∙◌, arith}
+use Rattle.std.specs.Prelude.{IfSome, option_map, option_to_list}
 use Rattle.kr_classes_table.specs.Types.{JavaType}
 use Rattle.kr_classes_table.specs.Table.{Heading}
 use Rattle.kr_fin.specs.declared.document.ArrayBound.{ArrayBound}
 use Rattle.kr_base.proofs.Added.{found_shown, found_stands}
-use Rattle.kr_classes_types.specs.Types.{TypeList, Extends, count}
+use Rattle.kr_classes_names.specs.Types.{TypeList, Extends, count}
 use Rattle.kr_space_meaning.specs.Bounds.{bounded}
 use Rattle.kr_space_rules.specs.declared.bounds.Bound.{Bound}
 use Rattle.kr_space_rules.specs.Entries.{AreBounds, IsBound, bound_in, bound_shown, no_bound}

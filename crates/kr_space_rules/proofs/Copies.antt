@@ -1,6 +1,6 @@
--- Numbers that stand twice among those of some spans.
-use Rattle.std.proofs.Common.{◌≡◌, ℕ, zero, suc, ◌+◌, ◌-◌, ◌*◌, ◌<◌, ◌≤◌, ◌==◌, ◌⊎◌, inl, inr, Bool, true, false, cond, nat_lt, List, [], ◌∷◌, ◌++◌, length, get_or, refl, sym, ap, subst, ◌∙◌, arith}
-use Rattle.std.specs.Prelude.{◌||◌, flat_map}
+-- Numbers that occur twice among those of some spans.
+use Rattle.std.proofs.Common.{◌≡◌, ℕ, zero, suc, ◌+◌, ◌-◌, ◌<◌, ◌≤◌, ◌==◌, inl, inr, Bool, true, false, cond, nat_lt, List, [], ◌∷◌, ◌++◌, length, get_or, refl, sym, ap, subst, ◌∙◌, arith}
+use Rattle.std.specs.Prelude.{◌||◌}
 use Rattle.std.specs.List.{AllByRecursion, list_any, range_with_len, sum_by}
 use Rattle.std.specs.List.Sorted.{IsNonDecreasingBy, IsPermutation}
 use Rattle.std.proofs.lemmas.Bool.{cases_lt, cases_order, cases_eq, eq-eqb, ne_eqb, eqb-true, eqb-false, lt-ltb, le-ltb, ltb-true, ltb-false, or_cases, or_parts, true_from_ne_false, cases_Bool}
@@ -9,7 +9,7 @@ use Rattle.std.proofs.lemmas.List.Sorted.{sum_by-IsPermutation}
 use Rattle.kr_space_rules.specs.declared.spans.Span.{Span}
 use Rattle.kr_space_rules.specs.Spans.{covered, meet}
 
--- ---- how often a number stands in a list
+-- ---- how often a number occurs in a list
 
 abbrev one : Bool → ℕ
 one b = cond b 1 0
@@ -180,7 +180,7 @@ apart p (s ∷ ss) r e z =
 abbrev nothing : Span
 nothing = record { start = 0; count = 0 }
 
--- spans in order meet where a number stands twice among those of the spans, in any order
+-- sorted spans meet where a number occurs twice among those of the spans, in any order
 pub meet_is : (spans sorted : List Span) → IsPermutation spans sorted → IsNonDecreasingBy (λ (s : Span). s.start) sorted → Some sorted → meet (record { start = 0; count = 0 }) sorted ≡ has_copy (covered spans)
 meet_is spans sorted p o f = elim (cases_Bool (meet nothing sorted)) [
   | inl meets ↦ meets ∙ sym (true_from_ne_false (has_copy (covered spans)) (λ clear. twice meets clear))

@@ -5,5 +5,6 @@ pub mod Copies
 pub mod Same
 pub mod TwiceIs
 pub mod Numbers
+pub mod ObjectLists
 pub mod Bounded
 pub mod EntryLists

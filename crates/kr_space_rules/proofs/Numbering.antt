@@ -1,12 +1,11 @@
 -- The numbers of values: those of a stretch follow each other.
-use Rattle.std.proofs.Common.{◌≡◌, ℕ, zero, suc, ◌+◌, ◌-◌, ◌<◌, List, [], ◌∷◌, ◌++◌, length, refl, sym, ap, ◌∙◌, arith}
-use Rattle.std.specs.Prelude.{ℤ, pos, negsuc, ◌+ℤ◌, map, flat_map}
+use Rattle.std.proofs.Common.{◌≡◌, ℕ, zero, suc, ◌+◌, ◌-◌, ◌<◌, List, [], ◌∷◌, ◌++◌, refl, sym, ap, ◌∙◌, arith}
+use Rattle.std.specs.Prelude.{ℤ, pos, negsuc, ◌+ℤ◌, map}
 use Rattle.std.specs.List.{AllByRecursion, range_with_len}
 use Rattle.std.proofs.lemmas.Int.{ints}
 use Rattle.std.proofs.lemmas.List.{append-nil}
 use Rattle.std.proofs.lemmas.List.Concat.{flat_map-append}
 use Rattle.kr_space_rules.specs.declared.spans.Span.{Span}
-use Rattle.kr_mean.specs.Problem.{Choice}
 use Rattle.kr_space_layout.specs.declared.stretch.Block.{Block}
 use Rattle.kr_space_layout.specs.declared.stretch.Stretch.{Stretch}
 use Rattle.kr_space_layout.specs.declared.stretch.Stretch.TheVariants.{Plain, Integers, Objects}
@@ -46,7 +45,7 @@ choices_numbered (Plain v) h = refl
 choices_numbered (Integers from to) h = integers_numbered from (width_between from to) h
 choices_numbered (Objects b) h = objects_numbered b 0 b.count (b.first + 3) (omega arith)
 
--- ---- each choice of a stretch is told by its number
+-- ---- each choice of a stretch is determined by its number
 
 integers_told : (z : ℤ) (n : ℕ) → IsHigh z → AllByRecursion (λ c. IsTold c.value) (map integer_choice (integers_from z n))
 integers_told z zero h = tt

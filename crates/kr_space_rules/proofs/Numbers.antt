@@ -1,5 +1,5 @@
--- Counts that stand still at the last number, and the rules on them.
-use Rattle.std.proofs.Common.{◌≡◌, ℕ, zero, suc, ◌+◌, ◌-◌, ◌^◌, ◌<◌, ◌≤◌, ◌==◌, inl, inr, Bool, nat_lt, List, [], ◌∷◌, ◌++◌, length, map, get_or, Option, fold, min, refl, sym, ap, ◌∙◌, drop, arith}
+-- Counts that saturate at the last number, and the rules on them.
+use Rattle.std.proofs.Common.{◌≡◌, ℕ, ◌+◌, ◌-◌, ◌^◌, ◌<◌, ◌==◌, inl, inr, nat_lt, List, ◌++◌, length, map, get_or, Option, fold, min, sym, ap, ◌∙◌, drop, arith}
 use Rattle.std.proofs.lemmas.Bool.{cases_lt, cases_eq, eq-eqb, ne_eqb, lt-ltb, le-ltb}
 use Rattle.std.proofs.lemmas.List.{drop_more, length-append}
 use Rattle.std.proofs.lemmas.List.Sums.{fold-append}

@@ -1,11 +1,10 @@
 -- Values are the same where their numbers are.
-use Rattle.std.proofs.Common.{◌≡◌, ℕ, zero, suc, ◌+◌, ◌-◌, ◌<◌, ◌==◌, Bool, true, false, List, [], ◌∷◌, ◌++◌, length, map, refl, sym, ap, ◌∙◌, All, arith}
+use Rattle.std.proofs.Common.{◌≡◌, ℕ, ◌+◌, ◌-◌, ◌<◌, ◌==◌, Bool, true, false, List, [], ◌∷◌, refl, sym, ap, ◌∙◌, arith}
 use Rattle.std.specs.Prelude.{ℤ, pos, negsuc, ◌||◌, nat_eq}
 use Rattle.std.specs.Ordering.{int_eq}
 use Rattle.std.specs.List.{AllByRecursion, list_any}
 use Rattle.std.proofs.lemmas.Bool.{ne_eqb}
 use Rattle.std.proofs.lemmas.Bool.Decides.{Decides-int_eq, Decides-eqb, Decides-like, same_from_decides}
-use Rattle.std.proofs.lemmas.List.{map-append}
 use Rattle.kr_value.specs.declared.value.Value.{Value}
 use Rattle.kr_value.specs.declared.value.Value.TheVariants.{Int, Bool as Truth, Null, Ref as Reference}
 use Rattle.kr_mean.specs.Problem.{Choice}
@@ -24,7 +23,7 @@ integers_same : (a b : ℤ) → IsHigh a → IsHigh b → int_eq a b ≡ (shifte
 integers_same a b h k = same_from_decides (int_eq a b) (shifted a == shifted b) (Decides-int_eq a b)
     (Decides-like (shifted a == shifted b) (same_integer a b h k) (λ e. ap shifted e) (Decides-eqb (shifted a) (shifted b)))
 
--- an integer's number is behind all others
+-- an integer's number is above all others
 behind : (z : ℤ) (n : ℕ) → IsHigh z → n < 4294967299 → n ≡ shifted z → ⊥
 behind (pos m) n h l e = absurd (omega (arith, l, e))
 behind (negsuc m) n h l e = absurd (omega (arith, h, l, e))

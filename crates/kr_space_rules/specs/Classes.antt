@@ -6,8 +6,8 @@ use Rattle.kr_classes_table.specs.Table.{Table}
 use Rattle.kr_classes_names.specs.Shown.{AreHeads}
 use Rattle.kr_classes_members.specs.Shown.{table_in}
 use Rattle.kr_classes_members.specs.Kept.{AreMembers}
-use Rattle.kr_classes_types.specs.Types.{TypeList}
-use Rattle.kr_classes_types.specs.Numbers.{AreNodeTypes}
+use Rattle.kr_classes_names.specs.Types.{TypeList}
+use Rattle.kr_classes_names.specs.Numbers.{AreNodeTypes}
 use Rattle.kr_space_rules.specs.declared.classes.Classes.{Classes}
 
 -- the files, and their class table

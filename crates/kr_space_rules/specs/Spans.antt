@@ -8,7 +8,7 @@ use Rattle.kr_space_layout.specs.declared.stretch.Stretch.{Stretch}
 use Rattle.kr_space_layout.specs.declared.stretch.Stretch.TheVariants.{Plain, Integers, Objects}
 use Rattle.kr_space_rules.specs.declared.spans.Span.{Span}
 
--- an integer, counted from the least one of 32 bits on, behind the numbers of all other values
+-- an integer, counted from the least one of 32 bits on, after the numbers of all other values
 abbrev pub shifted : ℤ → ℕ
 shifted (pos n) = n + 6442450947
 shifted (negsuc n) = 6442450946 - n
@@ -38,7 +38,7 @@ abbrev pub IsHigh : ℤ → Type 0
 IsHigh (pos n) = Unit {0}
 IsHigh (negsuc n) = n < 2147483648
 
--- a value whose number tells it
+-- a value that is determined by its number
 abbrev pub IsTold : Value → Type 0
 IsTold (Int z) = IsHigh z
 IsTold (Reference n) = n < 4294967296

@@ -1,4 +1,4 @@
--- Between crates: widths as the code has them, and the types that the keys of a table ask for.
+-- Between crates: widths as the code has them, and the types that the keys of a table require.
 use Rattle.std.specs.Prelude.{ℕ, List, Option}
 use Rattle.kr_classes_table.specs.Types.{JavaType}
 use Rattle.kr_classes_table.specs.Numbers as numbers

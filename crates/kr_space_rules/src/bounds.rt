@@ -4,15 +4,13 @@ ghost use Rattle.std.proofs.Common.{get_or};
 ghost use Rattle.kr_ast.specs.Arena.{root};
 ghost use Rattle.kr_classes_table.specs.Table.{headings_of};
 ghost use Rattle.kr_classes_names.specs.Shown.{AreHeads};
-ghost use Rattle.kr_classes_types.specs.Types.{Extends, count, type_at};
-ghost use Rattle.kr_space_meaning.specs.Bounds.{array_domain, bounded};
-ghost use Rattle.kr_mean.specs.Problem.{Objects};
+ghost use Rattle.kr_classes_names.specs.Types.{Extends, count, type_at};
+ghost use Rattle.kr_space_meaning.specs.Bounds.{bound_number, bounded};
 ghost use Rattle.kr_space_rules.specs.Entries.{AreBounds, IsBound, bound_in, bound_shown, no_bound};
 
 use kr_ast::Tree;
 use kr_base::{NoMemory, add_found};
-use kr_classes_names::Heads;
-use kr_classes_types::Types;
+use kr_classes_names::{Heads, Types};
 use kr_fin::ArrayBound;
 use kr_space_names::array_type;
 use std::alloc::Global;
@@ -24,7 +22,7 @@ pub struct Bound {
     pub at: u32,
 }
 
-/// What the document bounds at a place, if it is an array type.
+/// The document's bounds at a place, if it is an array type.
 fn bound_at(
     alloc: Global,
     types: &mut Types,
@@ -70,23 +68,23 @@ pub fn bounds_of(
     Ok(bounds)
 }
 
-/// The class domain of an array type, where it has one; those of array types stand behind those of classes.
-pub(crate) fn array_domain_of(
+/// The number of the domain of an array type, where it has one: it is after all object domains of classes.
+pub fn array_domain_of(
     types: &Types,
-    classes: u32,
+    objects: u32,
     bounds: &[Bound],
     all: &[ArrayBound],
     number: u32,
 ) -> Option<u32>
     requires number { number < count types.now }
-    requires few { classes + length bounds.now < 2 ^ 32 }
+    requires few { objects + length bounds.now < 2 ^ 32 }
     requires bounds { All (IsBound types.now all.now) bounds.now }
-    ensures { option_to_list (option_map Objects result) ≡ array_domain classes (map (bound_shown types.now all.now) bounds.now) (type_at types.now number) }
+    ensures { result ≡ bound_number objects (map (bound_shown types.now all.now) bounds.now) (type_at types.now number) }
 {
     let _ = all;
     for (at, bound) in bounds.iter().enumerate() {
         if types.is_same(bound.number, number) {
-            return Some(classes + at as u32);
+            return Some(objects + at as u32);
         }
     }
     None

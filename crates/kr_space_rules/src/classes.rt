@@ -1,9 +1,8 @@
-// The classes of a program, as rules ask of them.
+// The classes of a program, as rules need them.
 
 use kr_ast::Tree;
 use kr_classes_members::Members;
-use kr_classes_names::Heads;
-use kr_classes_types::NodeTypes;
+use kr_classes_names::{Heads, NodeTypes};
 
 /// The files of a program with what is known of their classes: what names mean, the members, and the types that nodes name.
 #[derive(Drop)]

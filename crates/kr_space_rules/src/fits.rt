@@ -2,7 +2,7 @@
 ghost use Rattle.std.specs.Prelude.{◌≡◌, ◌<◌, IfOk};
 ghost use Rattle.kr_classes_table.specs.Types.{ClassType, JavaType};
 ghost use Rattle.kr_classes_table.specs.Table as table;
-ghost use Rattle.kr_classes_types.specs.Types.{Extends, IsTypeNumber, count, type_at};
+ghost use Rattle.kr_classes_names.specs.Types.{Extends, IsTypeNumber, count, type_at};
 ghost use Rattle.kr_space_meaning.specs.Names.{Meant};
 ghost use Rattle.kr_space_meaning.specs.Faults.{fits, meant_fits as meant_fits_in};
 ghost use Rattle.kr_space_names.specs.Meanings.{IsMeaning};
@@ -10,8 +10,8 @@ ghost use Rattle.kr_space_rules.specs.Classes.{AreClasses, table_of};
 
 use crate::classes::Classes;
 use kr_base::NoMemory;
-use kr_classes_types::{TypeForm, Types};
-use kr_fin::Item;
+use kr_classes_names::{TypeForm, Types};
+use kr_fin::{FinDoc, Item};
 use kr_space_names::{Meaning, meaning_of};
 use kr_types_judging::is_assignable;
 use std::alloc::Global;
@@ -28,7 +28,7 @@ fn class_fits(classes: &Classes, types: &Types, number: u32, class: u32) -> bool
     }
 }
 
-/// Whether what a name stands for fits a type.
+/// Whether the meaning of a name fits a type.
 fn meant_fits(classes: &Classes, types: &Types, number: u32, meaning: Meaning) -> bool
     requires classes { AreClasses classes.now }
     requires number { number < count types.now }
@@ -49,12 +49,13 @@ pub(crate) fn item_fits(
     alloc: Global,
     classes: &Classes,
     types: &mut Types,
+    document: &FinDoc,
     number: u32,
     item: &Item,
 ) -> Result<bool, NoMemory>
     requires classes { AreClasses classes.now }
     requires number { number < count types.old }
-    ensures is { IfOk result (λ b. (t : JavaType) → IsTypeNumber types.old number t → b ≡ fits (table_of classes.now) t item.now) }
+    ensures is { IfOk result (λ b. (t : JavaType) → IsTypeNumber types.old number t → b ≡ fits (table_of classes.now) document.now t item.now) }
     ensures extends { Extends types.old types.new }
 {
     match item {
@@ -62,7 +63,8 @@ pub(crate) fn item_fits(
         Item::Range(from, to) => Ok(*from > *to || types.is_same(number, types.int())),
         Item::Truth(_) => Ok(types.is_same(number, types.boolean())),
         Item::Name(name) => {
-            let meaning = meaning_of(alloc, types, classes.heads, name.as_str().as_bytes())?;
+            let name = name.as_str().as_bytes();
+            let meaning = meaning_of(alloc, types, classes.heads, document, name)?;
             Ok(meant_fits(classes, &*types, number, meaning))
         }
     }

@@ -1,8 +1,8 @@
-// The types of the values that keys of domains ask for.
-ghost use Rattle.std.specs.Prelude.{◌≡◌, All, IfOk, Option, bytes_eq, find, map, option_map};
+// The types of the values that keys of domains require.
+ghost use Rattle.std.specs.Prelude.{All, IfOk, Option, bytes_eq, find, map, option_map};
 ghost use Rattle.kr_classes_table.specs.Types.{JavaType};
 ghost use Rattle.kr_classes_members.specs.Shown.{field_shown};
-ghost use Rattle.kr_classes_types.specs.Types.{Extends};
+ghost use Rattle.kr_classes_names.specs.Types.{Extends};
 ghost use Rattle.kr_space_names.specs.Texts.{Stands};
 ghost use Rattle.kr_space_meaning.specs.Keys as spec;
 ghost use Rattle.kr_space_rules.specs.Classes.{AreClasses, AreTyped, table_of};
@@ -13,7 +13,7 @@ use crate::parameters::{Parameter, parameters_of};
 use kr_ast::tree_of;
 use kr_base::NoMemory;
 use kr_classes_members::Field;
-use kr_classes_types::{TypeForm, Types};
+use kr_classes_names::{TypeForm, Types};
 use kr_space_names::{array_type, is_elements, name_part, owner_part};
 use std::alloc::Global;
 
@@ -67,7 +67,7 @@ fn own_field_type(classes: &Classes, types: &Types, name: &[u8], class: Option<u
     }
 }
 
-/// The number of the type that a key of `fields` asks for.
+/// The number of the type that a key of `fields` requires.
 #[tactic(auto, unfolding(kr_classes_table::specs::Table::table_of))]
 pub(crate) fn field_type(
     alloc: Global,
@@ -109,7 +109,7 @@ fn type_among(
     None
 }
 
-/// The number of the type that a key of `params` asks for.
+/// The number of the type that a key of `params` requires.
 pub(crate) fn parameter_type(
     alloc: Global,
     classes: &Classes,

@@ -10,7 +10,7 @@ use crate::classes::Classes;
 use crate::parameters::{method_at, parameters_of_method};
 use kr_base::NoMemory;
 use kr_classes_members::Method;
-use kr_classes_types::Types;
+use kr_classes_names::Types;
 use kr_fin::Least;
 use kr_space_meaning::SpaceRule;
 use std::alloc::Global;
@@ -64,7 +64,7 @@ pub fn note_predicate(
     }
 }
 
-/// S8: the root has an instance method of the name asked for.
+/// S8: the root has an instance method of the given name.
 pub fn note_method(
     least: &mut Least<SpaceRule>,
     classes: &Classes,

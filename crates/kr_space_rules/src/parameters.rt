@@ -4,7 +4,7 @@ ghost use Rattle.kr_ast.specs.Arena.{tree_in};
 ghost use Rattle.kr_classes_table.specs.Table.{parameter_in};
 ghost use Rattle.kr_ast.specs.Files.{file_at};
 ghost use Rattle.kr_classes_members.specs.Shown.{IsMethod, headings_in, method_shown};
-ghost use Rattle.kr_space_meaning.specs.Keys.{method_at as method_of, parameters_of as parameters_in};
+ghost use Rattle.kr_space_meaning.specs.Keys.{instance_alone, method_at as method_of, parameters_of as parameters_in};
 ghost use Rattle.kr_space_rules.specs.Classes.{AreClasses, table_of};
 ghost use Rattle.kr_space_rules.specs.Parameters.{IsParameter, parameter_shown};
 
@@ -90,7 +90,7 @@ pub(crate) fn parameters_of_method(
 }
 
 /// The parameters of the method of a name that a class has, in order; none where there is no such method.
-pub fn parameters_of(
+pub(crate) fn parameters_of(
     alloc: Global,
     classes: &Classes,
     class: Option<u32>,
@@ -104,4 +104,25 @@ pub fn parameters_of(
         None => Ok(Vec::new(alloc)),
         Some(method) => parameters_of_method(alloc, classes.trees, method),
     }
+}
+
+/// The parameters of the instance method of a name that a class has, in order; none where there is no such method, or a
+/// static one.
+pub fn instance_parameters(
+    alloc: Global,
+    classes: &Classes,
+    class: Option<u32>,
+    name: &[u8],
+) -> Result<Vec<Parameter>, NoMemory>
+    requires { AreClasses classes.now }
+    ensures stand { IfOk result (λ found. All (IsParameter classes.now.trees.now) found.items) }
+    ensures shown { IfOk result (λ found. map (parameter_shown classes.now.trees.now) found.items ≡ parameters_in (instance_alone (method_of (table_of classes.now) class name.now))) }
+{
+    let Some(method) = method_at(classes, class, name) else {
+        return Ok(Vec::new(alloc));
+    };
+    if method.is_static {
+        return Ok(Vec::new(alloc));
+    }
+    parameters_of_method(alloc, classes.trees, method)
 }

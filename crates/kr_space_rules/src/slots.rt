@@ -1,6 +1,6 @@
 // Rule S9: each domain is a field's, elements' or a parameter's.
 ghost use Rattle.std.specs.Prelude.{◌≡◌, IfOk, OnOk, fold};
-ghost use Rattle.kr_classes_types.specs.Types.{Extends};
+ghost use Rattle.kr_classes_names.specs.Types.{Extends};
 ghost use Rattle.kr_space_meaning.specs.Faults.{is_no_field as is_no_field_in, no_fields, no_params};
 ghost use Rattle.kr_space_meaning.specs.Order.{lesser};
 ghost use Rattle.kr_space_rules.specs.Classes.{AreClasses, AreTyped, table_of};
@@ -8,7 +8,7 @@ ghost use Rattle.kr_space_rules.specs.Classes.{AreClasses, AreTyped, table_of};
 use crate::classes::Classes;
 use crate::key_types::{field_type, parameter_type};
 use kr_base::NoMemory;
-use kr_classes_types::Types;
+use kr_classes_names::Types;
 use kr_fin::{Least, NamedDomain};
 use kr_space_meaning::SpaceRule;
 use kr_space_names::{has_no_owner, item_of};

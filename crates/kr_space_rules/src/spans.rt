@@ -1,6 +1,6 @@
 // The values of stretches as numbers that follow each other.
 ghost use Rattle.std.specs.Prelude.{◌≡◌, ◌<◌, ◌++◌, All, IfOk, OnOk, map};
-ghost use Rattle.kr_space_layout.specs.Stretches.{Fits, IsNumbered, all_choices, choices_of, count_of, stretch_of};
+ghost use Rattle.kr_space_layout.specs.Stretches.{Fits, IsNumbered, all_choices, choices_of, stretch_of};
 ghost use Rattle.kr_space_rules.specs.Spans.{AreTold, covered, number_of as number_in, numbers_of, shifted as shifted_to, start_of as first_number};
 
 use kr_base::NoMemory;

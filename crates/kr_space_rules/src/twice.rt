@@ -32,7 +32,7 @@ fn spans_meet(spans: &[Span]) -> bool
     false
 }
 
-/// Whether a value stands twice among these entries, where these are the objects of the class domains.
+/// Whether a value occurs twice among these entries, where these are the objects of the class domains.
 pub fn has_twice(alloc: Global, items: &[DomainEntry], blocks: &[Block]) -> Result<bool, NoMemory>
     requires { All IsNumbered blocks.now }
     ensures { IfOk result (λ b. b ≡ has_twice_in (all_choices (map (stretch_of blocks.now) items.now))) }

@@ -1,7 +1,7 @@
 // Rule S4: values fit the types of their slots.
 ghost use Rattle.std.specs.Prelude.{◌≡◌, ◌<◌, IfOk, OnOk, Option, fold, not};
 ghost use Rattle.kr_classes_table.specs.Types.{JavaType};
-ghost use Rattle.kr_classes_types.specs.Types.{Extends, IsTypeNumber, count};
+ghost use Rattle.kr_classes_names.specs.Types.{Extends, IsTypeNumber, count};
 ghost use Rattle.std.specs.List.{list_any};
 ghost use Rattle.kr_space_names.specs.Texts.{Stands};
 ghost use Rattle.kr_space_meaning.specs.Faults.{fields_unfit, fits, is_unfit as is_unfit_in, params_unfit};
@@ -12,8 +12,8 @@ use crate::classes::Classes;
 use crate::fits::item_fits;
 use crate::key_types::{field_type, parameter_type};
 use kr_base::NoMemory;
-use kr_classes_types::Types;
-use kr_fin::{Item, Least, NamedDomain};
+use kr_classes_names::Types;
+use kr_fin::{FinDoc, Item, Least, NamedDomain};
 use kr_space_meaning::SpaceRule;
 use kr_space_names::item_of;
 use std::alloc::Global;
@@ -23,16 +23,17 @@ fn has_unfit(
     alloc: Global,
     classes: &Classes,
     types: &mut Types,
+    document: &FinDoc,
     number: u32,
     items: &[Item],
 ) -> Result<bool, NoMemory>
     requires classes { AreClasses classes.now }
     requires number { number < count types.old }
-    ensures is { IfOk result (λ b. (t : JavaType) → IsTypeNumber types.old number t → b ≡ list_any (λ i. not (fits (table_of classes.now) t i)) items.now) }
+    ensures is { IfOk result (λ b. (t : JavaType) → IsTypeNumber types.old number t → b ≡ list_any (λ i. not (fits (table_of classes.now) document.now t i)) items.now) }
     ensures extends { Extends types.old types.new }
 {
     for item in items {
-        if !item_fits(alloc, classes, types, number, item)? {
+        if !item_fits(alloc, classes, types, document, number, item)? {
             return Ok(true);
         }
     }
@@ -44,17 +45,18 @@ fn is_unfit(
     alloc: Global,
     classes: &Classes,
     types: &mut Types,
+    document: &FinDoc,
     found: Option<u32>,
     items: &[Item],
 ) -> Result<bool, NoMemory>
     requires classes { AreClasses classes.now }
     requires found { (t : Option JavaType) × Stands types.old found t }
-    ensures is { IfOk result (λ b. (t : Option JavaType) → Stands types.old found t → b ≡ is_unfit_in (table_of classes.now) t items.now) }
+    ensures is { IfOk result (λ b. (t : Option JavaType) → Stands types.old found t → b ≡ is_unfit_in (table_of classes.now) document.now t items.now) }
     ensures extends { Extends types.old types.new }
 {
     match found {
         None => Ok(false),
-        Some(number) => has_unfit(alloc, classes, types, number, items),
+        Some(number) => has_unfit(alloc, classes, types, document, number, items),
     }
 }
 
@@ -64,11 +66,12 @@ fn note_fields(
     least: &mut Least<SpaceRule>,
     classes: &Classes,
     types: &mut Types,
+    document: &FinDoc,
     domains: &[NamedDomain],
 ) -> Result<(), NoMemory>
     requires classes { AreClasses classes.now }
     requires typed { AreTyped classes.now types.old }
-    ensures noted { OnOk result (least.new ≡ fold lesser least.old (fields_unfit (table_of classes.now) domains.now)) }
+    ensures noted { OnOk result (least.new ≡ fold lesser least.old (fields_unfit (table_of classes.now) document.now domains.now)) }
     ensures extends { Extends types.old types.new }
 {
     for domain in domains {
@@ -82,6 +85,7 @@ fn note_fields(
             least.alloc(),
             classes,
             types,
+            document,
             found,
             domain.domain.as_slice(),
         )? {
@@ -98,12 +102,13 @@ fn note_params(
     least: &mut Least<SpaceRule>,
     classes: &Classes,
     types: &mut Types,
+    document: &FinDoc,
     root: Option<u32>,
     domains: &[NamedDomain],
 ) -> Result<(), NoMemory>
     requires classes { AreClasses classes.now }
     requires typed { AreTyped classes.now types.old }
-    ensures noted { OnOk result (least.new ≡ fold lesser least.old (params_unfit (table_of classes.now) root domains.now)) }
+    ensures noted { OnOk result (least.new ≡ fold lesser least.old (params_unfit (table_of classes.now) document.now root domains.now)) }
     ensures extends { Extends types.old types.new }
 {
     for domain in domains {
@@ -113,6 +118,7 @@ fn note_params(
             least.alloc(),
             classes,
             types,
+            document,
             found,
             domain.domain.as_slice(),
         )? {
@@ -123,21 +129,21 @@ fn note_params(
     Ok(())
 }
 
-/// S4: the values of each domain fit the type that its key asks for, where it asks for one.
+/// S4: the values of each domain fit the type that its key requires, where it requires one.
 #[tactic(auto, using(kr_space_names::proofs::Growing::node_types_kept))]
 pub fn note_unfit(
     least: &mut Least<SpaceRule>,
     classes: &Classes,
     types: &mut Types,
+    document: &FinDoc,
     root: Option<u32>,
-    fields: &[NamedDomain],
-    params: &[NamedDomain],
 ) -> Result<(), NoMemory>
     requires classes { AreClasses classes.now }
     requires typed { AreTyped classes.now types.old }
-    ensures noted { OnOk result (least.new ≡ fold lesser (fold lesser least.old (fields_unfit (table_of classes.now) fields.now)) (params_unfit (table_of classes.now) root params.now)) }
+    ensures noted { OnOk result (least.new ≡ fold lesser (fold lesser least.old (fields_unfit (table_of classes.now) document.now document.now.fields)) (params_unfit (table_of classes.now) document.now root document.now.params)) }
     ensures extends { Extends types.old types.new }
 {
-    note_fields(least, classes, types, fields)?;
-    note_params(least, classes, types, root, params)
+    note_fields(least, classes, types, document, document.fields.as_slice())?;
+    let params = document.params.as_slice();
+    note_params(least, classes, types, document, root, params)
 }

@@ -1,7 +1,7 @@
-// The widths of the numbers of domains, by the types that their keys ask for.
+// The widths of the numbers of domains, by the types that their keys require.
 ghost use Rattle.std.specs.Prelude.{◌≡◌, IfOk, Option};
 ghost use Rattle.kr_classes_table.specs.Types.{JavaType};
-ghost use Rattle.kr_classes_types.specs.Types.{Extends};
+ghost use Rattle.kr_classes_names.specs.Types.{Extends};
 ghost use Rattle.kr_space_names.specs.Texts.{Stands};
 ghost use Rattle.kr_space_meaning.specs.Bounds.{setting_of, width_for as width_of_type};
 ghost use Rattle.kr_space_rules.specs.Classes.{AreClasses, AreTyped, files_of};
@@ -10,8 +10,9 @@ ghost use Rattle.kr_space_rules.specs.Widths.{asked, width_shown};
 use crate::classes::Classes;
 use crate::key_types::{field_type, parameter_type};
 use kr_base::NoMemory;
-use kr_classes_types::Types;
+use kr_classes_names::Types;
 use kr_fin::FinDoc;
+use kr_space_names::class_of;
 use std::alloc::Global;
 
 /// How many bits whole numbers have.
@@ -37,7 +38,7 @@ fn width_for(types: &Types, found: Option<u32>) -> Width
     Width::Bits32
 }
 
-/// The number of the type that a key asks for, if it asks for one.
+/// The number of the type that a key requires, if it requires one.
 #[tactic(auto, unfolding(kr_space_meaning::specs::Bounds::setting_of, kr_classes_table::specs::Table::table_of))]
 fn type_asked(
     alloc: Global,
@@ -55,7 +56,7 @@ fn type_asked(
     match keyed {
         Keyed::Field => field_type(alloc, classes, types, key),
         Keyed::Parameter => {
-            let root = classes.heads.number_of(document.root.as_str().as_bytes());
+            let root = class_of(classes.heads, document, document.root.as_str().as_bytes());
             parameter_type(alloc, classes, &*types, root, key)
         }
     }

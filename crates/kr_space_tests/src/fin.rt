@@ -44,8 +44,14 @@ fn put_domains(out: &mut String, domains: &Listed<NamedDomain>) -> Result<(), Fa
 // The document in one line.
 fn put_document(out: &mut String, document: &FinDoc) -> Result<(), Fail> {
     write!(out, "{} {}", document.root.as_str(), document.fuel)?;
+    if document.version != 1 {
+        write!(out, " v{}", document.version)?;
+    }
     for count in document.objects.as_slice() {
         write!(out, "; {} {}", count.name.as_str(), count.count)?;
+        if count.class.as_str() != count.name.as_str() {
+            write!(out, " {}", count.class.as_str())?;
+        }
     }
     for bound in document.arrays.as_slice() {
         write!(out, "; {} {}", bound.name.as_str(), bound.count)?;
@@ -94,6 +100,12 @@ fn reads(rt: HostRuntime) -> Result<(), Fail> {
             "root='R'\nfuel=7\n[fields]\n'R.f'=[true, 'R', false, 'A', 'R', 5, -2147483648, 2147483647, {to=3,from=9}]",
             "R 7; R.f true R false A R 5 -2147483648 2147483647 9..3",
         ),
+        ("version = 1\nroot='R'\nfuel=7\n[objects]\nR=1", "R 7; R 1"),
+        (
+            "version = 2\nroot='A'\nfuel=7\n[objects]\nX={count=2,class='N'}\nA={class='N',count=1}\n'Größe'={class='a b',count=64}\nint={class='int',count=0}",
+            "A 7 v2; A 1 N; Größe 64 a b; X 2 N; int 0",
+        ),
+        ("version=2\nroot='R'\nfuel=7", "R 7 v2"),
         (
             "root='R'\nfuel=7\n[[fields.'R.f']]\nfrom=1\nto=2\n[[fields.'R.f']]\nto=4\nfrom=3",
             "R 7; R.f 1..2 3..4",
@@ -152,7 +164,11 @@ fn unknown_keys(rt: HostRuntime) {
         "F2",
         [
             ("zed = 1\nalpha = 2", "alpha"),
-            ("root = 'R'\nfuel = 1\nversion = 2", "version"),
+            ("root = 'R'\nfuel = 1\nversions = 2", "versions"),
+            (
+                "version = 2\nroot = 'R'\nfuel = 1\n[objects]\nA = { class = 'N', count = 1, more = 1 }",
+                "objects.A",
+            ),
             (
                 "root = 'R'\nfuel = 1\n'arrays-1' = 1\n[arrays]\nX = { count = 1, lengths = [], more = 1 }",
                 "arrays-1",
@@ -252,6 +268,95 @@ fn wrong_kinds_in_domains(rt: HostRuntime) {
             (
                 "root = 'R'\nfuel = 0\n[fields]\n'R.w' = [{ from = true, to = 2 }]",
                 "fields.R.w",
+            ),
+        ]
+        .as_slice(),
+    );
+    assert_eq!(rt; wrong, None);
+}
+
+// Version 2: each of these breaks one rule.
+#[test]
+fn wrong_domains(rt: HostRuntime) {
+    let wrong = wrong_of(
+        rt.alloc(),
+        "F3",
+        [
+            ("version = '2'\nroot = 'R'\nfuel = 0", "version"),
+            ("version = 2.0\nroot = 'R'\nfuel = 1", "version"),
+            (
+                "version = 2\nroot = 'R'\nfuel = 1\n[objects]\nA = 1",
+                "objects.A",
+            ),
+            (
+                "version = 2\nroot = 'R'\nfuel = 1\n[objects]\nnull = { class = 'N', count = 1 }",
+                "objects.null",
+            ),
+            (
+                "version = 2\nroot = 'R'\nfuel = 1\n[objects]\n1x = { class = 'N', count = 1 }",
+                "objects.1x",
+            ),
+            (
+                "version = 2\nroot = 'R'\nfuel = 1\n[objects]\n'' = { class = 'N', count = 1 }",
+                "objects.",
+            ),
+            (
+                "version = 2\nroot = 'R'\nfuel = 1\n[objects]\n'A#0' = { class = 'N', count = 1 }",
+                "objects.A#0",
+            ),
+            (
+                "version = 2\nroot = 'R'\nfuel = 1\n[objects]\nA = { class = 1, count = 65 }",
+                "objects.A",
+            ),
+            (
+                "root = 'R'\nfuel = 1\n[objects]\nA = { class = 'N', count = 1 }",
+                "objects.A",
+            ),
+            (
+                "version = 3\nroot = 'R'\nfuel = 1\n[objects]\nA = { class = 'N', count = 1 }",
+                "objects.A",
+            ),
+        ]
+        .as_slice(),
+    );
+    assert_eq!(rt; wrong, None);
+}
+
+#[test]
+fn wrong_versions(rt: HostRuntime) {
+    let wrong = wrong_of(
+        rt.alloc(),
+        "F4",
+        [
+            ("version = 0\nroot = 'R'\nfuel = 1", "version"),
+            (
+                "version = 3\nroot = 'R'\nfuel = 1\n[objects]\nA = 1",
+                "version",
+            ),
+            ("version = -2\nroot = 'R'\nfuel = 1", "version"),
+            (
+                "version = 2\nroot = 'R'\nfuel = 1\n[objects]\nA = { class = 'N', count = 65 }",
+                "objects.A",
+            ),
+        ]
+        .as_slice(),
+    );
+    assert_eq!(rt; wrong, None);
+}
+
+#[test]
+fn half_domains(rt: HostRuntime) {
+    let wrong = wrong_of(
+        rt.alloc(),
+        "F5",
+        [
+            (
+                "version = 2\nroot = 'R'\nfuel = 1\n[objects]\nA = { class = 'N' }",
+                "objects.A",
+            ),
+            (
+                "version = 2\nroot = 'R'\nfuel = 1\n[objects]\nA = { count = 1 }",
+                "objects.A",
             ),
         ]
         .as_slice(),

@@ -1,25 +1,25 @@
-// What names mean where there are no classes, and documents with names that nothing has.
+// The meanings of names where there are no classes, and documents with names that nothing has.
 ghost use Rattle.std.specs.Prelude.{[]};
 ghost use Rattle.kr_classes_names.specs.Shown.{AreHeads};
 
 use kr_base::NoMemory;
-use kr_classes_names::Heads;
-use kr_classes_types::Types;
+use kr_classes_names::{Heads, Types};
 use kr_fin::{FinDoc, Least, read_fin};
 use kr_space_meaning::SpaceRule;
 use kr_space_names::{Meaning, array_type, meaning_of, note_names, type_number};
 use std::alloc::Global;
 
-// What a text means: as a type, as an array type, and as a name in a domain.
+// The meaning of a text: as a type, as an array type, and as a name in a domain.
 fn meanings_of(
     alloc: Global,
     types: &mut Types,
     heads: &Heads,
+    document: &FinDoc,
     text: &[u8],
 ) -> Result<(bool, bool, &'static str), NoMemory> {
     let number = type_number(alloc, types, heads, text)?;
     let array = array_type(alloc, types, heads, text)?;
-    let word = match meaning_of(alloc, types, heads, text)? {
+    let word = match meaning_of(alloc, types, heads, document, text)? {
         Meaning::Null => "null",
         Meaning::Objects(_) => "objects",
         Meaning::Arrays(_) => "arrays",
@@ -28,18 +28,23 @@ fn meanings_of(
     Ok((number.is_some(), array.is_some(), word))
 }
 
-// The same among the types that are there at first.
+// Likewise among the types that are there at first.
 fn meanings(
     alloc: Global,
     heads: &Heads,
+    document: &FinDoc,
     text: &str,
 ) -> Result<(bool, bool, &'static str), NoMemory> {
     let mut types = Types::new(alloc)?;
-    meanings_of(alloc, &mut types, heads, text.as_bytes())
+    meanings_of(alloc, &mut types, heads, document, text.as_bytes())
 }
 
 // The first text that doesn't mean what it should, where there are these classes.
-fn wrong_meaning(alloc: Global, heads: &Heads) -> Result<Option<&'static str>, NoMemory> {
+fn wrong_meaning(
+    alloc: Global,
+    heads: &Heads,
+    document: &FinDoc,
+) -> Result<Option<&'static str>, NoMemory> {
     for (text, is_type, is_array, word) in [
         ("int", true, false, "nothing"),
         ("boolean", true, false, "nothing"),
@@ -57,7 +62,7 @@ fn wrong_meaning(alloc: Global, heads: &Heads) -> Result<Option<&'static str>, N
         ("[]", false, false, "nothing"),
         ("", false, false, "nothing"),
     ] {
-        let found = meanings(alloc, heads, text)?;
+        let found = meanings(alloc, heads, document, text)?;
         if found != (is_type, is_array, word) {
             return Ok(Some(text));
         }
@@ -65,10 +70,18 @@ fn wrong_meaning(alloc: Global, heads: &Heads) -> Result<Option<&'static str>, N
     Ok(None)
 }
 
+// The same beside a small document.
+fn wrong_meaning_in(alloc: Global, heads: &Heads) -> Result<Option<&'static str>, NoMemory> {
+    match read_fin(alloc, b"root='R'\nfuel=1".as_slice()) {
+        Err(_) => Ok(Some("no document")),
+        Ok(document) => wrong_meaning(alloc, heads, &document),
+    }
+}
+
 #[test]
 fn names(rt: HostRuntime) -> Result<(), NoMemory> {
     let heads = Heads::read(rt.alloc(), &[])?;
-    let wrong = wrong_meaning(rt.alloc(), &heads)?;
+    let wrong = wrong_meaning_in(rt.alloc(), &heads)?;
     assert_eq!(rt; wrong, None);
     Ok(())
 }
@@ -108,7 +121,7 @@ fn is_unknown_beside(
     is_unknown(alloc, &mut types, heads, document, item)
 }
 
-// The same of a text.
+// Likewise of a text.
 fn is_unknown_in(alloc: Global, heads: &Heads, text: &str, item: &str) -> Result<bool, NoMemory>
     requires { AreHeads [] heads.now }
 {

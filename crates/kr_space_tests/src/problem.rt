@@ -44,7 +44,7 @@ fn class_domain(
     })
 }
 
-// What stands at a slot, if there is one.
+// A slot's place and owner, if there is one.
 fn slot_at(layout: &Layout, slot: u32) -> Option<(SlotPlace, Option<Object>, u32)> {
     if slot < Layout::slots(layout) {
         Some((
@@ -57,7 +57,7 @@ fn slot_at(layout: &Layout, slot: u32) -> Option<(SlotPlace, Option<Object>, u32
     }
 }
 
-// What stands at an index of a slot, if there is such a one.
+// The value at an index of a slot, if there is such a one.
 fn value_at(layout: &Layout, slot: u32, index: u32) -> Option<(Value, Option<Object>)> {
     if slot < Layout::slots(layout) && index < Layout::size(layout, slot) {
         Some((layout.value(slot, index), layout.choice(slot, index).object))
@@ -84,7 +84,7 @@ fn object_at(layout: &Layout, object: Object) -> Option<(u32, u32)> {
     }
 }
 
-// What there is of a class domain, if it is there.
+// A class domain, if it is there.
 fn domain_at(layout: &Layout, domain: u32) -> Option<(&[u8], Class, u32, usize)> {
     if (domain as usize) < layout.domains() {
         Some((

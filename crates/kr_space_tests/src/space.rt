@@ -9,8 +9,7 @@ use crate::files::{document_of, one_file};
 use kr_ast::Tree;
 use kr_base::{Fault, NoMemory};
 use kr_classes_members::Members;
-use kr_classes_names::Heads;
-use kr_classes_types::{NodeTypes, Types};
+use kr_classes_names::{Heads, NodeTypes, Types};
 use kr_fin::FinDoc;
 use kr_mean::Mode;
 use kr_sources::Unread;
@@ -42,7 +41,7 @@ fn is_least(
     }
 }
 
-// The same of a text.
+// Likewise of a text.
 fn is_least_in(
     alloc: Global,
     classes: &Classes,

@@ -16,7 +16,7 @@ const SOURCE: &str = "class A { int v; } class B extends A { boolean repOk() { r
 const FIN: &str =
     "root='B'\nfuel=100\n[objects]\nA=1\nB=2\n[arrays]\n'A[]'={count=1,lengths=[{from=0,to=2}]}\n[fields]\n'A.v'=[{from=0,to=3}]\n'A[].*'=['null','A','B']";
 
-// What stands at a slot, and how many values its domain has, if there is one.
+// A slot's place, and how many values its domain has, if there is one.
 fn slot_at(layout: &Layout, slot: u32) -> Option<(SlotPlace, u32)> {
     if slot < Layout::slots(layout) {
         Some((layout.place(slot), Layout::size(layout, slot)))
@@ -25,7 +25,7 @@ fn slot_at(layout: &Layout, slot: u32) -> Option<(SlotPlace, u32)> {
     }
 }
 
-// What there is of a class domain, if it is there.
+// A class domain, if it is there.
 fn domain_at(layout: &Layout, domain: u32) -> Option<(&[u8], Class, u32, usize)> {
     if (domain as usize) < layout.domains() {
         Some((

@@ -1,4 +1,4 @@
--- What keys tell.
+-- Laws of keys.
 use Rattle.std.proofs.Common.{◌≡◌, ℕ, List, [], ◌∷◌, refl, ap, ◌∙◌, get_or}
 use Rattle.kr_mean.specs.Readings.{Forks}
 use Rattle.kr_mean.specs.Runs.{key_along}

@@ -7,3 +7,5 @@ pub mod Seeks
 pub mod Firsts
 pub mod Turns
 pub mod Keeps
+pub mod Carried
+pub mod Left

@@ -6,9 +6,9 @@ use Rattle.kr_mean.specs.Blocks.{IsSpace}
 use Rattle.kr_base.specs.Cuts.{Before}
 use Rattle.kr_mean.specs.Readings.{Forks, AllBelow, Lacks, Differ, IsReading}
 use Rattle.kr_mean.specs.Runs.{key_along}
-use Rattle.kr_iso.specs.Choices.{IsAllowed, AllowedAlong}
+use Rattle.kr_mean.specs.Choices.{IsAllowed, AllowedAlong, IsNextChoice}
 use Rattle.kr_mean.specs.Entries.{IsListed}
-use Rattle.kr_iso.specs.Choices.{PathIn, AllowedPath, IsNextChoice}
+use Rattle.kr_iso.specs.Choices.{PathIn, AllowedPath}
 use Rattle.kr_step.specs.Steps.{path_of, slots_of, indices_of, OnPath, IsOf, NextIs, IsBeyond, IsFirst, IsStuck, IsMoved}
 use Rattle.kr_step.proofs.Orders.{before_not_self}
 use Rattle.kr_step.proofs.Keys.{forks_agree}
@@ -20,7 +20,7 @@ module _ (S : Space) {M : Type 0} (order : List ℕ → List ℕ) (mark : List �
   pub next_too : (v u : List ℕ) → IsVector S v → IsVector S u → (path : List (ℕ × ℕ)) (s : ℕ) → NextIs v path s (order v) → OnPath u path → NextIs u path s (order u)
   next_too v u iv iu path s n o = next_shared v u (mark v ≡ mark u) path s (order v) (order u) (reading.forks v u iv iu) n o
 
-  -- what an entry has there is allowed
+  -- an entry's index there is allowed
   chosen : (u : List ℕ) → IsListed S order u → (path : List (ℕ × ℕ)) (s : ℕ) → NextIs u path s (order u) → (get_or u s 0 < S.size s) × IsAllowed S path s (get_or u s 0)
   chosen u lu path s n =
       (lu.vector.within s (next_below S u path s (order u) (reading.below u lu.vector) n), next_allowed S u [] path s (order u) (least_is_allowed S order mark is reading u lu.vector lu.least) n)
@@ -291,7 +291,7 @@ module _ (S : Space) {M : Type 0} (order : List ℕ → List ℕ) (mark : List �
   lacks_less [] s j t l = (tt, l.0)
   lacks_less (p ∷ path) s j t l = let r = lacks_less path s j t l.1 in ((l.0, r.0), r.1)
 
-  -- what is left of a path when its last slot goes back to 0
+  -- the rest of a path when its last slot goes back to 0
   pub of_pop : (path : List (ℕ × ℕ)) (s i : ℕ) (c v : List ℕ) → IsStuck S order c v (path ++ (s, i) ∷ []) → IsOf S path (set v s 0)
   of_pop path s i c v k =
       let t = top path s i c v k in
@@ -357,7 +357,7 @@ module _ (S : Space) {M : Type 0} (order : List ℕ → List ℕ) (mark : List �
   pub stuck_none : (c v : List ℕ) → IsStuck S order c v [] → (u : List ℕ) → IsListed S order u → Before c (key_along u (order u)) → ⊥
   stuck_none c v k u lu b = k.beyond u lu b tt
 
-  -- after an entry, the search stands at the end of its whole path
+  -- after an entry, the search is at the end of its whole path
   pub found_stuck : (c w : List ℕ) → IsFirst S order c w → IsStuck S order (key_along w (order w)) w (path_of w (order w))
   found_stuck c w m = record {
     of = record { vector = m.listed.vector; on = on_all (order w); off = λ s h l. m.listed.settled s h (slots_all (order w) s l) };

@@ -1,5 +1,6 @@
 -- The order of keys.
-use Rattle.std.proofs.Common.{◌≡◌, ℕ, ◌⊎◌, inl, inr, List, [], ◌∷◌, refl, ◌∙◌, arith, Bool, true, false}
+use Rattle.std.proofs.Common.{◌≡◌, ℕ, inl, inr, List, [], ◌∷◌, ◌∙◌, arith, true, false}
+use Rattle.std.proofs.lemmas.Bool.{cases_Bool}
 use Rattle.kr_base.specs.Cuts.{Before, is_before}
 use Rattle.kr_base.proofs.Orders.{before_from_test, test_from_before}
 
@@ -22,9 +23,5 @@ before_trans (x ∷ xs) (y ∷ ys) (z ∷ zs) (inr p) (inr q) = inr (p.0 ∙ q.0
 pub is_before_yes : (xs ys : List ℕ) → Before xs ys → is_before xs ys ≡ true
 is_before_yes xs ys h = test_from_before xs ys h
 
-bool_cases : (b : Bool) → (b ≡ true) ⊎ (b ≡ false)
-bool_cases true = inl refl
-bool_cases false = inr refl
-
 pub is_before_no : (xs ys : List ℕ) → (Before xs ys → ⊥) → is_before xs ys ≡ false
-is_before_no xs ys n = elim (bool_cases (is_before xs ys)) [ inl e ↦ absurd (n (before_from_test xs ys e)) | inr e ↦ e ]
+is_before_no xs ys n = elim (cases_Bool (is_before xs ys)) [ inl e ↦ absurd (n (before_from_test xs ys e)) | inr e ↦ e ]

@@ -6,7 +6,8 @@ use Rattle.kr_mean.specs.Blocks.{IsSpace}
 use Rattle.kr_base.specs.Cuts.{Before}
 use Rattle.kr_mean.specs.Readings.{Forks, AllBelow, Lacks, Differ}
 use Rattle.kr_mean.specs.Runs.{key_along}
-use Rattle.kr_iso.specs.Choices.{MayStand, IsAllowed, AllowedAlong, AllowedPath}
+use Rattle.kr_iso.specs.Choices.{AllowedPath}
+use Rattle.kr_mean.specs.Choices.{MayStand, IsAllowed, AllowedAlong}
 use Rattle.kr_step.specs.Steps.{path_of, slots_of, indices_of, OnPath, NextIs}
 
 pub on_front : (u : List ℕ) (xs ys : List (ℕ × ℕ)) → OnPath u (xs ++ ys) → OnPath u xs
@@ -57,7 +58,7 @@ next_below S u [] s (t ∷ ts) b n = rw n b.0
 next_below S u (p ∷ path) s [] b n = absurd n
 next_below S u (p ∷ path) s (t ∷ ts) b n = next_below S u path s ts b.1 n.2
 
--- what is chosen next is allowed after the path
+-- the next choice is allowed after the path
 pub next_allowed : (S : Space) (u : List ℕ) (before path : List (ℕ × ℕ)) (s : ℕ) (us : List ℕ) → AllowedAlong S u before us → NextIs u path s us → IsAllowed S (before ++ path) s (get_or u s 0)
 next_allowed S u before [] s [] a n = absurd n
 next_allowed S u before [] s (t ∷ ts) a n = subst (λ (x : ℕ). IsAllowed S (before ++ []) x (get_or u x 0)) (sym n) (subst (λ (b : List (ℕ × ℕ)). IsAllowed S b t (get_or u t 0)) (sym (append_nil before)) a.0)

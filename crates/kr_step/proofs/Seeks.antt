@@ -1,4 +1,4 @@
--- How a search comes to a cut.
+-- How a search reaches a cut.
 use Rattle.std.proofs.Common.{◌≡◌, ℕ, zero, suc, ◌+◌, ◌<◌, ◌≤◌, List, [], ◌∷◌, ◌++◌, refl, sym, ap, ◌∙◌, subst, arith, get_or, Some, None, length, take, drop, set, get_or-set_same, get_or-set_other}
 use Rattle.std.proofs.lemmas.List.{length-replicate, take-append-drop}
 use Rattle.kr_iso.proofs.Drops.{drop_number}
@@ -7,8 +7,8 @@ use Rattle.kr_mean.specs.Space.{Space, IsVector}
 use Rattle.kr_mean.specs.Blocks.{IsSpace}
 use Rattle.kr_mean.specs.Readings.{AllBelow, Lacks, Differ, IsReading}
 use Rattle.kr_mean.specs.Runs.{key_along}
-use Rattle.kr_iso.specs.Choices.{IsAllowed}
-use Rattle.kr_iso.specs.Choices.{PathIn, IsNextChoice}
+use Rattle.kr_mean.specs.Choices.{IsAllowed, IsNextChoice}
+use Rattle.kr_iso.specs.Choices.{PathIn}
 use Rattle.kr_step.specs.Steps.{path_of, slots_of, indices_of, OnPath, IsOf, NextIs, IsBeyond, IsFirst, IsStuck, IsMoved, IsFront}
 use Rattle.kr_step.proofs.Paths.{on_more, next_rest, next_below, lacks_of, allowed_more, key_on}
 use Rattle.kr_step.proofs.Nexts.{next_too, beyond_stuck, beyond_end, beyond_skip, next_first, front_first, set_vector, on_set, lacks_less, path_on, path_in, below_front}
@@ -30,7 +30,7 @@ module _ (S : Space) {M : Type 0} (order : List ℕ → List ℕ) (mark : List �
   pub front_next : (w : List ℕ) (path : List (ℕ × ℕ)) (d : ℕ) → IsFront S order w path → length path < length (order w) → NextIs w path (get_or (order w) (length path) d) (order w)
   front_next w path d f h = subst (λ (l : List ℕ). NextIs w path (get_or l (length path) d) l) (sym f.leads.1) (next_at w path f.leads.0 d f.of.on (subst (λ (l : List ℕ). length path < length l) f.leads.1 h))
 
-  -- what one turn learns
+  -- the result of one turn
   pub record Turn (w : List ℕ) (path : List (ℕ × ℕ)) (s : ℕ) : Type 0 where
     pub next : NextIs w path s (order w)
     pub slot : s < S.slots

@@ -7,7 +7,8 @@ use Rattle.kr_mean.specs.Blocks.{IsSpace}
 use Rattle.kr_mean.specs.Readings.{AllBelow, IsReading}
 use Rattle.kr_mean.specs.Runs.{key_along}
 use Rattle.kr_mean.specs.Entries.{IsListed}
-use Rattle.kr_iso.specs.Choices.{PathIn, AllowedPath, IsAllowed, IsNextChoice}
+use Rattle.kr_iso.specs.Choices.{PathIn, AllowedPath}
+use Rattle.kr_mean.specs.Choices.{IsAllowed, IsNextChoice}
 use Rattle.kr_step.specs.Steps.{path_of, indices_of, NextIs, IsFirst, IsStuck, IsMoved, IsFront, Advanced}
 use Rattle.kr_step.specs.declared.seeking.Lead.{Lead}
 use Rattle.kr_step.specs.Turns.{Turned, Leads}
@@ -19,11 +20,11 @@ use Rattle.kr_step.proofs.Paths.{allowed_front}
 use Rattle.kr_step.proofs.Seeks.{extend, indices_more, seek_end, seek_past, seek_whole}
 use Rattle.kr_step.proofs.Nexts.{Top, top, top_in, stuck_none, found_stuck}
 
--- the same of candidates that are said to be the same
+-- it also holds of candidates that are equal
 pub stuck_along : (S T : Space) (o p : List ℕ → List ℕ) (c v : List ℕ) (path : List (ℕ × ℕ)) → T ≡ S → p ≡ o → IsStuck S o c v path → IsStuck T p c v path
 stuck_along S T o p c v path e f k = subst (λ (x : Space). IsStuck x p c v path) (sym e) (subst (λ (x : List ℕ → List ℕ). IsStuck S x c v path) (sym f) k)
 
--- what is known of the slot at the end of a path
+-- the slot at the end of a path
 pub record Popped (S : Space) (order : List ℕ → List ℕ) (v : List ℕ) (path : List (ℕ × ℕ)) (s i : ℕ) : Type 0 where
   pub slot : s < S.slots
   pub index : i < S.size s
@@ -49,7 +50,7 @@ indices_all : (w ss : List ℕ) → indices_of (path_of w ss) ≡ key_along w ss
 indices_all w [] = refl
 indices_all w (s ∷ ss) = ap (λ (l : List ℕ). get_or w s 0 ∷ l) (indices_all w ss)
 
--- where a candidate was found, the search stands behind it
+-- where a candidate was found, the search is just after it
 pub behind : {M : Type 0} (S : Space) (order : List ℕ → List ℕ) (mark : List ℕ → M) → IsSpace S → IsReading S order mark → (c key w : List ℕ) (path : List (ℕ × ℕ)) → IsFirst S order c w → path ≡ path_of w (order w) → key ≡ indices_of path → IsStuck S order key w path × (key ≡ key_along w (order w))
 behind S order mark is reading c key w path first e k =
     let at : key ≡ key_along w (order w) = k ∙ (ap indices_of e ∙ indices_all w (order w)) in
@@ -112,7 +113,7 @@ no_indices (p ∷ path) e = absurd (cc (e))
 pub moved_along : (S T : Space) (o p : List ℕ → List ℕ) (c v : List ℕ) (path : List (ℕ × ℕ)) → T ≡ S → p ≡ o → IsMoved S o c v path → IsMoved T p c v path
 moved_along S T o p c v path e f k = subst (λ (x : Space). IsMoved x p c v path) (sym e) (subst (λ (x : List ℕ → List ℕ). IsMoved S x c v path) (sym f) k)
 
--- of a search that stands behind a candidate, what going back comes to
+-- the result of going back, of a search that is just after a candidate
 pub back : (S : Space) (o : List ℕ → List ℕ) (m : List ℕ → Ending) (stage : Stage) (c v w : List ℕ) (path new : List (ℕ × ℕ)) (b t : Bool) → stage ≡ Behind → b ≡ t → (IsStuck S o c v path → Advanced S o c b w new) → StandsAt S o m stage c v path → Advanced S o c t w new
 back S o m stage c v w path new b t e f advanced stands =
     subst (λ (x : Bool). Advanced S o c x w new) f (advanced (subst (λ (s : Stage). StandsAt S o m s c v path) e stands))

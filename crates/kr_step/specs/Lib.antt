@@ -4,3 +4,4 @@ pub mod Stages
 pub mod Found
 pub mod Bases
 pub mod Keeps
+pub mod Scans

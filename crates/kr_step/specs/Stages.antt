@@ -13,7 +13,7 @@ use Rattle.kr_step.specs.declared.stage.Next.{Next}
 use Rattle.kr_step.specs.declared.stage.Next.TheVariants.{Found, End}
 use Rattle.kr_step.specs.Steps.{IsStuck, IsMoved, IsFirst, path_of, above}
 
--- behind the last candidate found; at the next one, which wasn't run yet; at one that was
+-- after the last candidate found; at the next one, not run yet; at one that was run
 abbrev pub StandsAt : Space → (List ℕ → List ℕ) → (List ℕ → Ending) → Stage → List ℕ → List ℕ → List (ℕ × ℕ) → Type 0
 StandsAt S order ending Behind c v path = IsStuck S order c v path
 StandsAt S order ending Moved c v path = IsMoved S order c v path

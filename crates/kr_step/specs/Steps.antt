@@ -1,4 +1,4 @@
--- Between crates: where a search stands, and the next candidate above a cut.
+-- Between crates: the position of a search, and the next candidate above a cut.
 use Rattle.std.specs.Prelude.{◌≡◌, ℕ, ◌<◌, List, [], ◌∷◌, ◌++◌, map, filter, Bool, true, false}
 use Rattle.std.proofs.Common.{get_or}
 use Rattle.kr_mean.specs.Space.{Space, IsVector}
@@ -46,7 +46,7 @@ pub record IsFirst (S : Space) (order : List ℕ → List ℕ) (c w : List ℕ) 
   pub later : Before c (key_along w (order w))
   pub least : (u : List ℕ) → IsListed S order u → Before c (key_along u (order u)) → Before (key_along u (order u)) (key_along w (order w)) → ⊥
 
--- A search stands at the vector of a path that no entry above the cut goes on from.
+-- A search is at the vector of a path that no entry above the cut goes on from.
 pub record IsStuck (S : Space) (order : List ℕ → List ℕ) (c v : List ℕ) (path : List (ℕ × ℕ)) : Type 0 where
   pub of : IsOf S path v
   pub allowed : AllowedPath S [] path
@@ -54,7 +54,7 @@ pub record IsStuck (S : Space) (order : List ℕ → List ℕ) (c v : List ℕ) 
   pub cut : (tail : List ℕ) × (c ≡ indices_of path ++ tail)
   pub beyond : IsBeyond S order c path
 
--- where a search stands after a step
+-- the position of a search after a step
 pub record IsMoved (S : Space) (order : List ℕ → List ℕ) (c w : List ℕ) (path : List (ℕ × ℕ)) : Type 0 where
   pub of : IsOf S path w
   pub allowed : AllowedPath S [] path

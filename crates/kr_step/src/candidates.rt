@@ -6,6 +6,7 @@ ghost use Rattle.kr_mean.specs.Readings.{IsReading};
 
 use kr_base::{NoMemory, Steps};
 use kr_iso::Slots;
+use kr_vector::Vector;
 use std::sync::ledger::Ledger;
 
 /// How the predicate's run ends: it holds; it is false or traps; or it needs more than the fuel.
@@ -16,9 +17,9 @@ pub enum Ending {
     Spent,
 }
 
-/// What a search goes over: the candidate of a problem that stands, whose slots can be set and on which the predicate is run.
-/// The next run goes on from what wasn't set since.
-pub trait Candidates: Slots {
+/// One candidate of a problem, whose slots can be set and on which the predicate is run. The next run goes on from what wasn't
+/// set since.
+pub trait Candidate: Slots {
     ghost use Rattle.kr_step.specs.declared.candidates.Ending.{Ending};
 
     /// The order of a vector's slots: those that its run reads, and where it accepts those that it left unread.
@@ -27,7 +28,7 @@ pub trait Candidates: Slots {
     /// How the run on a vector ends.
     ghost ending: { Self → List ℕ → Ending };
 
-    /// The vector that stands now.
+    /// The current vector.
     ghost vector: { Self → List ℕ };
 
     /// The order of the vector that was run last.
@@ -43,7 +44,7 @@ pub trait Candidates: Slots {
         ensures ending { ending self.new ≡ ending self.old }
         ensures vector { vector self.new ≡ slice_set (vector self.old) slot index };
 
-    /// Runs the predicate on the vector, once, and counts that run, also where it answers want of memory.
+    /// Runs the predicate on the vector, once, and counts that run, also on out-of-memory.
     fn run<L: Ledger>(&mut self, runs: &mut Steps<L>) -> Result<Ending, NoMemory>
         requires { IsVector (Self.space self.old) (vector self.old) }
         ensures space { Self.space self.new ≡ Self.space self.old }
@@ -58,13 +59,17 @@ pub trait Candidates: Slots {
     fn last_order(&self) -> &[u32]
         ensures { result.now ≡ last self.now };
 
+    /// The vector.
+    fn current(&self) -> &Vector
+        ensures { result.now ≡ vector self.now };
+
     /// The index of a slot.
     fn index(&self, slot: u32) -> u32
         requires { slot < length (vector self.now) }
         ensures { result ≡ slice_index (vector self.now) slot };
 
-    /// What holds of every problem: slots and domains go by whole class domains, orders fork, are never empty, and renamed
-    /// vectors are read alike.
+    /// Laws of every problem: slots and domains go by whole class domains, orders fork, are never empty, and renamed vectors
+    /// are read alike.
     fn laws(&self)
         ensures space { IsSpace (Self.space self.now) }
         ensures reading { IsReading (Self.space self.now) (order self.now) (ending self.now) }

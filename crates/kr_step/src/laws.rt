@@ -1,4 +1,4 @@
-// What finding the first candidate above a cut, again and again, comes to.
+// Finding the first candidate above a cut, again and again, lists the entries above it.
 ghost use Rattle.kr_step.specs.Stages.{FirstLaw};
 
 /// The first listed candidates above cuts are the entries, in order.

@@ -6,10 +6,12 @@ mod laws;
 mod path;
 mod search;
 mod seeking;
+mod span_search;
 mod stage;
 mod turning;
 
-pub use candidates::{Candidates, Ending};
+pub use candidates::{Candidate, Ending};
 pub use laws::first_law;
 pub use search::Search;
+pub use span_search::SpanSearch;
 pub use stage::Next;

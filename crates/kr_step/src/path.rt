@@ -1,15 +1,15 @@
 // The path of a search: the slots of an order, each with its index.
-ghost use Rattle.std.specs.Prelude.{◌≡◌, ◌++◌, length, drop, IfOk, OnOk, OnErr};
+ghost use Rattle.std.specs.Prelude.{◌≡◌, ◌++◌, length, drop, OnOk, OnErr};
 ghost use Rattle.kr_mean.specs.Readings.{AllBelow};
 ghost use Rattle.kr_step.specs.Steps.{path_of, indices_of};
 ghost use Rattle.kr_step.specs.Keeps.{Keeps};
 
-use crate::Candidates;
+use crate::Candidate;
 use kr_base::NoMemory;
 
-/// Adds the slots that the last order has behind a path, with their indices. Without memory the path stays as it was.
+/// Adds the slots that follow a path in the last order, with their indices. On out-of-memory the path is unchanged.
 #[inline(always)]
-pub(crate) fn extend<C: Candidates>(
+pub(crate) fn extend<C: Candidate>(
     candidates: &C,
     path: &mut Vec<(u32, u32)>,
 ) -> Result<(), NoMemory>

@@ -9,22 +9,22 @@ use crate::path::{extend, write_key};
 use crate::seeking::come_to;
 use crate::stage::Stage;
 use crate::turning::advance;
-use crate::{Candidates, Ending, Next};
+use crate::{Candidate, Ending, Next};
 use kr_base::{NoMemory, Steps};
 use std::alloc::Global;
 use std::marker::Model;
 use std::sync::ledger::Ledger;
 
-/// A search: the candidates, the cut above which it looks, and the path to where it stands.
+/// A search: the candidate, the cut above which it looks, and the path to its position.
 #[derive(Drop)]
-pub struct Search<C: Candidates> {
+pub struct Search<C: Candidate> {
     candidates: C,
     after: Vec<u32>,
     path: Vec<(u32, u32)>,
     stage: Stage,
 }
 
-impl<C: Candidates> Model for Search<C> {
+impl<C: Candidate> Model for Search<C> {
     ghost use Rattle.kr_step.specs.Stages.{Seen, StandsAt, ahead_of};
 
     ghost Value = { Seen C };
@@ -34,9 +34,9 @@ impl<C: Candidates> Model for Search<C> {
     ghost invariant = { λ s. StandsAt (C.space s.candidates) (C.order s.candidates) (C.ending s.candidates) s.stage s.after.items (C.vector s.candidates) s.path.items };
 }
 
-/// Runs the candidate at which a search has come to stand, and writes its path down in full.
+/// Runs the candidate at a search's position, and writes its path down in full.
 #[inline(always)]
-fn arrive<C: Candidates, L: Ledger>(
+fn arrive<C: Candidate, L: Ledger>(
     candidates: &mut C,
     path: &mut Vec<(u32, u32)>,
     runs: &mut Steps<L>,
@@ -57,9 +57,9 @@ fn arrive<C: Candidates, L: Ledger>(
     Ok(ending)
 }
 
-/// Comes to stand at the next candidate, run, if there is one. Where memory is refused it stands as before, or at that
-/// candidate, not run yet. Says how many numbers of the cut are still on the path.
-fn find<C: Candidates, L: Ledger>(
+/// Advances to the next candidate and runs it. On out-of-memory the position is the old one, or the new one not yet run.
+/// Returns how many numbers of the cut are still on the path.
+fn find<C: Candidate, L: Ledger>(
     candidates: &mut C,
     path: &mut Vec<(u32, u32)>,
     stage: &mut Stage,
@@ -100,10 +100,10 @@ fn find<C: Candidates, L: Ledger>(
     }
 }
 
-impl<C: Candidates + Drop> Search<C> {
+impl<C: Candidate + Drop> Search<C> {
     ghost use Rattle.kr_step.specs.Stages.{Answers, count_of};
 
-    /// A search that stands at a cut. The candidate of index 0 in every slot has to stand.
+    /// A search at a cut. The candidate has index 0 in every slot.
     pub fn seek<L: Ledger>(
         alloc: Global,
         candidates: C,
@@ -130,7 +130,7 @@ impl<C: Candidates + Drop> Search<C> {
         })
     }
 
-    /// The next entry above the cut: its candidate stands then, and its key is the cut.
+    /// The next entry above the cut: it is the candidate then, and its key is the cut.
     pub fn next<L: Ledger>(&mut self, runs: &mut Steps<L>) -> Result<Next, NoMemory>
         ensures space { C.space self.new.candidates ≡ C.space self.old.candidates }
         ensures order { C.order self.new.candidates ≡ C.order self.old.candidates }

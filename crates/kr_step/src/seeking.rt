@@ -1,18 +1,17 @@
-// How a search comes to a cut.
+// How a search reaches a cut.
 ghost use Rattle.std.specs.Prelude.{◌≡◌, ◌<◌, ◌≤◌, ◌+◌, List, ℕ, [], ◌∷◌, ◌++◌, length, replicate, IfOk};
-ghost use Rattle.kr_mean.specs.Readings.{AllBelow};
 ghost use Rattle.kr_step.specs.Steps.{IsFront, indices_of};
 ghost use Rattle.kr_step.specs.Turns.{Leads};
 ghost use Rattle.kr_step.specs.Stages.{StandsAt, ahead_of};
 
 use crate::path::extend;
 use crate::stage::Stage;
-use crate::{Candidates, Ending};
+use crate::{Candidate, Ending};
 use kr_base::{NoMemory, Steps};
 use kr_iso::next_choice;
 use std::sync::ledger::Ledger;
 
-/// What one number of a cut leads to: the path goes on; to a candidate past the cut; or nowhere.
+/// The result of following one number of a cut: the path goes on; a candidate past the cut; or nothing.
 #[derive(Clone, Copy, PartialEq, Eq)]
 pub(crate) enum Lead {
     On,
@@ -21,7 +20,7 @@ pub(crate) enum Lead {
 }
 
 /// Follows one number of a cut, where the vector was run last.
-fn follow<C: Candidates>(
+fn follow<C: Candidate>(
     candidates: &mut C,
     path: &mut Vec<(u32, u32)>,
     number: u32,
@@ -54,8 +53,8 @@ fn follow<C: Candidates>(
     }
 }
 
-/// Runs the vector at which a cut's numbers ended, and comes to stand at its candidate, or behind the cut.
-fn settle<C: Candidates, L: Ledger>(
+/// Runs the vector at which a cut's numbers ended, and moves to its candidate, or past the cut.
+fn settle<C: Candidate, L: Ledger>(
     candidates: &mut C,
     path: &mut Vec<(u32, u32)>,
     runs: &mut Steps<L>,
@@ -80,7 +79,7 @@ fn settle<C: Candidates, L: Ledger>(
 }
 
 /// Leads a path along the numbers of a cut.
-pub(crate) fn come_to<C: Candidates, L: Ledger>(
+pub(crate) fn come_to<C: Candidate, L: Ledger>(
     candidates: &mut C,
     path: &mut Vec<(u32, u32)>,
     after: &[u32],

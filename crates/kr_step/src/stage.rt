@@ -1,9 +1,9 @@
-// Where a search stands, and what it answers.
+// The positions of a search, and its answers.
 
 use crate::Ending;
 
-/// Where a search stands: behind the last candidate found, where none is found yet behind its cut; at the next one,
-/// which wasn't run yet; or at one that was run, with how that ended.
+/// The position of a search: after the last candidate found, where none is found yet after its cut; at the next one, which
+/// wasn't run yet; or at one that was run, with how that ended.
 #[derive(Clone, Copy, PartialEq, Eq)]
 pub(crate) enum Stage {
     Behind,
@@ -11,7 +11,7 @@ pub(crate) enum Stage {
     Ahead(Ending),
 }
 
-/// What the next step of a search finds.
+/// The result of the next step of a search.
 #[derive(Clone, Copy, PartialEq, Eq)]
 pub enum Next {
     Found(Ending),

@@ -1,15 +1,16 @@
-// The next candidate behind one that was found.
+// The next candidate after one that was found.
 ghost use Rattle.std.specs.Prelude.{◌≡◌, ◌<◌, List, ℕ, false, true, [], ◌∷◌, ◌++◌, vec_len, vec_capacity};
 ghost use Rattle.kr_step.specs.Steps.{IsStuck, Advanced};
 ghost use Rattle.kr_step.specs.Turns.{Turned};
 ghost use Rattle.kr_step.specs.Keeps.{Follows};
 
-use crate::Candidates;
+use crate::Candidate;
 use kr_iso::next_choice;
 
-/// Raises the index of the slot behind a path, if there is a choice for it: then it joins the path. Else it's set back to 0.
+/// Raises the index of the slot after a path, if there is a choice for it: then it joins the path. Otherwise it's set back to
+/// 0.
 #[inline(always)]
-fn raise<C: Candidates>(
+fn raise<C: Candidate>(
     candidates: &mut C,
     path: &mut Vec<(u32, u32)>,
     slot: u32,
@@ -41,10 +42,10 @@ fn raise<C: Candidates>(
     }
 }
 
-/// Goes to the next candidate above the cut: raises the last index of the path that can be raised, and sets those behind it
-/// back to 0. False where there is none. It takes no memory.
+/// Goes to the next candidate above the cut: raises the last index of the path that can be raised, and sets those after it back
+/// to 0. False where there is none. It takes no memory.
 #[inline(always)]
-pub(crate) fn advance<C: Candidates>(candidates: &mut C, path: &mut Vec<(u32, u32)>) -> bool
+pub(crate) fn advance<C: Candidate>(candidates: &mut C, path: &mut Vec<(u32, u32)>) -> bool
     requires { (c : List ℕ) × IsStuck (C.space candidates.old) (C.order candidates.old) c (C.vector candidates.old) path.old.items }
     ensures space { C.space candidates.new ≡ C.space candidates.old }
     ensures order { C.order candidates.new ≡ C.order candidates.old }

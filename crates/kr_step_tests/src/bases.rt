@@ -1,15 +1,17 @@
 // Two subclasses, worked by hand: a root with two fields, each in two objects of one class and two of another.
-ghost use Rattle.std.specs.Prelude.{◌≡◌, [], ◌∷◌};
+ghost use Rattle.std.specs.Prelude.{◌≡◌, [], ◌∷◌, IfOk};
 
 use kr_base::{NoMemory, Steps};
 use kr_iso::{Object, Slots};
-use kr_step::{Candidates, Ending};
+use kr_step::{Candidate, Ending};
+use kr_vector::{Slot, Vector};
+use std::alloc::Global;
 use std::sync::ledger::Ledger;
 
-/// The candidate that stands, the order of the last run, and how many runs were made.
+/// The current candidate, the order of the last run, and how many runs were made.
 #[derive(Drop)]
 pub(crate) struct Bases {
-    indices: [u32; 3],
+    indices: Vector,
     ran: [u32; 3],
     count: u32,
 }
@@ -53,7 +55,7 @@ impl Slots for Bases {
     }
 }
 
-impl Candidates for Bases {
+impl Candidate for Bases {
     ghost use Rattle.kr_step.specs.Bases.{bases_order, bases_ending};
 
     ghost order = { λ _. bases_order };
@@ -65,7 +67,7 @@ impl Candidates for Bases {
     ghost last = { λ s. s.ran };
 
     fn set(&mut self, slot: u32, index: u32) {
-        self.indices[slot as usize] = index;
+        self.indices.set(Slot(slot), index);
     }
 
     fn run<L: Ledger>(&mut self, runs: &mut Steps<L>) -> Result<Ending, NoMemory> {
@@ -79,19 +81,23 @@ impl Candidates for Bases {
         &self.ran
     }
 
+    fn current(&self) -> &Vector {
+        &self.indices
+    }
+
     fn index(&self, slot: u32) -> u32 {
-        self.indices[slot as usize]
+        self.indices.get(Slot(slot))
     }
 
     fn laws(&self) {}
 }
 
-pub(crate) fn start() -> Bases
-    ensures { result.indices ≡ 0 ∷ 0 ∷ 0 ∷ [] }
+pub(crate) fn start(alloc: Global) -> Result<Bases, NoMemory>
+    ensures { IfOk result (λ start. start.indices ≡ 0 ∷ 0 ∷ 0 ∷ []) }
 {
-    Bases {
-        indices: [0; 3],
+    Ok(Bases {
+        indices: Vector::zero(alloc, 3)?,
         ran: [0; 3],
         count: 0,
-    }
+    })
 }

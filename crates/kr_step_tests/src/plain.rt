@@ -4,7 +4,7 @@ ghost use Rattle.std.specs.Prelude.{◌≡◌, ◌<◌};
 use crate::bases::start;
 use kr_base::{Bound, Cut, Entry, Span, Steps};
 use kr_plain::{is_least, list_keys};
-use kr_step::Candidates;
+use kr_step::Candidate;
 use std::alloc::Global;
 use std::marker::Brand;
 use std::sync::ledger::{Blank, Ledger};
@@ -37,7 +37,7 @@ fn has_keys<L: Ledger>(
     requires some { 0 < L.parts }
 {
     let mut runs = Steps::<L>::start(blank);
-    let mut candidates = start();
+    let mut candidates = start(alloc)?;
     let entries = list_keys(alloc, &mut candidates, span, &mut runs)?;
     Ok(are_keys(entries.as_slice(), keys))
 }
@@ -49,7 +49,7 @@ fn judged<L: Ledger>(alloc: Global, blank: Blank) -> Result<(bool, bool), Fail>
     requires some { 0 < L.parts }
 {
     let mut runs = Steps::<L>::start(blank);
-    let mut candidates = start();
+    let mut candidates = start(alloc)?;
     let first = is_least(alloc, &mut candidates, &mut runs)?;
     candidates.set(1, 1);
     let second = is_least(alloc, &mut candidates, &mut runs)?;

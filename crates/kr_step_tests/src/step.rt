@@ -39,7 +39,7 @@ fn keys<L: Ledger>(alloc: Global, blank: Blank, after: &[u32]) -> Result<String,
     requires some { 0 < L.parts }
 {
     let mut runs = Steps::<L>::start(blank);
-    let mut search = Search::seek(alloc, start(), after, &mut runs)?;
+    let mut search = Search::seek(alloc, start(alloc)?, after, &mut runs)?;
     let mut text = String::new(alloc);
     push_keys(alloc, &mut text, &mut search, &mut runs)?;
     Ok(text)
@@ -75,7 +75,7 @@ fn runs_above<L: Ledger>(alloc: Global, blank: Blank, after: &[u32]) -> Result<u
     requires some { 0 < L.parts }
 {
     let mut runs = Steps::<L>::start(blank);
-    let mut search = Search::seek(alloc, start(), after, &mut runs)?;
+    let mut search = Search::seek(alloc, start(alloc)?, after, &mut runs)?;
     for _ in 0..10 {
         if search.next(&mut runs)? == Next::End {
             break;

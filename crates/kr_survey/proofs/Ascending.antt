@@ -1,7 +1,7 @@
 -- Keys each of which stands before the next one ascend.
-use Rattle.std.proofs.Common.{◌≡◌, ℕ, List, [], ◌∷◌, Bool, true, false, ◌&&◌, refl, sym, ap, ◌∙◌}
+use Rattle.std.proofs.Common.{◌≡◌, ℕ, List, [], ◌∷◌, Bool, true, ◌&&◌, refl, ap, ◌∙◌}
 use Rattle.kr_base.specs.declared.entry.Entry.{Entry}
-use Rattle.kr_base.specs.Cuts.{Before, is_before}
+use Rattle.kr_base.specs.Cuts.{is_before}
 use Rattle.kr_base.specs.Entries.{AllAfter, Ascends}
 use Rattle.kr_base.proofs.Orders.{before_from_test, test_from_before, test_transitive}
 use Rattle.kr_survey.specs.Ascents.{ascends_from}

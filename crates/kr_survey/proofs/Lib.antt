@@ -1,3 +1,4 @@
 pub mod Walks
 pub mod Ascending
 pub mod Scanning
+pub mod Mapping

@@ -1,7 +1,6 @@
 -- A scan of a list in memory, entry by entry.
-use Rattle.std.proofs.Common.{◌≡◌, ◌⊎◌, inl, inr, ℕ, zero, suc, ◌+◌, ◌<◌, ◌≤◌, List, [], ◌∷◌, ◌++◌, Bool, true, false, ◌&&◌, not, ◌==◌, cond, length, take, drop, get_or, refl, sym, ap, ◌∙◌, subst, arith, length-append, append_assoc}
+use Rattle.std.proofs.Common.{◌≡◌, ◌⊎◌, inl, inr, ℕ, zero, suc, ◌+◌, ◌<◌, ◌≤◌, List, [], ◌∷◌, ◌++◌, Bool, true, false, ◌==◌, cond, length, take, drop, get_or, refl, sym, ap, ◌∙◌, arith, length-append}
 use Rattle.std.specs.Prelude.{◌||◌, if◌then◌else◌}
-use Rattle.std.specs.List.{flat_map, list_any}
 use Rattle.std.proofs.lemmas.Bool.Decides.{nat_tests}
 use Rattle.std.proofs.lemmas.List.{append-nil, take-append-drop, drop_more, take_all}
 use Rattle.std.proofs.lemmas.List.Concat.{flat_map-append}
@@ -37,23 +36,23 @@ pub record IsFront {R : Type 0} (a b : Bound) (most : ℕ) (es : List (Entry R))
   pub below : tried < most
   pub none_spent : any_spent (within a b es) ≡ false
 
-rows-more : {R : Type 0} (w : List (Entry R)) (e : Entry R) → rows_of (w ++ e ∷ []) ≡ rows_of w ++ row_of e.mark
+pub rows-more : {R : Type 0} (w : List (Entry R)) (e : Entry R) → rows_of (w ++ e ∷ []) ≡ rows_of w ++ row_of e.mark
 rows-more {R} w e = flat_map-append (λ (x : Entry R). row_of x.mark) w (e ∷ []) ∙ ap (λ (l : List R). rows_of w ++ l) (append-nil (row_of e.mark))
 
-spent-more : {R : Type 0} (w : List (Entry R)) (e : Entry R) → any_spent w ≡ false → any_spent (w ++ e ∷ []) ≡ is_spent e.mark
+pub spent-more : {R : Type 0} (w : List (Entry R)) (e : Entry R) → any_spent w ≡ false → any_spent (w ++ e ∷ []) ≡ is_spent e.mark
 spent-more {R} w e h =
     list_any-append (λ (x : Entry R). is_spent x.mark) w (e ∷ []) ∙ (ap (λ (t : Bool). t || (is_spent e.mark || false)) h
     ∙ elim (is_spent e.mark) as (λ t. (t || false) ≡ t) [ true ↦ refl | false ↦ refl ])
 
-length-more : {R : Type 0} (w : List (Entry R)) (e : Entry R) → length (w ++ e ∷ []) ≡ length w + 1
+pub length-more : {R : Type 0} (w : List (Entry R)) (e : Entry R) → length (w ++ e ∷ []) ≡ length w + 1
 length-more w e = length-append w (e ∷ [])
 
-last-more : {R : Type 0} (b : Bound) (w : List (Entry R)) (e : Entry R) → last_key b (w ++ e ∷ []) ≡ At e.key
+pub last-more : {R : Type 0} (b : Bound) (w : List (Entry R)) (e : Entry R) → last_key b (w ++ e ∷ []) ≡ At e.key
 last-more b [] e = refl
 last-more b (x ∷ w) e = last-more (At x.key) w e
 
 -- the walk up to an entry of which there is no more to walk behind it
-take-here : {A : Type 0} (w : List A) (e : A) (m : ℕ) (rest : List A) → length w < m → (rest ≡ []) ⊎ (length w + 1 ≡ m) → take m (w ++ e ∷ rest) ≡ w ++ e ∷ []
+pub take-here : {A : Type 0} (w : List A) (e : A) (m : ℕ) (rest : List A) → length w < m → (rest ≡ []) ⊎ (length w + 1 ≡ m) → take m (w ++ e ∷ rest) ≡ w ++ e ∷ []
 take-here [] e zero rest h o = absurd (omega arith)
 take-here {A} [] e (suc m) rest h (inl o) = ap (λ (l : List A). e ∷ take m l) o ∙ ap (λ (l : List A). e ∷ l) (take_all m [] (omega arith))
 take-here {A} [] e (suc m) rest h (inr o) = let z : m ≡ 0 = omega arith in ap (λ (n : ℕ). e ∷ take n rest) z
@@ -61,10 +60,10 @@ take-here (x ∷ w) e zero rest h o = absurd (omega arith)
 take-here {A} (x ∷ w) e (suc m) rest h (inl o) = ap (λ (l : List A). x ∷ l) (take-here w e m rest (omega arith) (inl o))
 take-here {A} (x ∷ w) e (suc m) rest h (inr o) = ap (λ (l : List A). x ∷ l) (take-here w e m rest (omega arith) (inr (omega arith)))
 
-eq-eqb : (a b : ℕ) → a ≡ b → (a == b) ≡ true
+pub eq-eqb : (a b : ℕ) → a ≡ b → (a == b) ≡ true
 eq-eqb a b h = grind (arith, nat_tests)
 
-less-not : (a b : ℕ) → a < b → (a == b) ≡ false
+pub less-not : (a b : ℕ) → a < b → (a == b) ≡ false
 less-not a b h = grind (arith, nat_tests)
 
 -- the walk of all entries where one stops it

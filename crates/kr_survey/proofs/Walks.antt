@@ -1,5 +1,5 @@
 -- What a scan walks.
-use Rattle.std.proofs.Common.{◌≡◌, ℕ, zero, suc, ◌-◌, ◌<◌, List, [], ◌∷◌, ◌++◌, Bool, true, false, ◌&&◌, not, ◌==◌, cond, length, take, refl, sym, ap, ◌∙◌, subst, arith}
+use Rattle.std.proofs.Common.{◌≡◌, ℕ, zero, suc, ◌-◌, ◌<◌, List, [], ◌∷◌, Bool, true, false, ◌&&◌, not, ◌==◌, cond, length, take, refl, sym, ap, ◌∙◌, subst, arith}
 use Rattle.std.specs.Prelude.{◌||◌, if◌then◌else◌}
 use Rattle.std.proofs.lemmas.Bool.Decides.{nat_tests}
 use Rattle.kr_base.specs.declared.span.Bound.{Bound}
@@ -10,7 +10,7 @@ use Rattle.kr_base.specs.Cuts.{Before}
 use Rattle.kr_base.specs.Entries.{AllAfter, Ascends, is_spent, is_within, within, through_spent}
 use Rattle.kr_base.proofs.Bounds.{irreflexive, transitive, not_above_less}
 use Rattle.kr_base.proofs.Orders.{test_from_before}
-use Rattle.kr_survey.specs.Scans.{any_spent, last_key, walked, reached, GoesOn, ScanLaw}
+use Rattle.kr_survey.specs.Scans.{any_spent, last_key, reached, GoesOn, ScanLaw}
 
 pub less_from_before : (j k : List ℕ) → Before j k → less (At j) (At k) ≡ true
 unfolding less

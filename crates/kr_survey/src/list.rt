@@ -1,6 +1,6 @@
 // Entries in memory, as a survey.
 ghost use Rattle.std.specs.Prelude.{◌≡◌, ◌↔◌, ◌<◌, ◌++◌, List, ℕ, IsTrue, IfOk, OnOk};
-ghost use Rattle.kr_base.specs.Entries.{Ascends, is_spent, is_within};
+ghost use Rattle.kr_base.specs.Entries.{Ascends, is_spent};
 ghost use Rattle.kr_survey.specs.Scans.{IsScan, row_of};
 ghost use Rattle.kr_survey.specs.Ascents.{ascends_from};
 
@@ -61,17 +61,6 @@ impl ListSurvey {
     {
         ListSurvey { alloc, entries }
     }
-}
-
-#[tactic(auto, unfolding(kr_base::specs::Bounds::less))]
-fn is_within(after: &Cut, upto: &Bound, key: &Cut) -> bool
-    ensures { result ≡ is_within (Bound.At after.now) upto.now key.now }
-{
-    after.is_below(key)
-        && match upto {
-            Bound::End => true,
-            Bound::At(cut) => !cut.is_below(key),
-        }
 }
 
 fn is_spent(mark: &Mark<Cut>) -> bool
@@ -144,7 +133,7 @@ impl Survey for ListSurvey {
         let mut rows = Vec::new(self.alloc);
         let mut tried: u32 = 0;
         for entry in self.entries.as_slice() {
-            if is_within(after, upto, &entry.key) {
+            if entry.key.is_within(after, upto) {
                 add_row(&mut rows, &entry.mark)?;
                 tried += 1;
                 let spent = is_spent(&entry.mark);

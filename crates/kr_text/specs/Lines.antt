@@ -1,4 +1,4 @@
--- Between crates: what a line has taken, how often it was refused memory, and the last refusal.
+-- Between crates: the bytes of a line, its count of faults, and the last cause.
 use Rattle.std.specs.Prelude.{ℕ, List, Option}
 use Rattle.kr_base.specs.declared.memory.NoMemory.{NoMemory}
 use Rattle.kr_text.specs.declared.line.Line.{Line}

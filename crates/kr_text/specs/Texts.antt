@@ -3,7 +3,7 @@ use Rattle.std.specs.Prelude.{ℕ, List, [], ◌∷◌, ◌++◌, codes, decimal
 use Rattle.std.specs.Borrow.{Bor}
 use Rattle.kr_base.specs.declared.place.Place.{Place}
 
--- pieces, one after another
+-- the pieces in order
 abbrev pub joined : List (Bor (List ℕ)) → List ℕ
 joined pieces = flat_map (λ piece. piece.now) pieces
 
@@ -15,11 +15,11 @@ abbrev pub where_text : List ℕ → Option Place → List ℕ
 where_text name (Some place) = place_text name place
 where_text name None = name
 
--- `: RULE ITEM`, without an item where it is empty, and the line's end
+-- `: RULE ITEM`, without an item if it is empty, and the line's end
 abbrev pub rule_text : List ℕ → List ℕ → List ℕ
 rule_text rule [] = codes ": " ++ rule ++ codes "\n"
 rule_text rule (c ∷ cs) = codes ": " ++ rule ++ codes " " ++ (c ∷ cs) ++ codes "\n"
 
--- a refusal's line: `NAME:LINE:COL: RULE ITEM`, without a place where there is none
+-- a refusal's line: `NAME:LINE:COL: RULE ITEM`, without a place if there is none
 abbrev pub refusal_text : List ℕ → Option Place → List ℕ → List ℕ → List ℕ
 refusal_text name place rule item = where_text name place ++ rule_text rule item

@@ -1,4 +1,4 @@
-//! Texts into a sink: numbers, places, refusals, and lines that are put together before they are put.
+//! Writing texts to a sink: numbers, places, refusals, and lines that are assembled before they are written.
 #![tactic(auto)]
 
 mod line;

@@ -1,23 +1,23 @@
-// A line that is put together before it is put, so that it costs one write.
+// A line that is assembled before it is written, so that it costs one write.
 ghost use Rattle.std.specs.Prelude.{◌≡◌, ◌<◌, ◌++◌, [], true, OnOk, OnErr, is_some};
 
 use kr_base::{Failed, NoMemory, Sink};
 use std::alloc::Global;
 
-/// A sink that keeps what it takes. It fails, counts that, and keeps the refusal, where it is refused memory.
+/// A sink that keeps the bytes it takes. When out of memory it fails, counts a fault, and keeps the cause.
 #[derive(Drop)]
 pub struct Line {
     bytes: Vec<u8>,
     refused: Option<NoMemory>,
     faults: u64,
-    /// Where it failed, the refusal is there.
+    /// After a fault, the cause is kept.
     ghost kept: { 0 < faults → is_some refused ≡ true },
 }
 
 impl Line {
     ghost use Rattle.kr_text.specs.Lines.{line_bytes, line_faults, line_refused};
 
-    /// An empty line. It takes no memory.
+    /// An empty line. Allocates nothing.
     pub fn new(alloc: Global) -> Self
         ensures empty { line_bytes result ≡ [] }
         ensures faults { line_faults result ≡ 0 }
@@ -29,14 +29,14 @@ impl Line {
         }
     }
 
-    /// What was taken since the line was made or cleared.
+    /// The bytes taken since the line was made or cleared.
     pub fn bytes(&self) -> &[u8]
         ensures { result.now ≡ line_bytes self.now }
     {
         &self.bytes
     }
 
-    /// The refusal of the last put that failed; there is one where a fault was counted.
+    /// The cause of the last failed put, if a fault was counted.
     pub fn refused(&self) -> Option<NoMemory>
         ensures refused { result ≡ line_refused self.now }
         ensures kept { 0 < line_faults self.now → is_some result ≡ true }
@@ -44,7 +44,7 @@ impl Line {
         self.refused
     }
 
-    /// Adds bytes. Without memory they are not added, and no fault is counted.
+    /// Adds bytes. When out of memory it adds none, and counts no fault.
     pub fn add(&mut self, bytes: &[u8]) -> Result<(), NoMemory>
         ensures added { OnOk result (line_bytes self.new ≡ line_bytes self.old ++ bytes.now) }
         ensures unchanged { OnErr result (line_bytes self.new ≡ line_bytes self.old) }

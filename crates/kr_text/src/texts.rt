@@ -1,4 +1,4 @@
-// The texts.
+// Texts that the program writes.
 ghost use Rattle.std.specs.Fmt.{signed_decimal};
 ghost use Rattle.kr_base.specs.Told.{Writes};
 ghost use Rattle.kr_text.specs.Texts.{joined, place_text, where_text, refusal_text, rule_text};
@@ -6,7 +6,7 @@ ghost use Rattle.kr_text.specs.Texts.{joined, place_text, where_text, refusal_te
 use itoa::Buffer;
 use kr_base::{Failed, Place, Sink, put_all};
 
-/// Puts a number in decimal, behind a `-` where it is negative.
+/// Writes a number in decimal, with a `-` if it is negative.
 pub fn put_decimal<K: Sink>(out: &mut K, number: i128) -> Result<(), Failed>
     ensures { Writes K.taken K.faults out.old out.new (signed_decimal number) result }
 {
@@ -14,7 +14,7 @@ pub fn put_decimal<K: Sink>(out: &mut K, number: i128) -> Result<(), Failed>
     put_all(out, buffer.format(number).as_bytes())
 }
 
-/// Puts texts, one after another.
+/// Writes the texts in order.
 pub fn put_pieces<K: Sink>(out: &mut K, pieces: &[&[u8]]) -> Result<(), Failed>
     ensures { Writes K.taken K.faults out.old out.new (joined pieces.now) result }
 {
@@ -24,7 +24,7 @@ pub fn put_pieces<K: Sink>(out: &mut K, pieces: &[&[u8]]) -> Result<(), Failed>
     Ok(())
 }
 
-/// Puts `NAME:LINE:COL`.
+/// Writes `NAME:LINE:COL`.
 pub fn put_place<K: Sink>(out: &mut K, name: &str, place: Place) -> Result<(), Failed>
     ensures { Writes K.taken K.faults out.old out.new (place_text name.now place) result }
 {
@@ -35,7 +35,7 @@ pub fn put_place<K: Sink>(out: &mut K, name: &str, place: Place) -> Result<(), F
     put_pieces(out, &[name.as_bytes(), b":", line, b":", col])
 }
 
-/// Puts `: `, the rule, a space and the item where it isn't empty, and the line's end.
+/// Writes `: `, the rule, a space and the item unless it is empty, and the line's end.
 fn put_rule<K: Sink>(out: &mut K, rule: &str, item: &[u8]) -> Result<(), Failed>
     ensures { Writes K.taken K.faults out.old out.new (rule_text rule.now item.now) result }
 {
@@ -47,7 +47,7 @@ fn put_rule<K: Sink>(out: &mut K, rule: &str, item: &[u8]) -> Result<(), Failed>
     }
 }
 
-/// Puts the name, and the place behind it where there is one.
+/// Writes the name, followed by the place, if any.
 fn put_where<K: Sink>(out: &mut K, name: &str, place: Option<Place>) -> Result<(), Failed>
     ensures { Writes K.taken K.faults out.old out.new (where_text name.now place) result }
 {
@@ -57,7 +57,7 @@ fn put_where<K: Sink>(out: &mut K, name: &str, place: Option<Place>) -> Result<(
     }
 }
 
-/// Puts a refusal's line, whose item is any bytes.
+/// Writes a refusal's line, whose item is any bytes.
 pub fn put_refusal_bytes<K: Sink>(
     out: &mut K,
     name: &str,
@@ -71,8 +71,8 @@ pub fn put_refusal_bytes<K: Sink>(
     put_rule(out, rule, item)
 }
 
-/// Puts a refusal's line: the name, `:LINE:COL` where there is a place, `: `, the rule, a space and the item where it
-/// isn't empty.
+/// Writes a refusal's line: the name, `:LINE:COL` if there is a place, `: `, the rule, and a space and the item unless
+/// it is empty.
 pub fn put_refusal<K: Sink>(
     out: &mut K,
     name: &str,

@@ -4,6 +4,7 @@ use Rattle.std.specs.Prelude.{Option, Some, None, flat_map, option_map, slice_ge
 use Rattle.std.proofs.lemmas.List.{length-append, length-map, take_all}
 use Rattle.kr_ast.specs.Arena.{Arena, root, tree_in}
 use Rattle.kr_base.proofs.Added.{flat_step}
+use Rattle.kr_base.proofs.ListLemmas.{slice_get-push}
 use Rattle.kr_ast.specs.Files.{file_at, no_file}
 use Rattle.kr_classes_table.specs.Rules.{Fault, least, sooner}
 use Rattle.kr_classes_table.specs.Constants.{values_of}
@@ -12,7 +13,7 @@ use Rattle.kr_types_meaning.specs.Typing.{IsWellTyped, judged, outside, type_fau
 use Rattle.kr_types_meaning.specs.Noting as noting
 use Rattle.kr_types_scopes.proofs.Noted.{least-append}
 use Rattle.kr_classes_members.specs.Shown.{table_in}
-use Rattle.kr_classes_types.specs.Types.{TypeList, Extends, type_at}
+use Rattle.kr_classes_names.specs.Types.{TypeList, Extends, type_at}
 use Rattle.kr_types_judging.specs.declared.notes.Note.{Note}
 use Rattle.kr_types_judging.specs.Shown.{known_shown, least_shown}
 use Rattle.kr_types_expressions.specs.Notes.{typed_in}
@@ -49,14 +50,7 @@ pub all_faults : (files : List Arena) → type_fault (map root files) ≡ least 
 unfolding type_fault
 all_faults files = ap (λ ts. least (flat_map (tree_faults files) ts)) (sym (take_all (length files) (map root files) (omega (arith, length-map files root))))
 
--- a file more at the end
-pub got_push : {A : Type 0} (xs : List A) (y : A) (k : ℕ) (x : A) → slice_get (xs ++ y ∷ []) k ≡ Some x → (slice_get xs k ≡ Some x) ⊎ ((k ≡ length xs) × (y ≡ x))
-got_push [] y zero x e = inr (refl, (cc))
-got_push [] y (suc k) x e = absurd (cc)
-got_push (z ∷ zs) y zero x e = inl e
-got_push (z ∷ zs) y (suc k) x e = elim (got_push zs y k x e) [ inl l ↦ inl l | inr r ↦ inr (omega (arith, r.0), r.1) ]
-
--- as types are added
+-- while types are added
 pub typed_kept : (files : List Arena) (a b : TypeList) (f : ℕ) (t : TypedFile) → Extends a b → IsTypedFile files a f t → IsTypedFile files b f t
 typed_kept files a b f t x h = record {
   scopes = h.scopes;
@@ -71,7 +65,7 @@ typed_kept files a b f t x h = record {
 pub file_more : (files : List Arena) (a b : TypeList) (n : ℕ) (ts : List TypedFile) (t : TypedFile) → Extends a b → AreTypedFiles files a n ts → IsTypedFile files b n t → AreTypedFiles files b (n + 1) (ts ++ t ∷ [])
 file_more files a b n ts t x h made = record {
   count = omega (arith, h.count, length-append ts (t ∷ []));
-  each = λ f u is. either f u (got_push ts t f u is);
+  each = λ f u is. either f u (slice_get-push ts t f u is);
 }
   where
     either : (f : ℕ) (u : TypedFile) → (slice_get ts f ≡ Some u) ⊎ ((f ≡ length ts) × (t ≡ u)) → IsTypedFile files b f u

@@ -1,4 +1,4 @@
--- Where a node of all files stands.
+-- The position of a node among all files.
 use Rattle.std.proofs.Common.{◌≡◌, refl, sym, ap, ◌∙◌, ℕ, zero, suc, ◌+◌, ◌-◌, ◌<◌, ◌≤◌, List, [], ◌∷◌, ◌++◌, length, drop, get_or, arith}
 use Rattle.std.specs.Prelude.{slice_get}
 use Rattle.std.proofs.lemmas.List.{length-append}
@@ -29,7 +29,7 @@ before [] ys k l = absurd (omega (arith, l))
 before (x ∷ xs) ys zero l = refl
 before (x ∷ xs) ys (suc k) l = before xs ys k (omega (arith, l))
 
--- a node behind those of a file
+-- a node after those of a file
 pub onward : (files : List Arena) (i rest : ℕ) (a : Arena) → rest < length (all_entries (drop i files)) → a ≡ get_or files i a → length a.entries ≤ rest
     → (rest - length a.entries < length (all_entries (drop (i + 1) files))) × (slice_get (all_entries (drop (i + 1) files)) (rest - length a.entries) ≡ slice_get (all_entries (drop i files)) rest)
 onward files i rest a w is l =

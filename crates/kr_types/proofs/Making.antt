@@ -1,18 +1,16 @@
 -- The note of a node of a known kind.
-use Rattle.std.proofs.Common.{◌≡◌, sym, ap, ◌∙◌, subst, ℕ, ◌<◌, List, length, arith}
+use Rattle.std.proofs.Common.{◌≡◌, sym, ap, ◌∙◌, subst, ℕ, List, length}
 use Rattle.std.specs.Prelude.{Result, Ok, Err, IfOk, slice_index_or}
 use Rattle.kr_base.specs.declared.place.Place.{Place}
 use Rattle.kr_ast.specs.declared.node.Node.{Node}
 use Rattle.kr_types_meaning.specs.Scopes.{Scope}
 use Rattle.kr_types_meaning.specs.Noting as noting
-use Rattle.kr_classes_types.specs.Types.{TypeList, Extends}
+use Rattle.kr_classes_names.specs.Types.{TypeList, Extends}
 use Rattle.kr_types_scopes.specs.declared.within.Within.{Within}
 use Rattle.kr_types_scopes.specs.Scoped.{nowhere}
-use Rattle.kr_types_judging.specs.declared.known.Known.{Known}
-use Rattle.kr_types_judging.specs.declared.known.Known.TheVariants as known
 use Rattle.kr_types_judging.specs.declared.notes.Note.{Note}
 use Rattle.kr_types_judging.specs.Shown.{HasNoRest, IsNoteWithin, note_shown}
-use Rattle.kr_types_expressions.specs.Notes.{AreNotesWithin, IsRestBelow, shown_notes, typed_in}
+use Rattle.kr_types_expressions.specs.Notes.{AreNotesWithin, shown_notes, typed_in}
 use Rattle.kr_types_expressions.proofs.Notes.{no_rest_below, no_rest_linked, notes_same}
 use Rattle.kr_types.specs.declared.site.Site.{Site}
 use Rattle.kr_types.specs.declared.site.Spot.{Spot}
@@ -39,7 +37,7 @@ module _ (s : Site) (l : TypeList) (ns : List Note) (x : Spot) where
   pub of_none : (f : Scope → noting.Note) (w : Within) (m : Node) (made : Note) → w ≡ there → x.node ≡ m → IsNoteWithin l made → HasNoRest made.known → shown_here made ≡ f (scope_here s w) → f (scope_of s x.at) ≡ noted_here m → IsSpotNote s l ns x made
   of_none f w m made at e in_l r h k = made_of s l ns (length ns) (scope_of s x.at) x.place x.node m made e in_l r (h ∙ ap (λ (v : Within). f (scope_here s v)) at ∙ k)
 
-  -- from the notes of its parts
+  -- the note from those of its parts
   pub of_one : (f : Scope → noting.Note → noting.Note) (w : Within) (m : Node) (made y : Note) (a : ℕ) → w ≡ there → x.node ≡ m → IsNoteWithin l made → HasNoRest made.known → shown_here made ≡ f (scope_here s w) (shown_here y)
       → shown_here y ≡ kept_at a → f (scope_of s x.at) (kept_at a) ≡ noted_here m → IsSpotNote s l ns x made
   of_one f w m made y a at e in_l r h p k = of_none (λ v. f v (kept_at a)) w m made at e in_l r (h ∙ ap (f (scope_here s w)) p) k
@@ -63,9 +61,3 @@ pub part_grown : (a b : TypeList) (ns : List Note) (x : Note) (k : ℕ) → Exte
 part_grown a b ns x k e w h =
     let same = notes_same a b ns e w in
     ap (λ (xs : List noting.Note). note_shown a (λ j. (noting.note_at xs j).typed) x) same ∙ h ∙ ap (λ (xs : List noting.Note). noting.note_at xs k) (sym same)
-
--- the rest of a list stands before what comes later, too
-pub rest_on : (i j : ℕ) (k : Known) → i < j → IsRestBelow i k → IsRestBelow j k
-rest_on i j (known.More first rest) h b = omega (arith, h, b)
-rest_on i j (known.One t) h b = tt
-rest_on i j known.Absent h b = tt

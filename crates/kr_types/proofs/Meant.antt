@@ -1,9 +1,10 @@
--- What the nodes of a file mean, as one more node is kept.
+-- The meanings of a file's nodes, while one more node is added.
 use Rattle.std.proofs.Common.{◌≡◌, refl, sym, ap, ◌∙◌, subst, ℕ, zero, suc, ◌<◌, ◌≤◌, ◌⊎◌, inl, inr, List, [], ◌∷◌, ◌++◌, length, get_or, Some, arith}
 use Rattle.std.specs.Prelude.{IfOk, Option, Result, Ok, Err, slice_get, slice_index_or}
 use Rattle.std.proofs.lemmas.List.{length-append}
 use Rattle.std.proofs.lemmas.Option.{get_or_from_slice_get, slice_get_read, slice_get_within}
 use Rattle.kr_base.specs.declared.place.Place.{Place}
+use Rattle.kr_base.proofs.ListLemmas.{slice_get-push}
 use Rattle.kr_ast.specs.Tree.{Tree}
 use Rattle.kr_ast.specs.declared.node.Name.{Name}
 use Rattle.kr_ast.specs.declared.node.Node.{Node}
@@ -18,7 +19,7 @@ use Rattle.kr_types_meaning.specs.Scopes.{Scope, class_before, method_meant, sup
 use Rattle.kr_types_meaning.specs.Typing.{judged, type_in}
 use Rattle.kr_types_meaning.specs.Noting as noting
 use Rattle.kr_types_meaning.specs.Handing.{handed}
-use Rattle.kr_classes_types.specs.Types.{TypeList, Extends}
+use Rattle.kr_classes_names.specs.Types.{TypeList, Extends}
 use Rattle.kr_types_scopes.specs.declared.within.Within.{Within}
 use Rattle.kr_types_scopes.specs.Scoped.{nowhere}
 use Rattle.kr_types_judging.specs.declared.notes.Note.{Note}
@@ -37,7 +38,6 @@ use Rattle.kr_types.specs.declared.group.Bare.TheVariants as bares
 use Rattle.kr_types.specs.Kinds.{IsContract, IsLeaf, IsOfBare, IsOperation, IsReturned, IsTest, IsType, IsWrite}
 use Rattle.kr_types.specs.declared.notes.Noted.{Noted}
 use Rattle.kr_types.specs.Sites.{AreKept, AreMeant, AreNoted, IsInside, IsMeantBy, IsNoteOf, IsSite, IsSpot, IsSpotNote, object_noted, scope_here, scope_of, tree_there}
-use Rattle.kr_types.proofs.Faults.{got_push}
 use Rattle.kr_types.proofs.Passing.{noted_more, parts_below, some_entry}
 
 object_near : (ns ms : List noting.Note) (i : ℕ) (n : Node) → ((k : ℕ) → k < i → noting.note_at ns k ≡ noting.note_at ms k) → AreBelow i (parts n) → object_noted ns n ≡ object_noted ms n
@@ -61,7 +61,7 @@ module _ (s : Site) (a b : TypeList) (ns : List Note) (n : Note) (forest : IsFor
   -- with a node more
   pub meant_more : (ms : List Meaning) (m : Meaning) → length ms ≡ length ns → AreMeant s a ns ms → ((e : Entry) → slice_get (tree_there s).entries (length ns) ≡ Some e → IsMeantBy s (shown_notes a ns) (length ns) e.node m)
       → AreMeant s b (ns ++ n ∷ []) (ms ++ m ∷ [])
-  meant_more ms m count h last i e y is got = go (got_push ms m i y got)
+  meant_more ms m count h last i e y is got = go (slice_get-push ms m i y got)
     where
       go : (slice_get ms i ≡ Some y) ⊎ ((i ≡ length ms) × (m ≡ y)) → IsMeantBy s (shown_notes b (ns ++ n ∷ [])) i e.node y
       go (inl g) = let lt = slice_get_within ms i y g in near i e y (omega (arith, lt, count)) is (h i e y is g)
@@ -70,7 +70,7 @@ module _ (s : Site) (a b : TypeList) (ns : List Note) (n : Note) (forest : IsFor
           (subst (λ (j : ℕ). slice_get (tree_there s).entries j ≡ Some e → IsMeantBy s (shown_notes a ns) j e.node y) (sym (r.0 ∙ count))
           (λ z. subst (λ (v : Meaning). IsMeantBy s (shown_notes a ns) (length ns) e.node v) r.1 (last e z)) is)
 
--- the object before a dot stands as a value where the whole does
+-- the object before a dot is in the role of a value if the whole is
 pub object_scope : (s : Site) (l : TypeList) → IsSite s l → (i a : ℕ) (p : Place) (n : Node) → i < length (tree_there s).entries → tree_in (tree_there s) i ≡ tree_of (tree_there s).text (tree_in (tree_there s)) p n → IsPart (tree_there s).entries i 0 a
     → handed (scope_of s i) (tree_of (tree_there s).text (tree_in (tree_there s)) p n) 0 ≡ value (scope_of s i) → scope_of s a ≡ value (scope_of s i)
 object_scope s l site i a p n lt tree part runs =
@@ -179,7 +179,7 @@ unmeant s ns i p n tree bares.Test k = of_other s ns i p n tree IsTest k (λ x h
 
 -- ---- a node more
 
--- as its entry says
+-- by its entry
 pub spot_is : (s : Site) (n at : ℕ) (a : Arena) (e : Entry) → a ≡ tree_there s → n ≡ at → at < length (tree_there s).entries → slice_get a.entries at ≡ Some e
     → tree_in a at ≡ tree_of a.text (tree_in a) e.place e.node → ArePartsFrom a.entries at 0 (parts e.node) → AreNamesIn a.text (names e.node) → IsSpot s n (record { at = at; place = e.place; node = e.node })
 spot_is s n at a e is count lt here tree stands named =

@@ -9,7 +9,7 @@ use Rattle.kr_ast.specs.declared.node.Primitive.{Primitive}
 use Rattle.kr_ast.specs.declared.node.Primitive.TheVariants.{Int, Boolean, Void}
 use Rattle.kr_classes_table.specs.Types.{JavaType, IntType, BooleanType, NullType, VoidType, ClassType, ArrayType, SetType, ListType, InferredType, UnknownType, AppliedType}
 use Rattle.kr_classes_table.specs.Table.{Heading, applied, class_at, class_named, class_or, classes_from, is_number, line_of, line_within, number_of, outer_of, super_of, table_of, type_named}
-use Rattle.kr_classes_names.proofs.ClassNumbers.{number_below}
+use Rattle.kr_classes_table.proofs.Tables.{long, bounded_from}
 
 kept : (t : ℕ → Bool) (o : Option ℕ) (c : ℕ) → option_and_then (λ d. cond (t d) (Some d) None) o ≡ Some c → o ≡ Some c
 kept t None c e = absurd (cc (e))
@@ -20,8 +20,8 @@ kept t (Some d) c e = go (t d) e
     go false h = absurd (cc (h))
 
 class_below : (hs : List Heading) (t : Tree) (c : ℕ) → class_named hs t ≡ Some c → c < length hs
-class_below hs (trees.NamedType p n) c e = let b = number_below 0 hs n c e in omega (arith, b)
-class_below hs (trees.QualifiedType p o n) c e = let b = number_below 0 hs n c (kept (λ d. is_number (outer_of hs d) (number_of hs o)) (number_of hs n) c e) in omega (arith, b)
+class_below hs (trees.NamedType p n) c e = let b = bounded_from 0 hs n c e in omega (arith, b)
+class_below hs (trees.QualifiedType p o n) c e = let b = bounded_from 0 hs n c (kept (λ d. is_number (outer_of hs d) (number_of hs o)) (number_of hs n) c e) in omega (arith, b)
 class_below hs _ c e = absurd (cc (e))
 
 not_applied : (h t : JavaType) (c : ℕ) → applied h t ≡ ClassType c → ⊥
@@ -61,10 +61,6 @@ type_below hs (trees.DiamondType p h) c e = absurd (not_applied (type_named hs h
 type_below hs (trees.ArrayType p u) c e = absurd (cc (e))
 type_below hs _ c e = absurd (cc (e))
 
-classes_count : (all : List Heading) (k : ℕ) (hs : List Heading) → length (classes_from all k hs) ≡ length hs
-classes_count all k [] = refl
-classes_count all k (h ∷ hs) = ap suc (classes_count all (k + 1) hs)
-
 -- a superclass is there
 super_in : (all : List Heading) (k : ℕ) (hs : List Heading) (c d : ℕ) → option_and_then (λ x. x.super) (class_at (classes_from all k hs) c) ≡ Some d → d < length all
 super_in all k [] c d e = absurd (cc (e))
@@ -78,17 +74,17 @@ module _ (files : List Tree) where
   -- a class that a type names is there
   pub named_there : (t : Tree) (c : ℕ) → type_named (table_of files).headings t ≡ ClassType c → IsThere c
   unfolding table_of
-  named_there t c e = let hs = (table_of files).headings in omega (arith, type_below hs t c e, classes_count hs 0 hs)
+  named_there t c e = let hs = (table_of files).headings in omega (arith, type_below hs t c e, long hs 0 hs)
 
   super_there : (c d : ℕ) → super_of (table_of files) c ≡ Some d → IsThere d
   unfolding table_of
-  super_there c d e = let hs = (table_of files).headings in omega (arith, super_in hs 0 hs c d e, classes_count hs 0 hs)
+  super_there c d e = let hs = (table_of files).headings in omega (arith, super_in hs 0 hs c d e, long hs 0 hs)
 
   within_there : (n : ℕ) (o : Option ℕ) → ((c : ℕ) → o ≡ Some c → IsThere c) → All IsThere (line_within n (table_of files) o)
   within_there zero o h = All-nil IsThere
   within_there (suc n) None h = All-nil IsThere
   within_there (suc n) (Some c) h = All-cons IsThere c _ (h c refl) (within_there n (super_of (table_of files) c) (super_there c))
 
-  -- and its ancestors
+  -- a class and its ancestors exist
   pub line_there : (c : ℕ) → IsThere c → All IsThere (line_of (table_of files) c)
   line_there c h = All-cons IsThere c _ h (within_there _ (super_of (table_of files) c) (super_there c))

@@ -19,8 +19,8 @@ use Rattle.kr_types_meaning.specs.Scopes.{Scope}
 use Rattle.kr_types_meaning.specs.Typing.{judged}
 use Rattle.kr_types_meaning.specs.Noting as noting
 use Rattle.kr_types_scopes.proofs.Notes.{all_judged}
-use Rattle.kr_classes_types.specs.Types.{TypeList, Extends}
-use Rattle.kr_classes_types.proofs.Growing.{number_kept}
+use Rattle.kr_classes_names.specs.Types.{TypeList, Extends}
+use Rattle.kr_classes_names.proofs.Growing.{number_kept}
 use Rattle.kr_types_judging.specs.declared.notes.Note.{Note}
 use Rattle.kr_types_expressions.specs.Notes.{shown_notes}
 use Rattle.kr_types_expressions.proofs.Notes.{notes_same, shown_before, shown_last, within_kept, within_pushed}
@@ -41,7 +41,7 @@ noted_same s text look p n ns ms e =
     ∙ ap (λ (xs : List noting.Note). noting.noted s (tree_of text look p n) (λ j. slice_index_or xs j (noting.note Untyped None))) e
     ∙ sym (noted_listed s text look p n ms)
 
--- the parts of a node stand before it
+-- the parts of a node come before it
 pub parts_below : (es : List Entry) (i j : ℕ) (cs : List ℕ) → ArePartsFrom es i j cs → AreBelow i cs
 parts_below es i j [] h = tt
 parts_below es i j (c ∷ cs) h = (h.0.below, parts_below es i (j + 1) cs h.1)
@@ -111,7 +111,7 @@ some_entry [] i l = absurd (omega (arith, l))
 some_entry (e ∷ es) zero l = (e, refl)
 some_entry (e ∷ es) (suc i) l = some_entry es i (omega (arith, l))
 
--- as a loop over the nodes has it
+-- in the form of a loop over the nodes
 pub noted_more : (s : Site) (a b : TypeList) (ns ds : List Note) (m : Note) (at : ℕ) → IsForest (tree_there s).text (tree_there s).entries → AreNoted s a ns → Extends a b → length ns ≡ at → ds ≡ ns → at < length (tree_there s).entries
     → ((e : Entry) → slice_get (tree_there s).entries at ≡ Some e → IsNoteOf s b ds at (scope_of s at) e.place e.node m) → AreNoted s b (ns ++ m ∷ [])
 noted_more s a b ns ds m at forest h x count same lt made =
@@ -119,7 +119,7 @@ noted_more s a b ns ds m at forest h x count same lt made =
     one_more s a b ns m e.0 forest h x (ap (slice_get (tree_there s).entries) count ∙ e.1)
     (subst (λ (k : ℕ). IsNoteOf s b ns k (scope_of s k) e.0.place e.0.node m) (sym count) (subst (λ (xs : List Note). IsNoteOf s b xs at (scope_of s at) e.0.place e.0.node m) same (made e.0 e.1)))
 
--- where all nodes have their notes these are what is kept of the judgements
+-- once all nodes have notes, these are the notes of the judgements
 pub judged_there : (s : Site) (l : TypeList) (ns : List Note) → IsArena (tree_there s).text (tree_there s).entries → IsSite s l → AreNoted s l ns → length ns ≡ length (tree_there s).entries
     → (i : ℕ) → i < length (tree_there s).entries → noting.note_at (shown_notes l ns) i ≡ noting.kept (judged (scope_of s i) (tree_in (tree_there s) i))
 judged_there s l ns arena site h count i lt =

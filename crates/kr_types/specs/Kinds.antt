@@ -61,7 +61,7 @@ IsContract (nodes.Requires a) = Unit {0}
 IsContract (nodes.Ensures a) = Unit {0}
 IsContract _ = ⊥
 
--- a type is told by its names alone
+-- its names alone determine the type
 abbrev pub IsTypeName : Node → Type 0
 IsTypeName (nodes.PrimitiveType k) = Unit {0}
 IsTypeName (nodes.NamedType n) = Unit {0}
@@ -74,7 +74,7 @@ IsType (nodes.GenericType a b) = Unit {0}
 IsType (nodes.ArrayType a) = Unit {0}
 IsType n = IsTypeName n
 
--- a list, or what is absent
+-- a list, or an absent part
 abbrev pub IsList : Node → Type 0
 IsList nodes.Nil = Unit {0}
 IsList (nodes.Cons a b) = Unit {0}
@@ -93,7 +93,7 @@ IsGrowing nodes.This = Unit {0}
 IsGrowing (nodes.ArrayCreation a b) = Unit {0}
 IsGrowing _ = ⊥
 
--- it stands behind a dot
+-- it comes after a dot
 abbrev pub IsAccess : Node → Type 0
 IsAccess (nodes.FieldAccess a n) = Unit {0}
 IsAccess (nodes.MethodCall a n b) = Unit {0}

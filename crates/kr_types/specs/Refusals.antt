@@ -1,4 +1,4 @@
--- Between crates: what a refusal says of the typing rules.
+-- Between crates: the refusal of files that break a typing rule.
 use Rattle.std.specs.Prelude.{◌≡◌, ℕ, List, map, take, flat_map, Some}
 use Rattle.kr_base.specs.declared.refusal.RefusalAt.{RefusalAt}
 use Rattle.kr_base.specs.declared.refusal.RefusalAt.TheVariants.{Broken, NoMemory}
@@ -11,7 +11,7 @@ use Rattle.kr_classes_members.specs.Shown.{table_in}
 use Rattle.kr_types_judging.specs.Numbers.{rule_number}
 use Rattle.kr_types_judging.specs.declared.rules.TypingRule.{TypingRule}
 
--- the place and the rule are those of the first broken node; want of memory is free
+-- the place and the rule are those of the first broken node; memory may always run out
 abbrev pub IsRefusal : List Arena → RefusalAt TypingRule → Type 0
 IsRefusal files (Broken p r) = type_fault (map root files) ≡ Some (record { place = p; rule = rule_number r })
 IsRefusal files (NoMemory _) = Unit {0}

@@ -1,4 +1,4 @@
--- Between crates: what the notes of a file's nodes are made from, and what each note says.
+-- Between crates: the context of a file's notes, and the meaning of each note.
 use Rattle.std.specs.Prelude.{◌≡◌, ℕ, ◌<◌, List, length, Option, Some, None, slice_get}
 use Rattle.kr_base.specs.declared.place.Place.{Place}
 use Rattle.kr_ast.specs.declared.node.Node.{Node}
@@ -17,9 +17,9 @@ use Rattle.kr_classes_names.specs.Shown.{AreHeads}
 use Rattle.kr_ast.specs.Files.{file_at}
 use Rattle.kr_classes_members.specs.Shown.{table_in}
 use Rattle.kr_classes_members.specs.Kept.{AreMembers}
-use Rattle.kr_classes_roster.specs.Rosters.{IsRoster}
-use Rattle.kr_classes_types.specs.Types.{TypeList}
-use Rattle.kr_classes_types.specs.Numbers.{AreNodeTypes}
+use Rattle.kr_classes_members.specs.Rosters.{IsRoster}
+use Rattle.kr_classes_names.specs.Types.{TypeList}
+use Rattle.kr_classes_names.specs.Numbers.{AreNodeTypes}
 use Rattle.kr_classes_constants.specs.Kept.{AreValues}
 use Rattle.kr_types_judging.specs.declared.notes.Note.{Note}
 use Rattle.kr_types_judging.specs.Shown.{IsNoteWithin, note_shown}
@@ -39,7 +39,7 @@ use Rattle.kr_types.specs.declared.notes.Noted.{Noted}
 abbrev pub tree_there : Site → Arena
 tree_there s = file_at s.trees.now s.file
 
--- of the file, with the class table of its program, and the scopes of its nodes
+-- the file, with the class table of its program, and the scopes of its nodes
 pub record IsSite (s : Site) (l : TypeList) : Type 0 where
   pub heads : AreHeads s.trees.now s.heads.now
   pub members : AreMembers s.trees.now s.members.now
@@ -58,18 +58,18 @@ scope_here s w = scope_in (setting_in s.trees.now s.file) s.scopes.now.bindings.
 abbrev pub scope_of : Site → ℕ → Scope
 scope_of s i = scope_at (setting_in s.trees.now s.file) s.scopes.now.bindings.items s.scopes.now.within.items i
 
--- what follows for a node in a scope from the notes of the nodes before it
+-- the note of a node in a scope, given the notes of the nodes before it
 abbrev pub noted_there : Site → TypeList → List Note → Scope → Place → Node → noting.Note
 noted_there s l ns here p n = noting.noted here (tree_of (tree_there s).text (tree_in (tree_there s)) p n) (noting.part_note (shown_notes l ns) n)
 
--- the note of the node i, which stands in a scope
+-- the note of node i in its scope
 pub record IsNoteOf (s : Site) (l : TypeList) (ns : List Note) (i : ℕ) (here : Scope) (p : Place) (n : Node) (made : Note) : Type 0 where
   pub within : IsNoteWithin l made
   pub below : IsRestBelow i made.known
   pub linked : IsLinked (typed_in l ns) made.known
   pub shown : note_shown l (typed_in l ns) made ≡ noted_there s l ns here p n
 
--- a node of the file, behind the notes of as many nodes
+-- a node of the file, after the notes of as many nodes
 pub record IsSpot (s : Site) (n : ℕ) (x : Spot) : Type 0 where
   pub count : n ≡ x.at
   pub within : x.at < length (tree_there s).entries
@@ -100,7 +100,7 @@ IsBefore s i (nodes.FieldAccess a n) c = c ≡ class_before (scope_of s i) (tree
 IsBefore s i (nodes.MethodCall a n b) c = c ≡ class_before (scope_of s i) (tree_in (tree_there s) a)
 IsBefore s i n c = Unit {0}
 
--- what the node i means, by the notes of the nodes before it
+-- the meaning of node i, given the notes of the nodes before it
 pub record IsMeantBy (s : Site) (ns : List noting.Note) (i : ℕ) (n : Node) (m : Meaning) : Type 0 where
   pub within : IsMeaningWithin (table_in s.trees.now) m
   pub shown : meaning_shown (table_in s.trees.now) m ≡ meanings.meaning_by (scope_of s i) (tree_in (tree_there s) i) (object_noted ns n)
@@ -112,7 +112,7 @@ AreMeant s l ns ms = (i : ℕ) (e : Entry) (m : Meaning) → slice_get (tree_the
 abbrev pub IsInside : Site → Inside → Type 0
 IsInside s i = class_there (setting_in s.trees.now s.file) i.declared ≡ i.class
 
--- what is kept of the first nodes of the file
+-- the notes and meanings of the first nodes of the file
 pub record AreKept (s : Site) (l : TypeList) (k : Noted) : Type 0 where
   pub noted : AreNoted s l k.notes
   pub meant : AreMeant s l k.notes k.meanings.items

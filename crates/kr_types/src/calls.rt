@@ -7,8 +7,8 @@ ghost use Rattle.kr_types.specs.Kinds.{IsCall};
 use crate::site::{Site, Spot, part_note};
 use kr_ast::Node;
 use kr_base::NoMemory;
+use kr_classes_names::Types;
 use kr_classes_table::ClassId;
-use kr_classes_types::Types;
 use kr_types_expressions::{
     NoteList, call_note, constructor_call_note, creation_note, super_call_note,
 };

@@ -6,7 +6,7 @@ ghost use Rattle.kr_types.specs.Kinds.{IsTest};
 
 use crate::site::{Site, Spot, part_note};
 use kr_ast::Node;
-use kr_classes_types::Types;
+use kr_classes_names::Types;
 use kr_types_expressions::NoteList;
 use kr_types_judging::{Note, plain};
 use kr_types_statements::{for_note, if_else_note, if_then_note};

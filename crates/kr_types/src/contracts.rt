@@ -6,7 +6,7 @@ ghost use Rattle.kr_types.specs.Kinds.{IsContract};
 
 use crate::site::{Site, Spot, part_note};
 use kr_ast::Node;
-use kr_classes_types::Types;
+use kr_classes_names::Types;
 use kr_types_expressions::{NoteList, contract_note, old_note};
 use kr_types_judging::{Note, plain};
 

@@ -1,4 +1,4 @@
-// Notes of fields, constants and calls behind a dot.
+// Notes of fields, constants and calls after a dot.
 ghost use Rattle.std.specs.Prelude.{length, IfOk};
 ghost use Rattle.kr_types_expressions.specs.Notes.{AreNotesWithin};
 ghost use Rattle.kr_types.specs.Sites.{IsBefore, IsSite, IsSpot, IsSpotNote};
@@ -7,13 +7,13 @@ ghost use Rattle.kr_types.specs.Kinds.{IsAccess};
 use crate::site::{Site, Spot, part_note};
 use kr_ast::Node;
 use kr_base::NoMemory;
+use kr_classes_names::Types;
 use kr_classes_table::ClassId;
-use kr_classes_types::Types;
 use kr_types_expressions::{NoteList, field_note, method_call_note};
 use kr_types_judging::{ClassTypes, Note, plain};
 use std::alloc::Global;
 
-/// The note of what stands behind a dot: the node of a number, in its scope.
+/// The note of a node after a dot, by its number, in its scope.
 pub(crate) fn access_note(
     alloc: Global,
     site: &Site<'_>,

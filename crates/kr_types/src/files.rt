@@ -5,9 +5,9 @@ ghost use Rattle.kr_classes_table.specs.Rules.{least};
 ghost use Rattle.kr_classes_names.specs.Shown.{AreHeads};
 ghost use Rattle.kr_classes_members.specs.Shown.{table_in};
 ghost use Rattle.kr_classes_members.specs.Kept.{AreMembers};
-ghost use Rattle.kr_classes_roster.specs.Rosters.{IsRoster};
-ghost use Rattle.kr_classes_types.specs.Types.{Extends};
-ghost use Rattle.kr_classes_types.specs.Numbers.{AreNodeTypes};
+ghost use Rattle.kr_classes_members.specs.Rosters.{IsRoster};
+ghost use Rattle.kr_classes_names.specs.Types.{Extends};
+ghost use Rattle.kr_classes_names.specs.Numbers.{AreNodeTypes};
 ghost use Rattle.kr_classes_constants.specs.Kept.{AreValues};
 ghost use Rattle.kr_types_judging.specs.Shown.{least_shown};
 ghost use Rattle.kr_classes.specs.ClassTables.{IsClassTable};
@@ -22,15 +22,13 @@ use kr_ast::{Tree, tree_of};
 use kr_base::NoMemory;
 use kr_classes::ClassTable;
 use kr_classes_constants::Values;
-use kr_classes_members::Members;
-use kr_classes_names::Heads;
-use kr_classes_roster::Roster;
-use kr_classes_types::{NodeTypes, Types};
+use kr_classes_members::{Members, Roster};
+use kr_classes_names::{Heads, NodeTypes, Types};
 use kr_types_judging::{Fault, earlier};
 use kr_types_scopes::Scopes;
 use std::alloc::Global;
 
-/// What is known of the nodes of a file.
+/// The facts known of the nodes of a file.
 fn typed_file(
     alloc: Global,
     trees: &[Tree],
@@ -75,7 +73,7 @@ fn typed_file(
     })
 }
 
-/// What is known of the nodes of all files.
+/// The facts known of the nodes of all files.
 fn typed_files(
     alloc: Global,
     trees: &[Tree],
@@ -107,14 +105,14 @@ fn typed_files(
     Ok(files)
 }
 
-/// What is known of a program's files, and their fields and methods by number.
+/// The facts known of a program's files, and their fields and methods by number.
 #[derive(Drop)]
 struct Typed {
     roster: Roster,
     files: Vec<TypedFile>,
 }
 
-/// What is known of all files.
+/// The facts known of all files.
 fn typed_program(
     alloc: Global,
     trees: &[Tree],
@@ -165,8 +163,8 @@ fn first_fault(trees: &[Tree], types: &Types, files: &[TypedFile]) -> Option<Fau
     first
 }
 
-/// The program of these files, with what is known of their nodes; or the first node in file and source order that breaks a
-/// typing rule, with the least rule that it breaks.
+/// The program of these files, with the facts known of their nodes; or the first node in file and source order that
+/// breaks a typing rule, with the least rule that it breaks.
 pub fn check(alloc: Global, trees: Vec<Tree>, table: ClassTable) -> Result<Program, TypeRefusal>
     requires few { length trees.items < 65 }
     requires small { length (all_entries trees.items) < 2 ^ 32 }

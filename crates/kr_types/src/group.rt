@@ -3,13 +3,13 @@ ghost use Rattle.kr_types.specs.Kinds.{IsOfGroup};
 
 use kr_ast::Node;
 
-/// A node for which nothing is looked up, by what its note is made from.
+/// A node for which nothing is looked up, by the source of its note.
 #[derive(Clone, Copy)]
 pub(crate) enum Bare {
     Type,
     /// literals, jumps and the empty statement
     Leaf,
-    /// a value is made from those of the parts
+    /// a value made from those of the parts
     Operation,
     Write,
     Contract,
@@ -19,14 +19,14 @@ pub(crate) enum Bare {
     Test,
 }
 
-/// A node that means something, or for which its class is looked up.
+/// A node that has a meaning, or for which its class is looked up.
 #[derive(Clone, Copy)]
 pub(crate) enum Named {
     /// a name that is used or declared
     Name,
     /// a type may be new
     Growing,
-    /// it stands behind a dot
+    /// it comes after a dot
     Access,
     /// a method of the class or of an ancestor is called, or a constructor
     Call,
@@ -34,12 +34,12 @@ pub(crate) enum Named {
     Declaration,
 }
 
-/// What a node is.
+/// The group of a node.
 #[derive(Clone, Copy)]
 pub(crate) enum Group {
-    /// a list, or what is absent
+    /// a list, or an absent part
     Link,
-    /// there is no rule but those of the parts
+    /// no rule but those of the parts
     Plain,
     Bare(Bare),
     Named(Named),

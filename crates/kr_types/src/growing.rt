@@ -1,6 +1,6 @@
 // Notes of nodes whose types may be new: `this` and creations of arrays.
 ghost use Rattle.std.specs.Prelude.{◌≡◌, length, IfOk};
-ghost use Rattle.kr_classes_types.specs.Types.{Extends};
+ghost use Rattle.kr_classes_names.specs.Types.{Extends};
 ghost use Rattle.kr_types_expressions.specs.Notes.{AreNotesWithin};
 ghost use Rattle.kr_types.specs.Sites.{IsSite, IsSpot, IsSpotNote, scope_of};
 ghost use Rattle.kr_types.specs.Kinds.{IsGrowing};
@@ -8,8 +8,8 @@ ghost use Rattle.kr_types.specs.Kinds.{IsGrowing};
 use crate::site::{Site, Spot, part_note};
 use kr_ast::Node;
 use kr_base::NoMemory;
+use kr_classes_names::Types;
 use kr_classes_table::ClassId;
-use kr_classes_types::Types;
 use kr_types_expressions::{NoteList, array_creation_note, this_note};
 use kr_types_judging::{Note, plain};
 

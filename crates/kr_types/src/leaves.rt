@@ -6,11 +6,11 @@ ghost use Rattle.kr_types.specs.Kinds.{IsLeaf};
 
 use crate::site::{Site, Spot};
 use kr_ast::Node;
-use kr_classes_types::Types;
+use kr_classes_names::Types;
 use kr_types_expressions::{jump_note, null_note, number_note, truth_note};
 use kr_types_judging::{Note, plain};
 
-/// The note of a node without parts, in a scope, whatever notes stand before it.
+/// The note of a node without parts, in a scope, independent of earlier notes.
 pub(crate) fn leaf_note(site: &Site<'_>, types: &Types, spot: Spot) -> Note
     requires site { IsSite site.now types.now }
     requires within { spot.at < length (tree_there site.now).entries }

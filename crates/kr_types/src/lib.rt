@@ -1,4 +1,4 @@
-//! The typing rules over whole programs: what is kept of each node of each file, and whether a rule is broken.
+//! The typing rules on whole programs: the note of each node of each file, and whether a rule is broken.
 #![tactic(auto)]
 
 mod calls;

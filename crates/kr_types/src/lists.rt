@@ -11,11 +11,11 @@ ghost use Rattle.kr_types.specs.Kinds.{IsList};
 
 use crate::site::part_note;
 use kr_ast::Node;
-use kr_classes_types::Types;
+use kr_classes_names::Types;
 use kr_types_expressions::{NoteList, absent_note, list_note};
 use kr_types_judging::{Note, plain};
 
-/// The note of a list, or of what is absent, wherever it stands.
+/// The note of a list, or of an absent part, in any context.
 #[inline(always)]
 pub(crate) fn link_note(types: &Types, notes: &NoteList, node: Node) -> Note
     requires notes { AreNotesWithin types.now notes.now }

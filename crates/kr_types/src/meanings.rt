@@ -1,10 +1,10 @@
-// What a node means, from what is kept of its parts.
+// The meaning of a node, from the notes of its parts.
 ghost use Rattle.std.specs.Prelude.{◌≡◌, ◌<◌, IfOk, IfSome, length, option_map};
 ghost use Rattle.kr_ast.specs.Arena.{tree_in};
 ghost use Rattle.kr_types_meaning.specs.Scopes.{class_before, value};
 ghost use Rattle.kr_types_meaning.specs.Typing.{type_in};
 ghost use Rattle.kr_types_meaning.specs.Noting.{note_at};
-ghost use Rattle.kr_classes_types.specs.Types.{count, type_at};
+ghost use Rattle.kr_classes_names.specs.Types.{count, type_at};
 ghost use Rattle.kr_types_expressions.specs.Notes.{AreNotesWithin, shown_notes};
 ghost use Rattle.kr_types.specs.Sites.{AreKept, IsBefore, IsMeantBy, IsSite, IsSpot, scope_of, tree_there};
 
@@ -12,8 +12,8 @@ use crate::notes::Noted;
 use crate::site::{Site, Spot, part_note};
 use kr_ast::Node;
 use kr_base::NoMemory;
+use kr_classes_names::Types;
 use kr_classes_table::{ClassId, TypeId};
-use kr_classes_types::Types;
 use kr_types_expressions::part_type;
 use kr_types_judging::type_of_node;
 use kr_types_resolving::{
@@ -67,7 +67,7 @@ fn object_type(types: &Types, noted: &Noted, object: u32) -> Option<TypeId>
     part_type(part_note(types, &noted.notes, object).known)
 }
 
-/// What a node means, behind what is kept of the nodes before it. The error says that there are 2^32 - 1 locals.
+/// The meaning of a node, given the notes of the nodes before it. Fails at 2^32 - 1 locals.
 pub(crate) fn node_meaning(
     site: &Site<'_>,
     types: &Types,

@@ -6,8 +6,8 @@ ghost use Rattle.kr_types.specs.Kinds.{IsNamed};
 
 use crate::site::{Site, Spot, part_note};
 use kr_ast::Node;
+use kr_classes_names::Types;
 use kr_classes_table::ClassId;
-use kr_classes_types::Types;
 use kr_types_expressions::{NoteList, variable_note};
 use kr_types_judging::{ClassTypes, Note, plain};
 use kr_types_statements::{declarator_note, parameter_note};

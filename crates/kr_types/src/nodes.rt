@@ -1,6 +1,6 @@
 // The note of a node of any kind.
 ghost use Rattle.std.specs.Prelude.{◌≡◌, IfOk, length};
-ghost use Rattle.kr_classes_types.specs.Types.{Extends};
+ghost use Rattle.kr_classes_names.specs.Types.{Extends};
 ghost use Rattle.kr_types_expressions.specs.Notes.{AreNotesWithin, shown_notes};
 ghost use Rattle.kr_types.specs.Kinds.{IsOfBare, IsOfNamed};
 ghost use Rattle.kr_types.specs.Sites.{IsBefore, IsMeantBy, IsSite, IsSpot, IsSpotNote, scope_of};
@@ -20,14 +20,14 @@ use crate::site::{Site, Spot};
 use crate::types::type_note;
 use crate::writes::write_note;
 use kr_base::NoMemory;
+use kr_classes_names::Types;
 use kr_classes_table::ClassId;
-use kr_classes_types::Types;
 use kr_types_expressions::NoteList;
 use kr_types_judging::Note;
 use kr_types_resolving::Meaning;
 use std::alloc::Global;
 
-/// The note of a node for which nothing is looked up, behind the notes of the nodes before it.
+/// The note of a node for which nothing is looked up, given the notes of the nodes before it.
 pub(crate) fn bare_note(
     site: &Site<'_>,
     types: &mut Types,
@@ -53,7 +53,7 @@ pub(crate) fn bare_note(
     }
 }
 
-/// The note of another node, in the code of a class, behind the notes of the nodes before it.
+/// The note of another node, in the code of a class, given the notes of the nodes before it.
 pub(crate) fn named_note(
     alloc: Global,
     site: &Site<'_>,

@@ -1,9 +1,9 @@
-// What is kept of each node of a file, from the first to the last: the parts of a node stand before it.
+// The notes of all nodes of a file in order: the parts of a node come before it.
 ghost use Rattle.std.specs.Prelude.{◌≡◌, ◌<◌, ◌+◌, ℕ, [], IfOk, OnOk, length};
 ghost use Rattle.kr_ast.specs.Arena.{IsForest, tree_in};
 ghost use Rattle.kr_types_meaning.specs.Typing.{judged};
 ghost use Rattle.kr_types_meaning.specs.Noting.{kept, note_at};
-ghost use Rattle.kr_classes_types.specs.Types.{Extends};
+ghost use Rattle.kr_classes_names.specs.Types.{Extends};
 ghost use Rattle.kr_types_expressions.specs.Notes.{AreNotesWithin, shown_notes};
 ghost use Rattle.kr_classes_members.specs.Shown.{table_in};
 ghost use Rattle.kr_types_scopes.specs.Settings.{Setting, class_there};
@@ -19,13 +19,13 @@ use crate::nodes::{bare_note, named_note};
 use crate::plain::plain_note;
 use crate::site::{Inside, Site, Spot};
 use kr_base::NoMemory;
-use kr_classes_types::Types;
+use kr_classes_names::Types;
 use kr_types_expressions::NoteList;
 use kr_types_judging::Note;
 use kr_types_resolving::Meaning;
 use std::alloc::Global;
 
-/// What is kept of the first nodes of a file: their notes, and what they mean.
+/// The notes and the meanings of the first nodes of a file.
 #[derive(Drop)]
 pub(crate) struct Noted {
     pub(crate) notes: NoteList,
@@ -35,7 +35,7 @@ pub(crate) struct Noted {
 }
 
 impl Noted {
-    /// Nothing, with room for so many nodes.
+    /// Empty, with room for this many nodes.
     fn with_room(alloc: Global, nodes: usize) -> Result<Noted, NoMemory>
         ensures notes { IfOk result (λ k. k.notes ≡ []) }
         ensures meanings { IfOk result (λ k. k.meanings.items ≡ []) }
@@ -53,7 +53,7 @@ impl Noted {
     }
 }
 
-/// Keeps the note of a node that means nothing.
+/// Keeps the note of a node without meaning.
 #[inline(always)]
 fn add_note(
     _site: &Site<'_>,
@@ -99,7 +99,7 @@ fn add_bare(
     Ok(())
 }
 
-/// Keeps what another node means, and its note.
+/// Keeps the meaning of another node, and its note.
 #[inline(never)]
 fn add_named(
     alloc: Global,
@@ -139,7 +139,7 @@ fn add_named(
     Ok(())
 }
 
-/// Keeps what a node means, and its note. Lists, and nodes that have but their parts, take the shortest way.
+/// Keeps the meaning of a node, and its note. Lists, and nodes without rules of their own, take the shortest way.
 fn add_node(
     alloc: Global,
     site: &Site<'_>,
@@ -171,7 +171,7 @@ fn add_node(
     }
 }
 
-/// What is kept of all nodes of a file.
+/// The notes and meanings of all nodes of a file.
 pub(crate) fn notes_of(alloc: Global, site: &Site<'_>, types: &mut Types) -> Result<Noted, NoMemory>
     requires { IsSite site.now types.old }
     ensures extends { Extends types.old types.new }

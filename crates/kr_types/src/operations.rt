@@ -6,7 +6,7 @@ ghost use Rattle.kr_types.specs.Kinds.{IsOperation};
 
 use crate::site::{Site, Spot, part_note};
 use kr_ast::Node;
-use kr_classes_types::Types;
+use kr_classes_names::Types;
 use kr_types_expressions::{
     NoteList, binary_note, cast_note, choice_note, element_note, instance_note, unary_note,
 };

@@ -6,12 +6,12 @@ ghost use Rattle.kr_types.specs.Kinds.{IsPlain};
 
 use crate::site::{Site, Spot, part_note};
 use kr_ast::Node;
-use kr_classes_types::Types;
+use kr_classes_names::Types;
 use kr_types_expressions::NoteList;
 use kr_types_judging::{Note, plain};
 use kr_types_statements::{one_part_note, three_parts_note, two_parts_note};
 
-/// The note of a node that has but its parts.
+/// The note of a node without a rule of its own.
 pub(crate) fn plain_note(site: &Site<'_>, types: &Types, notes: &NoteList, spot: Spot) -> Note
     requires site { IsSite site.now types.now }
     requires notes { AreNotesWithin types.now notes.now }

@@ -1,11 +1,11 @@
-// A program that breaks no rule, and what is known of its nodes.
+// A program that breaks no rule, and the facts known of its nodes.
 ghost use Rattle.std.specs.Prelude.{◌≡◌, ◌<◌, length, Some, slice_get, IfSome, option_map};
 ghost use Rattle.kr_ast.specs.Arena.{tree_in};
 ghost use Rattle.kr_ast.specs.declared.node.Entry.{Entry as NodeEntry};
 ghost use Rattle.kr_types_meaning.specs.Typing.{judged, type_in};
 ghost use Rattle.kr_ast.specs.Files.{file_at};
 ghost use Rattle.kr_classes_members.specs.Shown.{table_in};
-ghost use Rattle.kr_classes_types.specs.Types.{count, type_at};
+ghost use Rattle.kr_classes_names.specs.Types.{count, type_at};
 ghost use Rattle.kr_types_resolving.specs.Shown.{IsMeaningWithin, IsMeant};
 ghost use Rattle.kr_types.specs.Programs.{IsProgram, all_entries, scope_there};
 ghost use Rattle.kr_types.specs.declared.program.TypedFile.{TypedFile as Typed};
@@ -13,13 +13,13 @@ ghost use Rattle.kr_types.specs.declared.program.TypedFile.{TypedFile as Typed};
 use kr_ast::Tree;
 use kr_base::Place;
 use kr_classes::ClassTable;
-use kr_classes_roster::Roster;
+use kr_classes_members::Roster;
 use kr_classes_table::TypeId;
 use kr_types_expressions::{NoteList, part_type};
 use kr_types_resolving::Meaning;
 use kr_types_scopes::Scopes;
 
-/// What is known of the nodes of a file: the scope of each, its type, and what it means.
+/// The facts known of the nodes of a file: the scope of each, its type, and its meaning.
 #[derive(Drop)]
 pub struct TypedFile {
     pub scopes: Scopes,
@@ -27,8 +27,8 @@ pub struct TypedFile {
     pub meanings: Vec<Meaning>,
 }
 
-/// The files of a program, their class table with all types by number, their fields and methods by number, and what is
-/// known of the nodes of each file.
+/// The files of a program, their class table with all types by number, their fields and methods by number, and the
+/// facts known of the nodes of each file.
 #[derive(Drop)]
 pub struct Program {
     pub trees: Vec<Tree>,
@@ -38,7 +38,7 @@ pub struct Program {
 }
 
 impl Program {
-    /// How many nodes the files have together. Those of the first file come first.
+    /// The number of nodes of all files. Those of the first file come first.
     pub fn nodes(&self) -> u32
         requires { IsProgram self.now }
         ensures { result ≡ length (all_entries self.now.trees.items) }
@@ -50,7 +50,7 @@ impl Program {
         count
     }
 
-    /// The place of a node, by its number among those of all files: its first token, of a declaration its name.
+    /// The place of a node, by its number among those of all files: its first token, or the name of a declaration.
     pub fn place_of(&self, node: u32) -> Place
         requires { node < length (all_entries self.now.trees.items) }
         ensures { (e : NodeEntry) → slice_get (all_entries self.now.trees.items) node ≡ Some e → result ≡ e.place }
@@ -76,7 +76,7 @@ impl Program {
         part_type(notes.at(node).known)
     }
 
-    /// What a node means.
+    /// The meaning of a node.
     pub fn meaning_of(&self, file: u32, node: u32) -> Meaning
         requires program { IsProgram self.now }
         requires file { file < length self.now.trees.items }

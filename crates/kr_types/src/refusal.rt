@@ -1,7 +1,7 @@
-// Why a program is refused.
+// The refusal of a program.
 
 use kr_base::RefusalAt;
 use kr_types_judging::TypingRule;
 
-/// The program was refused: a node breaks a typing rule, or memory was refused.
+/// The refusal of a program: a node breaks a typing rule, or out of memory.
 pub type TypeRefusal = RefusalAt<TypingRule>;

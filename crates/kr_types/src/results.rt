@@ -6,7 +6,7 @@ ghost use Rattle.kr_types.specs.Kinds.{IsReturned};
 
 use crate::site::{Site, Spot, part_note};
 use kr_ast::Node;
-use kr_classes_types::Types;
+use kr_classes_names::Types;
 use kr_types_expressions::NoteList;
 use kr_types_judging::{ClassTypes, Note, plain};
 use kr_types_statements::{result_note, return_note};

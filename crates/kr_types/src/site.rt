@@ -1,7 +1,7 @@
-// What the notes of a file's nodes are made from.
+// The context for the notes of a file's nodes.
 ghost use Rattle.std.specs.Prelude.{◌≡◌, ◌<◌, IfSome, IsTrue, length, option_map, slice_index_or};
 ghost use Rattle.kr_classes_members.specs.Shown.{IsMethod, method_shown, table_in};
-ghost use Rattle.kr_classes_roster.specs.Rosters.{IsRoster, all_methods, method_numbered};
+ghost use Rattle.kr_classes_members.specs.Rosters.{IsRoster, all_methods, method_numbered};
 ghost use Rattle.kr_types_scopes.specs.Settings.{class_there};
 ghost use Rattle.kr_types_scopes.specs.Scoped.{AreScopes, nowhere};
 ghost use Rattle.kr_types_meaning.specs.Noting.{note_at};
@@ -15,16 +15,14 @@ ghost use Rattle.kr_types.specs.Sites.{IsInside, scope_here, IsSpot, tree_there}
 use kr_ast::{Node, Tree, tree_of};
 use kr_base::Place;
 use kr_classes_constants::Values;
-use kr_classes_members::{Members, Method};
-use kr_classes_names::Heads;
-use kr_classes_roster::Roster;
+use kr_classes_members::{Members, Method, Roster};
+use kr_classes_names::{Heads, NodeTypes, Types};
 use kr_classes_table::{ClassId, MethodId};
-use kr_classes_types::{NodeTypes, Types};
 use kr_types_expressions::{NoteList, class_of};
 use kr_types_judging::Note;
 use kr_types_scopes::{Scopes, Within};
 
-/// A node of the file: its number, and where it is.
+/// A node of the file: its number and its position.
 #[derive(Clone, Copy)]
 pub(crate) struct Spot {
     pub(crate) at: u32,
@@ -53,7 +51,7 @@ impl Inside {
     }
 }
 
-/// A file of a program: the class table but for its types, which grow, and the scopes of the file's nodes.
+/// A file of a program: the class table without its types, which grow, and the scopes of the file's nodes.
 #[derive(Clone, Copy)]
 pub(crate) struct Site<'a> {
     pub(crate) trees: &'a [Tree],
@@ -116,7 +114,7 @@ impl<'a> Site<'a> {
         }
     }
 
-    /// The class whose code a scope is in, looked up only where it isn't the one before.
+    /// The class whose code a scope is in, looked up only if it isn't the previous one.
     pub(crate) fn inside(&self, before: Inside, here: Within) -> Inside
         requires heads { AreHeads self.now.trees.now self.now.heads.now }
         requires file { self.now.file < length self.now.trees.now }
@@ -148,7 +146,7 @@ impl<'a> Site<'a> {
     }
 }
 
-/// What is kept of a part.
+/// The note of a part.
 #[inline(always)]
 pub(crate) fn part_note(types: &Types, notes: &NoteList, part: u32) -> Note
     requires notes { AreNotesWithin types.now notes.now }

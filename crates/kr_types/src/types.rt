@@ -1,7 +1,7 @@
 // Notes of types as they are written.
 ghost use Rattle.std.specs.Prelude.{◌≡◌, List, length, IfOk};
 ghost use Rattle.kr_ast.specs.Arena.{tree_in, tree_of};
-ghost use Rattle.kr_classes_types.specs.Types.{Extends};
+ghost use Rattle.kr_classes_names.specs.Types.{Extends};
 ghost use Rattle.kr_types_judging.specs.declared.notes.Note.{Note as NoteKept};
 ghost use Rattle.kr_types_expressions.specs.Notes.{AreNotesWithin};
 ghost use Rattle.kr_types.specs.Sites.{IsSite, IsSpot, IsSpotNote, tree_there};
@@ -10,12 +10,12 @@ ghost use Rattle.kr_types.specs.Kinds.{IsType, IsTypeName};
 use crate::site::{Site, Spot, part_note};
 use kr_ast::Node;
 use kr_base::NoMemory;
-use kr_classes_types::Types;
+use kr_classes_names::Types;
 use kr_types_expressions::NoteList;
 use kr_types_judging::{Note, plain};
 use kr_types_statements::{array_type_note, diamond_type_note, generic_type_note, named_type_note};
 
-/// The note of a type that is told by its names alone, whatever notes stand before it.
+/// The note of a type that its names alone determine, independent of earlier notes.
 fn type_name_note(site: &Site<'_>, types: &Types, spot: Spot) -> Note
     requires site { IsSite site.now types.now }
     requires tree { tree_in (tree_there site.now) spot.at ≡ tree_of (tree_there site.now).text (tree_in (tree_there site.now)) spot.place spot.node }

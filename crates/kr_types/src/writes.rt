@@ -1,4 +1,4 @@
-// Notes of writes.
+// Notes of assignments.
 ghost use Rattle.std.specs.Prelude.{length};
 ghost use Rattle.kr_types_expressions.specs.Notes.{AreNotesWithin};
 ghost use Rattle.kr_types.specs.Sites.{IsSite, IsSpot, IsSpotNote};
@@ -6,12 +6,12 @@ ghost use Rattle.kr_types.specs.Kinds.{IsWrite};
 
 use crate::site::{Site, Spot, part_note};
 use kr_ast::Node;
-use kr_classes_types::Types;
+use kr_classes_names::Types;
 use kr_types_expressions::NoteList;
 use kr_types_judging::{Note, plain};
 use kr_types_statements::{assignment_note, compound_note, step_note};
 
-/// The note of a node that writes.
+/// The note of a node that assigns.
 pub(crate) fn write_note(site: &Site<'_>, types: &Types, notes: &NoteList, spot: Spot) -> Note
     requires site { IsSite site.now types.now }
     requires notes { AreNotesWithin types.now notes.now }

@@ -4,7 +4,7 @@ use Rattle.std.specs.Prelude.{Option, Some, None, option_map}
 use Rattle.kr_base.specs.declared.place.Place.{Place}
 use Rattle.kr_classes_table.specs.Rules.{Fault, sooner}
 use Rattle.kr_classes_table.specs.Types.{JavaType}
-use Rattle.kr_classes_types.specs.Types.{TypeList, type_at}
+use Rattle.kr_classes_names.specs.Types.{TypeList, type_at}
 use Rattle.kr_types_meaning.specs.Rules.{Typed, Untyped, Value, Variable, Values, Judgement}
 use Rattle.kr_types_meaning.specs.Typing.{on_list, on_one, on_two, type_in}
 use Rattle.kr_types_meaning.specs.Noting.{Note, concluded, list, one, one_and_list, two}
@@ -67,7 +67,7 @@ there_two {i = i} {b = b} l f first second says =
 pub there_list : {v : Judgement} {ns : List ℕ} {is : Vec ℕ Global} {a : Option (Vec ℕ Global)} (l : TypeList) (f : List JavaType → Judgement) → a ≡ Some is → ns ≡ is.items → v ≡ f (map (type_at l) ns) → v ≡ with_list f (option_map (λ ts. map (type_at l) ts.items) a)
 there_list l f given same says = says ∙ ap (λ ns. f (map (type_at l) ns)) same ∙ ap (λ o. with_list f (option_map (λ ts. map (type_at l) ts.items) o)) (sym given)
 
--- ---- what is concluded of a node with these parts
+-- ---- the note of a node with these parts
 
 pub concludes_one : {n : Note} {v : Judgement} {a : Option JavaType} (p : Place) (f : JavaType → Judgement) (x : Note) → v ≡ with_one f a → a ≡ type_in x.typed → n ≡ concluded p v x.least → n ≡ one p f x
 concludes_one p f x says first is = is ∙ ap (λ (w : Judgement). concluded p w x.least) (says ∙ ap (with_one f) first ∙ asks_one f x.typed)

@@ -1,5 +1,5 @@
 -- The values of a list, gathered from its front.
-use Rattle.std.proofs.Common.{◌≡◌, refl, sym, ap, ◌∙◌, ℕ, ◌+◌, ◌<◌, List, [], ◌∷◌, ◌++◌, length, map, get_or, arith}
+use Rattle.std.proofs.Common.{◌≡◌, refl, sym, ap, ◌∙◌, ℕ, ◌+◌, ◌<◌, List, [], ◌∷◌, ◌++◌, length, map, get_or}
 use Rattle.std.specs.Prelude.{Some, None, slice_get}
 use Rattle.std.proofs.lemmas.List.{map-append}
 use Rattle.std.proofs.lemmas.Option.{slice_get-get_or}
@@ -7,7 +7,7 @@ use Rattle.kr_classes_table.specs.Types.{JavaType}
 use Rattle.kr_types_meaning.specs.Rules as rules
 use Rattle.kr_types_meaning.specs.Typing.{joined}
 use Rattle.kr_types_meaning.specs.Noting as noting
-use Rattle.kr_classes_types.specs.Types.{TypeList, type_at}
+use Rattle.kr_classes_names.specs.Types.{TypeList, type_at}
 use Rattle.kr_types_judging.specs.declared.known.Typed.{Typed}
 use Rattle.kr_types_judging.specs.declared.known.Typed.TheVariants as typed
 use Rattle.kr_types_judging.specs.declared.known.Known.{Known}
@@ -18,7 +18,7 @@ use Rattle.kr_types_expressions.specs.Notes.{AreNotesWithin, IsRestBelow, typed_
 use Rattle.kr_types_expressions.specs.Parts.{values_in}
 use Rattle.kr_types_expressions.proofs.Notes.{shown_at}
 
--- values before what is known of a list
+-- values followed by the facts known of a list
 abbrev pub before : List JavaType → rules.Typed → rules.Typed
 before [] x = x
 before (t ∷ ts) x = joined (rules.Value t) (before ts x)
@@ -65,11 +65,6 @@ module _ (l : TypeList) (ns : List Note) (w : AreNotesWithin l ns) (first rest :
 
   pub rest_shown : known_shown l (typed_in l ns) (known.More first rest) ≡ joined (rules.Value (type_at l first)) (known_shown l (typed_in l ns) (get_or ns rest d).known)
   rest_shown = ap (λ (x : noting.Note). joined (rules.Value (type_at l first)) x.typed) (shown_at l ns w rest (get_or ns rest d) there)
-
-pub below_weaker : (i j : ℕ) (k : Known) → i < j → IsRestBelow i k → IsRestBelow j k
-below_weaker i j (known.More first rest) h b = omega (arith, h, b)
-below_weaker i j (known.One t) h b = tt
-below_weaker i j known.Absent h b = tt
 
 pub one_more : (l : TypeList) (ns : List Note) (found more : List ℕ) (first rest : ℕ) (at next : Known) (x : rules.Typed) → at ≡ known.More first rest → more ≡ found ++ first ∷ []
     → known_shown l (typed_in l ns) (known.More first rest) ≡ joined (rules.Value (type_at l first)) (known_shown l (typed_in l ns) next)

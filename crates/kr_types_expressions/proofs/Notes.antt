@@ -1,5 +1,5 @@
--- What holds of the notes of a file's nodes as notes and types are added.
-use Rattle.std.proofs.Common.{◌≡◌, refl, sym, ap, ◌∙◌, subst, ℕ, zero, suc, ◌<◌, ◌⊎◌, inl, inr, List, [], ◌∷◌, ◌++◌, length, Some, arith}
+-- Facts on the notes of a file's nodes that hold on while notes and types are added.
+use Rattle.std.proofs.Common.{◌≡◌, refl, sym, ap, ◌∙◌, subst, ℕ, ◌<◌, inl, inr, List, [], ◌∷◌, ◌++◌, length, Some, arith}
 use Rattle.std.specs.Prelude.{None, slice_get}
 use Rattle.std.proofs.lemmas.List.{get_or_append_left}
 use Rattle.std.proofs.lemmas.Option.{slice_get_within}
@@ -8,7 +8,7 @@ use Rattle.kr_ast.proofs.Grown.{grow_same, grow_stands, grow-append, length-grow
 use Rattle.kr_types_meaning.specs.Rules as rules
 use Rattle.kr_types_meaning.specs.Typing.{joined}
 use Rattle.kr_types_meaning.specs.Noting as noting
-use Rattle.kr_classes_types.specs.Types.{TypeList, Extends}
+use Rattle.kr_classes_names.specs.Types.{TypeList, Extends}
 use Rattle.kr_types_judging.specs.declared.known.Typed.{Typed}
 use Rattle.kr_types_judging.specs.declared.known.Typed.TheVariants as typed
 use Rattle.kr_types_judging.specs.declared.known.Known.{Known}
@@ -17,15 +17,9 @@ use Rattle.kr_types_judging.specs.declared.notes.Note.{Note}
 use Rattle.kr_types_judging.specs.Shown.{HasNoRest, IsKnownWithin, IsNoteWithin, IsTypedWithin, known_shown, least_shown, note_shown, typed_shown}
 use Rattle.kr_types_expressions.specs.Links.{IsLinked}
 use Rattle.kr_types_expressions.specs.Notes.{AreNotesWithin, IsRestBelow, known_of, next_note, shown_notes, typed_in}
+use Rattle.kr_base.proofs.ListLemmas.{slice_get-push}
 
--- an item of a longer list
-got_push : {A : Type 0} (xs : List A) (y : A) (k : ℕ) (x : A) → slice_get (xs ++ y ∷ []) k ≡ Some x → (slice_get xs k ≡ Some x) ⊎ ((k ≡ length xs) × (y ≡ x))
-got_push [] y zero x e = inr (refl, (cc))
-got_push [] y (suc k) x e = absurd (cc)
-got_push (z ∷ zs) y zero x e = inl e
-got_push (z ∷ zs) y (suc k) x e = elim (got_push zs y k x e) [ inl l ↦ inl l | inr r ↦ inr (omega (arith, r.0), r.1) ]
-
--- what isn't a list with a rest may stand everywhere
+-- anything but a list with a rest may occur everywhere
 pub no_rest_below : (i : ℕ) (k : Known) → HasNoRest k → IsRestBelow i k
 no_rest_below i (known.More first rest) h = absurd h
 no_rest_below i (known.One t) h = tt
@@ -36,7 +30,7 @@ no_rest_linked look (known.More first rest) h = absurd h
 no_rest_linked look (known.One t) h = tt
 no_rest_linked look known.Absent h = tt
 
--- ---- where it is shown with what is known of other nodes
+-- ---- notes as shown with the facts known of other nodes
 
 known_near : (l : TypeList) (look look' : ℕ → rules.Typed) (i : ℕ) (k : Known) → ((j : ℕ) → j < i → look j ≡ look' j) → IsRestBelow i k → known_shown l look k ≡ known_shown l look' k
 known_near l look look' i (known.More first rest) h b = ap (joined (rules.Value _)) (h rest b)
@@ -52,7 +46,7 @@ pub shown_count : (l : TypeList) (ns : List Note) → length (shown_notes l ns) 
 unfolding shown_notes
 shown_count l ns = length-grow (next_note l) [] ns ∙ omega arith
 
--- the note at an index is shown with what is known of the file's nodes
+-- the note at an index, as shown with the facts known of the file's nodes
 pub shown_at : (l : TypeList) (ns : List Note) → AreNotesWithin l ns → (i : ℕ) (n : Note) → slice_get ns i ≡ Some n → noting.note_at (shown_notes l ns) i ≡ note_shown l (typed_in l ns) n
 unfolding shown_notes
 shown_at l ns a i n e =
@@ -79,7 +73,7 @@ linked_near look look' i (known.More first rest) h b v = record { types = v.type
 linked_near look look' i (known.One t) h b v = tt
 linked_near look look' i known.Absent h b v = tt
 
-below_weaker : (i j : ℕ) (k : Known) → i < j → IsRestBelow i k → IsRestBelow j k
+pub below_weaker : (i j : ℕ) (k : Known) → i < j → IsRestBelow i k → IsRestBelow j k
 below_weaker i j (known.More first rest) h b = omega (arith, h, b)
 below_weaker i j (known.One t) h b = tt
 below_weaker i j known.Absent h b = tt
@@ -89,15 +83,15 @@ within_none l = record { within = λ i n e. absurd (cc); below = λ i n e. absur
 
 pub within_pushed : (l : TypeList) (ns : List Note) (n : Note) → AreNotesWithin l ns → IsNoteWithin l n → IsRestBelow (length ns) n.known → IsLinked (typed_in l ns) n.known → AreNotesWithin l (ns ++ n ∷ [])
 within_pushed l ns n a w b v = record {
-  within = λ i m e. elim (got_push ns n i m e) [
+  within = λ i m e. elim (slice_get-push ns n i m e) [
     | inl h ↦ a.within i m h
     | inr h ↦ subst (λ (x : Note). IsNoteWithin l x) h.1 w
   ];
-  below = λ i m e. elim (got_push ns n i m e) [
+  below = λ i m e. elim (slice_get-push ns n i m e) [
     | inl h ↦ a.below i m h
     | inr h ↦ subst (λ (j : ℕ). IsRestBelow j m.known) (sym h.0) (subst (λ (x : Note). IsRestBelow (length ns) x.known) h.1 b)
   ];
-  linked = λ i m e. elim (got_push ns n i m e) [
+  linked = λ i m e. elim (slice_get-push ns n i m e) [
     | inl h ↦ linked_near (typed_in l ns) (typed_in l (ns ++ n ∷ [])) (length ns) m.known same (below_weaker i (length ns) m.known (slice_get_within ns i m h) (a.below i m h)) (a.linked i m h)
     | inr h ↦ linked_near (typed_in l ns) (typed_in l (ns ++ n ∷ [])) (length ns) m.known same (subst (λ (x : Note). IsRestBelow (length ns) x.known) h.1 b) (subst (λ (x : Note). IsLinked (typed_in l ns) x.known) h.1 v)
   ];
@@ -135,7 +129,7 @@ known_same a b look (known.More first rest) x w = ap (λ t. joined (rules.Value 
 pub note_same : (a b : TypeList) (look : ℕ → rules.Typed) (n : Note) → Extends a b → IsNoteWithin a n → note_shown b look n ≡ note_shown a look n
 note_same a b look n x w = ap (λ (t : rules.Typed). noting.note t (least_shown n.least)) (known_same a b look n.known x w)
 
--- and so are all
+-- all notes stay the same
 pub notes_same : (a b : TypeList) (ns : List Note) → Extends a b → AreNotesWithin a ns → shown_notes b ns ≡ shown_notes a ns
 unfolding shown_notes
 notes_same a b ns x w = grow_same (next_note b) (next_note a) ns (λ i n e xs. note_same a b _ n x (w.within i n e)) []

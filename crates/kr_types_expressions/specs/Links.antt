@@ -10,7 +10,7 @@ pub record IsValueList (t : rules.Typed) : Type 0 where
   pub types : List JavaType
   pub is : t ≡ rules.Values types
 
--- behind the first value of a list stands a list of values
+-- the rest after a list's first value is a list of values
 abbrev pub IsLinked : (ℕ → rules.Typed) → Known → Type 0
 IsLinked look (known.More first rest) = IsValueList (look rest)
 IsLinked look k = Unit {0}

@@ -1,11 +1,11 @@
-// Fields and constants behind a dot: what is kept of a node.
+// The notes of fields and constants after a dot.
 ghost use Rattle.std.specs.Prelude.{◌≡◌, ◌<◌, ℕ, List, IfSome, option_map};
 ghost use Rattle.kr_types_meaning.specs.Rules as rules;
 ghost use Rattle.kr_types_meaning.specs.Noting as noting;
 ghost use Rattle.kr_types_scopes.specs.Settings.{Setting, scope_in};
 ghost use Rattle.kr_types_scopes.specs.declared.within.Binding.{Binding};
 ghost use Rattle.kr_classes_members.specs.Shown.{table_in};
-ghost use Rattle.kr_classes_types.specs.Types.{count, type_at};
+ghost use Rattle.kr_classes_names.specs.Types.{count, type_at};
 ghost use Rattle.kr_types_judging.specs.Classes.{AreClassTypes};
 ghost use Rattle.kr_types_judging.specs.Shown.{HasNoRest, IsNoteWithin, IsVerdictWithin, note_shown, verdict_shown};
 ghost use Rattle.kr_types_expressions.specs.Parts.{with_one};
@@ -16,7 +16,7 @@ use kr_classes_table::{ClassId, TypeId};
 use kr_types_judging::{ClassTypes, Judgement, Note, access_rule, conclude, constant_rule};
 use kr_types_scopes::Within;
 
-/// What T22 says of a field where the object has a type.
+/// The verdict of T22 on a field, if the object has a type.
 fn access_verdict(
     classes: &ClassTypes<'_>,
     here: Within,
@@ -34,7 +34,7 @@ fn access_verdict(
     }
 }
 
-/// A name behind a dot; what stands before the dot is a class where this is one.
+/// The note of a name after a dot; the node before the dot is a class if the name is one.
 pub fn field_note(
     classes: &ClassTypes<'_>,
     here: Within,

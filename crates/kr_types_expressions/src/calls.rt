@@ -1,4 +1,4 @@
-// Calls: what is kept of a node, from what is kept of its parts.
+// The notes of calls, from those of their parts.
 ghost use Rattle.std.specs.Prelude.{◌≡◌, ◌<◌, ℕ, List, All, IfOk, IfSome, length, map, option_and_then, option_map};
 ghost use Rattle.kr_classes_table.specs.Table.{method_named};
 ghost use Rattle.kr_types_meaning.specs.Rules as rules;
@@ -7,7 +7,7 @@ ghost use Rattle.kr_types_meaning.specs.Noting as noting;
 ghost use Rattle.kr_types_scopes.specs.Settings.{Setting, scope_in};
 ghost use Rattle.kr_types_scopes.specs.declared.within.Binding.{Binding};
 ghost use Rattle.kr_classes_members.specs.Shown.{IsMethod, method_shown, table_in};
-ghost use Rattle.kr_classes_types.specs.Types.{count, type_at};
+ghost use Rattle.kr_classes_names.specs.Types.{count, type_at};
 ghost use Rattle.kr_types_judging.specs.Classes.{AreClassTypes};
 ghost use Rattle.kr_types_judging.specs.Shown.{HasNoRest, IsNoteWithin, IsVerdictWithin, note_shown, verdict_shown};
 ghost use Rattle.kr_types_expressions.specs.Notes.{AreNotesWithin, IsRestBelow, typed_in};
@@ -26,7 +26,7 @@ use kr_types_judging::{
 use kr_types_scopes::Within;
 use std::alloc::Global;
 
-/// What T5, T24 and T32 say of a call where all arguments have types.
+/// The verdict of T5, T24 and T32 on a call, if all arguments have types.
 fn call_verdict(
     classes: &ClassTypes<'_>,
     here: Within,
@@ -69,7 +69,7 @@ pub fn call_note(
     Ok(conclude(place, verdict, x.least))
 }
 
-/// What T5, T24 and T33 say of a call of `super.m` where all arguments have types.
+/// The verdict of T5, T24 and T33 on a call of `super.m`, if all arguments have types.
 fn super_call_verdict(
     classes: &ClassTypes<'_>,
     here: Within,
@@ -112,7 +112,7 @@ pub fn super_call_note(
     Ok(conclude(place, verdict, x.least))
 }
 
-/// What T24 says of a call behind a class's name where all arguments have types.
+/// The verdict of T24 on a call after a class's name, if all arguments have types.
 fn static_call_verdict(
     classes: &ClassTypes<'_>,
     here: Within,
@@ -131,7 +131,7 @@ fn static_call_verdict(
     }
 }
 
-/// What T24, T25 and T32 say of a call through an object where the object and all arguments have types.
+/// The verdict of T24, T25 and T32 on a call through an object, if the object and all arguments have types.
 fn object_call_verdict(
     classes: &ClassTypes<'_>,
     here: Within,
@@ -154,7 +154,7 @@ fn object_call_verdict(
     }
 }
 
-/// A call behind a dot: what stands before the dot, which is a class where this is one; then its arguments.
+/// A call after a dot: first the node before the dot, which is a class if the name is one; then its arguments.
 pub fn method_call_note(
     alloc: Global,
     classes: &ClassTypes<'_>,

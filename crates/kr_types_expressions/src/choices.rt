@@ -1,4 +1,4 @@
-// Conditions and choices: what is kept of a node, from what is kept of its parts.
+// The notes of conditions and choices, from those of their parts.
 ghost use Rattle.std.specs.Prelude.{◌≡◌, ◌<◌, ℕ, List, IfSome, option_map};
 ghost use Rattle.kr_ast.specs.Arena.{Arena};
 ghost use Rattle.kr_types_meaning.specs.Rules as rules;
@@ -7,19 +7,19 @@ ghost use Rattle.kr_types_scopes.specs.Settings.{Setting, scope_in};
 ghost use Rattle.kr_types_scopes.specs.declared.within.Binding.{Binding};
 ghost use Rattle.kr_classes_members.specs.Shown.{table_in};
 ghost use Rattle.kr_classes_members.specs.Kept.{AreMembers};
-ghost use Rattle.kr_classes_types.specs.Types.{count, type_at};
+ghost use Rattle.kr_classes_names.specs.Types.{count, type_at};
 ghost use Rattle.kr_types_judging.specs.Shown.{HasNoRest, IsNoteWithin, IsVerdictWithin, least_shown, note_shown, verdict_shown};
 ghost use Rattle.kr_types_expressions.specs.Parts.{with_one, with_three};
 
 use crate::parts::part_type;
 use kr_base::Place;
 use kr_classes_members::Members;
+use kr_classes_names::Types;
 use kr_classes_table::TypeId;
-use kr_classes_types::Types;
 use kr_types_judging::{Fault, Judgement, Note, choice_rule, conclude, condition_rule, earlier};
 use kr_types_scopes::Within;
 
-/// What T28 says where the condition has a type.
+/// The verdict of T28, if the condition has a type.
 fn condition_verdict(types: &Types, a: Option<TypeId>) -> Judgement
     requires { IfSome a (λ t. t < count types.now) }
     ensures within { IsVerdictWithin types.now result }
@@ -42,7 +42,7 @@ pub fn condition_note(types: &Types, place: Place, x: Note, more: Option<Fault>)
     conclude(place, verdict, earlier(x.least, more))
 }
 
-/// What T15 says where all parts have types.
+/// The verdict of T15, if all parts have types.
 fn choice_verdict(
     types: &Types,
     members: &Members,

@@ -1,11 +1,11 @@
-// Creations and calls of constructors: what is kept of a node, from what is kept of its parts.
+// The notes of creations and constructor calls, from those of their parts.
 ghost use Rattle.std.specs.Prelude.{◌≡◌, ◌<◌, ℕ, List, All, IfOk, IfSome, length, map, option_map};
 ghost use Rattle.kr_types_meaning.specs.Rules as rules;
 ghost use Rattle.kr_types_meaning.specs.Noting as noting;
 ghost use Rattle.kr_types_scopes.specs.Settings.{Setting, class_there, scope_in};
 ghost use Rattle.kr_types_scopes.specs.declared.within.Binding.{Binding};
 ghost use Rattle.kr_classes_members.specs.Shown.{table_in};
-ghost use Rattle.kr_classes_types.specs.Types.{Extends, count, type_at};
+ghost use Rattle.kr_classes_names.specs.Types.{Extends, count, type_at};
 ghost use Rattle.kr_types_judging.specs.Classes.{AreClassTypes};
 ghost use Rattle.kr_types_judging.specs.Shown.{HasNoRest, IsNoteWithin, IsVerdictWithin, note_shown, verdict_shown};
 ghost use Rattle.kr_types_expressions.specs.Constructors.{AreSingle};
@@ -17,13 +17,13 @@ use crate::lists::value_types;
 use crate::note_list::NoteList;
 use crate::parts::part_type;
 use kr_base::{NoMemory, Place};
+use kr_classes_names::Types;
 use kr_classes_table::{ClassId, TypeId};
-use kr_classes_types::Types;
 use kr_types_judging::{ClassTypes, Judgement, Note, conclude, earlier};
 use kr_types_scopes::Within;
 use std::alloc::Global;
 
-/// What T26 and T39 say where the type and all arguments are known.
+/// The verdict of T26 and T39, if the type and all arguments are known.
 fn creation_verdict(
     classes: &ClassTypes<'_>,
     here: Within,
@@ -70,7 +70,7 @@ pub fn creation_note(
     Ok(conclude(place, verdict, earlier(x.least, y.least)))
 }
 
-/// What T27 and T39 say where both parts have types.
+/// The verdict of T27 and T39, if both parts have types.
 fn array_creation_verdict(
     types: &mut Types,
     here: Within,
@@ -110,7 +110,7 @@ pub fn array_creation_note(
     Ok(conclude(place, verdict, earlier(x.least, y.least)))
 }
 
-/// What T34 says of `super(..)` where all arguments have types.
+/// The verdict of T34 on `super(..)`, if all arguments have types.
 fn constructor_call_verdict(
     classes: &ClassTypes<'_>,
     here: Within,

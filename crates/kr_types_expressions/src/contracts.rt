@@ -1,4 +1,4 @@
-// Contracts: what is kept of a node, from what is kept of its part.
+// The notes of contracts, from those of their parts.
 ghost use Rattle.std.specs.Prelude.{◌≡◌, ◌<◌, ℕ, List, IfSome, option_map};
 ghost use Rattle.kr_ast.specs.Arena.{Arena};
 ghost use Rattle.kr_types_meaning.specs.Rules as rules;
@@ -7,19 +7,19 @@ ghost use Rattle.kr_types_scopes.specs.Settings.{Setting, scope_in};
 ghost use Rattle.kr_types_scopes.specs.declared.within.Binding.{Binding};
 ghost use Rattle.kr_classes_members.specs.Shown.{table_in};
 ghost use Rattle.kr_classes_members.specs.Kept.{AreMembers};
-ghost use Rattle.kr_classes_types.specs.Types.{count, type_at};
+ghost use Rattle.kr_classes_names.specs.Types.{count, type_at};
 ghost use Rattle.kr_types_judging.specs.Shown.{HasNoRest, IsNoteWithin, IsVerdictWithin, note_shown, verdict_shown};
 ghost use Rattle.kr_types_expressions.specs.Parts.{with_one};
 
 use crate::parts::part_type;
 use kr_base::Place;
 use kr_classes_members::Members;
+use kr_classes_names::Types;
 use kr_classes_table::TypeId;
-use kr_classes_types::Types;
 use kr_types_judging::{Judgement, Note, conclude, contract_rule, old_rule};
 use kr_types_scopes::Within;
 
-/// What T38 says of `\old` where its part has a type.
+/// The verdict of T38 on `\old`, if its part has a type.
 fn old_verdict(types: &Types, members: &Members, here: Within, a: Option<TypeId>) -> Judgement
     requires { IfSome a (λ t. t < count types.now) }
     ensures within { IsVerdictWithin types.now result }
@@ -42,7 +42,7 @@ pub fn old_note(types: &Types, members: &Members, here: Within, place: Place, x:
     conclude(place, verdict, x.least)
 }
 
-/// What T28 and T40 say where the condition has a type.
+/// The verdict of T28 and T40, if the condition has a type.
 fn contract_verdict(types: &Types, members: &Members, here: Within, a: Option<TypeId>) -> Judgement
     requires { IfSome a (λ t. t < count types.now) }
     ensures within { IsVerdictWithin types.now result }

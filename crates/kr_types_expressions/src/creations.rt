@@ -7,15 +7,15 @@ ghost use Rattle.kr_types_meaning.specs.Scopes.{Scope, super_parameters};
 ghost use Rattle.kr_types_scopes.specs.Settings.{Setting, class_there, scope_in};
 ghost use Rattle.kr_types_scopes.specs.declared.within.Binding.{Binding};
 ghost use Rattle.kr_classes_members.specs.Shown.{IsConstructor, table_in};
-ghost use Rattle.kr_classes_types.specs.Types.{Extends, count, type_at};
+ghost use Rattle.kr_classes_names.specs.Types.{Extends, count, type_at};
 ghost use Rattle.kr_types_judging.specs.Classes.{AreClassTypes};
 ghost use Rattle.kr_types_judging.specs.Shown.{IsVerdictWithin, verdict_shown};
 ghost use Rattle.kr_types_expressions.specs.Constructors.{AreSingle, IsSingle};
 
 use kr_base::NoMemory;
 use kr_classes_members::Constructor;
+use kr_classes_names::{TypeForm, Types};
 use kr_classes_table::{ClassId, TypeId};
-use kr_classes_types::{TypeForm, Types};
 use kr_types_judging::{ClassTypes, Judgement, TypingRule, arguments_fit, is_code, is_int};
 use kr_types_scopes::Within;
 

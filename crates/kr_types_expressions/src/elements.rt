@@ -1,18 +1,18 @@
-// Elements of arrays: what is kept of a node, from what is kept of its parts.
+// The notes of array elements, from those of their parts.
 ghost use Rattle.std.specs.Prelude.{◌≡◌, ◌<◌, ℕ, IfSome, option_map};
 ghost use Rattle.kr_types_meaning.specs.Rules as rules;
 ghost use Rattle.kr_types_meaning.specs.Noting.{two};
-ghost use Rattle.kr_classes_types.specs.Types.{count, type_at};
+ghost use Rattle.kr_classes_names.specs.Types.{count, type_at};
 ghost use Rattle.kr_types_judging.specs.Shown.{HasNoRest, IsNoteWithin, IsVerdictWithin, note_shown, verdict_shown};
 ghost use Rattle.kr_types_expressions.specs.Parts.{with_two};
 
 use crate::parts::part_type;
 use kr_base::Place;
+use kr_classes_names::Types;
 use kr_classes_table::TypeId;
-use kr_classes_types::Types;
 use kr_types_judging::{Judgement, Note, conclude, earlier, element_rule};
 
-/// What T23 says where both parts have types.
+/// The verdict of T23, if both parts have types.
 fn element_verdict(types: &Types, a: Option<TypeId>, b: Option<TypeId>) -> Judgement
     requires first { IfSome a (λ t. t < count types.now) }
     requires second { IfSome b (λ t. t < count types.now) }

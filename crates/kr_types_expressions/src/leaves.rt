@@ -1,4 +1,4 @@
-// Nodes without parts that have types: what is kept of them.
+// The notes of typed nodes without parts.
 ghost use Rattle.std.specs.Prelude.{◌≡◌, ℕ, List};
 ghost use Rattle.kr_ast.specs.Arena.{Arena};
 ghost use Rattle.kr_classes_table.specs.Types.{BooleanType, NullType};
@@ -12,7 +12,7 @@ ghost use Rattle.kr_types_judging.specs.Shown.{HasNoRest, IsNoteWithin, note_sho
 
 use kr_base::Place;
 use kr_classes_members::Members;
-use kr_classes_types::Types;
+use kr_classes_names::Types;
 use kr_types_judging::{Judgement, Note, conclude, jump_rule, number_rule};
 use kr_types_scopes::Within;
 

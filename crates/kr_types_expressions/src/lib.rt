@@ -1,5 +1,5 @@
-//! Expressions: what is kept of a node, from what is kept of its parts, and the rules on creations and names that need more than
-//! those of `kr_types_judging`.
+//! The notes of expressions, from those of their parts, and the rules on creations and names that need more than those
+//! of `kr_types_judging`.
 #![tactic(auto)]
 
 mod accesses;

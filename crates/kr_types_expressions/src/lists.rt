@@ -1,9 +1,9 @@
-// Lists: what is kept of a list, from what is kept of its first part and of its rest; the types of a list's values.
+// The notes of lists, from those of the first part and of the rest; the types of a list's values.
 ghost use Rattle.std.specs.Prelude.{◌≡◌, ◌<◌, ℕ, [], IfOk, IfSome, None, All, length, map, option_map};
 ghost use Rattle.kr_types_meaning.specs.Rules as rules;
 ghost use Rattle.kr_types_meaning.specs.Typing.{joined, type_in};
 ghost use Rattle.kr_types_meaning.specs.Noting as noting;
-ghost use Rattle.kr_classes_types.specs.Types.{TypeList, count, type_at};
+ghost use Rattle.kr_classes_names.specs.Types.{TypeList, count, type_at};
 ghost use Rattle.kr_types_judging.specs.Shown.{HasNoRest, IsKnownWithin, IsNoteWithin, known_shown, note_shown};
 ghost use Rattle.kr_types_expressions.specs.Links.{IsLinked};
 ghost use Rattle.kr_types_expressions.specs.Notes.{AreNotesWithin, IsRestBelow, typed_in};
@@ -12,8 +12,8 @@ ghost use Rattle.kr_types_expressions.specs.Parts.{values_in};
 use crate::note_list::NoteList;
 use crate::parts::part_type;
 use kr_base::NoMemory;
+use kr_classes_names::Types;
 use kr_classes_table::TypeId;
-use kr_classes_types::Types;
 use kr_types_judging::{Known, Note, Typed, earlier};
 use std::alloc::Global;
 
@@ -29,7 +29,7 @@ pub fn absent_note() -> Note
     }
 }
 
-/// What is known of a list whose first part has this type, and of whose rest this is known.
+/// The facts known of a list, from the type of its first part and the facts known of its rest.
 fn list_known(first: Option<TypeId>, rest: u32, behind: Known) -> Known
     ensures within { (l : TypeList) → IfSome first (λ t. t < count l) → IsKnownWithin l result }
     ensures below { (i : ℕ) → rest < i → IsRestBelow i result }

@@ -1,4 +1,4 @@
-// Names and `this`: what T3 and T5 say, and what is kept of a node.
+// T3 and T5 on names and `this`, and their notes.
 ghost use Rattle.std.specs.Prelude.{◌≡◌, ◌<◌, ℕ, List, IfOk, IfSome, length};
 ghost use Rattle.kr_classes_table.specs.Constants.{Known};
 ghost use Rattle.kr_types_meaning.specs.Rules as rules;
@@ -10,15 +10,14 @@ ghost use Rattle.kr_types_scopes.specs.Scoped.{AreScopes, scope_at};
 ghost use Rattle.kr_classes_names.specs.Shown.{AreHeads};
 ghost use Rattle.kr_ast.specs.Files.{file_at};
 ghost use Rattle.kr_classes_members.specs.Shown.{table_in};
-ghost use Rattle.kr_classes_types.specs.Types.{Extends};
+ghost use Rattle.kr_classes_names.specs.Types.{Extends};
 ghost use Rattle.kr_types_judging.specs.Classes.{AreClassTypes};
 ghost use Rattle.kr_types_judging.specs.Shown.{HasNoRest, IsNoteWithin, IsVerdictWithin, note_shown, verdict_shown};
 
 use kr_ast::{Node, Tree, tree_of};
 use kr_base::{NoMemory, Place};
-use kr_classes_names::Heads;
+use kr_classes_names::{Heads, TypeForm, Types};
 use kr_classes_table::ClassId;
-use kr_classes_types::{TypeForm, Types};
 use kr_types_judging::{
     ClassTypes, Judgement, Note, TypingRule, conclude, field_name_rule, type_of_node, variable_of,
 };

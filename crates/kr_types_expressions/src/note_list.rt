@@ -6,8 +6,8 @@ use kr_types_judging::{Known, Note};
 use std::alloc::Global;
 use std::marker::Model;
 
-/// The notes of a file's nodes, from the first one on. Of the nodes before the first broken one only what is known is
-/// kept: nothing is broken in them. Contracts see the list of the notes.
+/// The notes of a file's nodes in order. For nodes before the first broken one only the known facts are kept, since
+/// nothing is broken in them. Contracts see the list of the notes.
 #[derive(Drop)]
 pub struct NoteList {
     sound: Vec<Known>,
@@ -25,7 +25,7 @@ impl Model for NoteList {
 }
 
 impl NoteList {
-    /// No notes, with room for those of so many nodes where none of them is broken.
+    /// No notes, with room for those of this many nodes while none of them is broken.
     pub fn with_room(alloc: Global, nodes: usize) -> Result<NoteList, NoMemory>
         ensures { IfOk result (λ notes. notes ≡ []) }
     {

@@ -1,4 +1,4 @@
-// Operators: what is kept of a node, from what is kept of its parts.
+// The notes of operators, from those of their parts.
 ghost use Rattle.std.specs.Prelude.{◌≡◌, ◌<◌, ℕ, List, IfSome, option_map};
 ghost use Rattle.kr_ast.specs.Arena.{Arena};
 ghost use Rattle.kr_types_meaning.specs.Rules as rules;
@@ -7,7 +7,7 @@ ghost use Rattle.kr_types_scopes.specs.Settings.{Setting, scope_in};
 ghost use Rattle.kr_types_scopes.specs.declared.within.Binding.{Binding};
 ghost use Rattle.kr_classes_members.specs.Shown.{table_in};
 ghost use Rattle.kr_classes_members.specs.Kept.{AreMembers};
-ghost use Rattle.kr_classes_types.specs.Types.{count, type_at};
+ghost use Rattle.kr_classes_names.specs.Types.{count, type_at};
 ghost use Rattle.kr_types_judging.specs.Shown.{HasNoRest, IsNoteWithin, IsVerdictWithin, note_shown, verdict_shown};
 ghost use Rattle.kr_types_expressions.specs.Parts.{with_one, with_two};
 
@@ -15,14 +15,14 @@ use crate::parts::part_type;
 use kr_ast::{BinaryOperator, UnaryOperator};
 use kr_base::Place;
 use kr_classes_members::Members;
+use kr_classes_names::Types;
 use kr_classes_table::TypeId;
-use kr_classes_types::Types;
 use kr_types_judging::{
     Judgement, Note, cast_rule, conclude, earlier, instance_rule, operator_rule, unary_rule,
 };
 use kr_types_scopes::Within;
 
-/// What T13 and T14 say where the operand has a type.
+/// The verdict of T13 and T14, if the operand has a type.
 fn unary_verdict(types: &Types, operator: UnaryOperator, a: Option<TypeId>) -> Judgement
     requires { IfSome a (λ t. t < count types.now) }
     ensures within { IsVerdictWithin types.now result }
@@ -45,7 +45,7 @@ pub fn unary_note(types: &Types, place: Place, operator: UnaryOperator, x: Note)
     conclude(place, verdict, x.least)
 }
 
-/// What T7 to T12 say where both operands have types.
+/// The verdict of T7 to T12, if both operands have types.
 fn binary_verdict(
     types: &Types,
     members: &Members,
@@ -87,7 +87,7 @@ pub fn binary_note(
     conclude(place, verdict, earlier(x.least, y.least))
 }
 
-/// What T21 says where both parts have types.
+/// The verdict of T21, if both parts have types.
 fn instance_verdict(
     types: &Types,
     members: &Members,
@@ -127,7 +127,7 @@ pub fn instance_note(
     conclude(place, verdict, earlier(x.least, y.least))
 }
 
-/// What T20 says where both parts have types.
+/// The verdict of T20, if both parts have types.
 fn cast_verdict(
     types: &Types,
     members: &Members,
@@ -146,7 +146,7 @@ fn cast_verdict(
     }
 }
 
-/// A cast: its type, then what is cast.
+/// A cast: its type, then its operand.
 pub fn cast_note(
     types: &Types,
     members: &Members,

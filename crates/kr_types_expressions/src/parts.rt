@@ -1,8 +1,8 @@
-// What is known of parts.
+// The facts known of parts.
 ghost use Rattle.std.specs.Prelude.{◌≡◌, ◌<◌, ℕ, IfSome, option_map};
 ghost use Rattle.kr_types_meaning.specs.Rules as rules;
 ghost use Rattle.kr_types_meaning.specs.Typing.{type_in};
-ghost use Rattle.kr_classes_types.specs.Types.{TypeList, count, type_at};
+ghost use Rattle.kr_classes_names.specs.Types.{TypeList, count, type_at};
 ghost use Rattle.kr_types_judging.specs.Shown.{IsKnownWithin, known_shown};
 
 use kr_classes_table::TypeId;

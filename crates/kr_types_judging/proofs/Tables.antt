@@ -7,8 +7,8 @@ use Rattle.kr_classes_table.specs.Table.{Table, headings_of, table_of, type_name
 use Rattle.kr_ast.specs.Files.{file_at}
 use Rattle.kr_classes_members.specs.Shown.{table_in}
 use Rattle.kr_types_scopes.specs.Settings.{Setting, type_there}
-use Rattle.kr_classes_types.specs.Types.{TypeList, IsTypeNumber}
-use Rattle.kr_classes_types.specs.Numbers.{named_type}
+use Rattle.kr_classes_names.specs.Types.{TypeList, IsTypeNumber}
+use Rattle.kr_classes_names.specs.Numbers.{named_type}
 
 pub headings_are : (files : List Arena) → (table_in files).headings ≡ headings_of (map root files)
 unfolding table_of

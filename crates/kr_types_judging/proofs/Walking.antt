@@ -22,7 +22,7 @@ pub none_left : (t : Table) (hs : List Heading) (look : ℕ → JavaType) (xs : 
 none_left t hs look xs i ps l e =
     ap (λ ys. arguments_go_into t hs (map look ys) ps) (step_drop xs i l) ∙ ap (λ zs. arguments_go_into t hs (look (get_or xs i 0) ∷ map look (drop (i + 1) xs)) zs) e
 
--- the definition asks the same, by parameters
+-- the definition asks for the same, by parameters
 pub asked : (s : Scope) (hs : List Heading) (ts : List JavaType) (is : List Tree) → arguments_fit s ts (flat_map (parameter_in hs) is) ≡ arguments_go_into s.table hs ts (flat_map parameter_type is)
 asked s hs [] [] = refl
 asked s hs (t ∷ ts) [] = refl

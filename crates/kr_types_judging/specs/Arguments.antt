@@ -19,7 +19,7 @@ parameter_types_in a n = parameter_type (tree_in a n)
 abbrev pub listed_types : Arena → ℕ → List Tree
 listed_types a n = flat_map parameter_type (items (tree_in a n))
 
--- as many arguments as parameters, each of which goes in
+-- equally many arguments and parameters, pairwise assignable
 abbrev pub arguments_go_into : Table → List Heading → List JavaType → List Tree → Bool
 arguments_go_into t hs [] [] = true
 arguments_go_into t hs (a ∷ more) (p ∷ ps) = goes_into t (type_named hs p) a && arguments_go_into t hs more ps

@@ -1,4 +1,4 @@
--- Between crates: what the code knows of nodes, as the typing rules have it.
+-- Between crates: the facts that the code knows of nodes, as the typing rules have them.
 use Rattle.std.specs.Prelude.{◌≡◌, ℕ, ◌<◌, Bool, true, ◌&&◌, ◌||◌, not, if◌then◌else◌, List, [], Option, Some, None}
 use Rattle.kr_ast.specs.Arena.{Arena}
 use Rattle.kr_classes_table.specs.Types.{JavaType, is_collection, is_known, is_reference, is_void}
@@ -15,7 +15,7 @@ use Rattle.kr_types_scopes.specs.declared.within.Binding.{Binding}
 use Rattle.kr_classes_members.specs.Shown.{table_in}
 use Rattle.kr_classes_members.specs.Kept.{AreMembers}
 use Rattle.kr_classes_members.specs.declared.members.Members.{Members}
-use Rattle.kr_classes_types.specs.Types.{TypeList, type_at, count}
+use Rattle.kr_classes_names.specs.Types.{TypeList, type_at, count}
 use Rattle.kr_types_judging.specs.Numbers.{rule_number}
 use Rattle.kr_types_judging.specs.declared.known.Typed.{Typed}
 use Rattle.kr_types_judging.specs.declared.known.Typed.TheVariants as typed
@@ -91,7 +91,7 @@ are_comparable t a b = are_numbers a b || rules.both_boolean a b || are_related_
 abbrev pub cast_fits : Table → JavaType → JavaType → Bool
 cast_fits t to from = are_numbers to from || rules.both_boolean to from || (are_related_references t from to && not (is_collection to) && not (is_collection from))
 
--- an initial value, if there is one, goes into what is declared
+-- an initial value, if there is one, fits the declared type
 abbrev pub initial_goes_into : Table → JavaType → Option JavaType → Bool
 initial_goes_into t to None = true
 initial_goes_into t to (Some from) = goes_into t to from
@@ -101,7 +101,7 @@ abbrev pub returned : Table → JavaType → Option JavaType → Bool
 returned t to None = is_void to || not (is_known to)
 returned t to (Some from) = goes_into t to from
 
--- of a constant of this type
+-- the verdict on a constant of this type
 abbrev pub constant_says : Table → JavaType → Bool → Bool → Option JavaType → rules.Judgement
 constant_says t to is_final has_value from =
     if is_known to then rules.ask (initial_goes_into t to from) 35 (rules.ask has_value 36 (rules.ask (is_final && rules.is_simple to) 37 rules.fine)) else rules.fine

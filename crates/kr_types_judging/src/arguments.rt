@@ -1,36 +1,22 @@
 // Whether arguments fit parameters, both walked at once.
 ghost use Rattle.std.specs.Prelude.{◌≡◌, ◌<◌, ◌∷◌, [], IfSome, MatchOption, length, map, All};
 ghost use Rattle.kr_ast.specs.Arena.{tree_in};
-ghost use Rattle.kr_classes_table.specs.Table.{items};
 ghost use Rattle.kr_ast.specs.Files.{file_at};
 ghost use Rattle.kr_classes_members.specs.Shown.{headings_in, table_in};
-ghost use Rattle.kr_classes_types.specs.Types.{count, type_at};
+ghost use Rattle.kr_classes_names.specs.Types.{count, type_at};
 ghost use Rattle.kr_types_judging.specs.Classes.{AreClassTypes};
 ghost use Rattle.kr_types_judging.specs.Arguments.{arguments_go_into, listed_types, parameter_types_in};
 
 use crate::class_types::ClassTypes;
 use crate::relations::takes;
 use kr_ast::{Node, Tree, tree_of};
-use kr_classes_table::TypeId;
+use kr_classes_table::{TypeId, first_item};
 
-/// A parameter's type by its node, and the list behind it.
+/// A parameter's type by its node, and the rest of the list.
 #[derive(Clone, Copy)]
 pub struct NextParameter {
     pub declared: u32,
     pub rest: u32,
-}
-
-/// The first item of a list and what is behind it.
-fn first_item(tree: &Tree, list: u32) -> Option<(u32, u32)>
-    requires { list < length tree.now.entries }
-    ensures within { IfSome result (λ p. p.0 < length tree.now.entries) }
-    ensures behind { IfSome result (λ p. p.1 < list) }
-    ensures shown { MatchOption result (items (tree_in tree.now list) ≡ []) (λ p. items (tree_in tree.now list) ≡ tree_in tree.now p.0 ∷ items (tree_in tree.now p.1)) }
-{
-    match tree.entry(list).node {
-        Node::Cons { first, rest } => Some((first, rest)),
-        _ => None,
-    }
 }
 
 /// The node of the type of a parameter.

@@ -5,8 +5,8 @@ ghost use Rattle.kr_types_meaning.specs.Rules as rules;
 ghost use Rattle.kr_types_scopes.specs.Settings.{Setting, role_of, scope_in};
 ghost use Rattle.kr_types_scopes.specs.declared.within.Binding.{Binding};
 ghost use Rattle.kr_classes_members.specs.Shown.{IsMethod, method_shown, table_in};
-ghost use Rattle.kr_classes_types.specs.Types.{IsTypeNumber, count, type_at};
-ghost use Rattle.kr_classes_types.specs.Numbers.{AreNodeTypes};
+ghost use Rattle.kr_classes_names.specs.Types.{IsTypeNumber, count, type_at};
+ghost use Rattle.kr_classes_names.specs.Numbers.{AreNodeTypes};
 ghost use Rattle.kr_types_judging.specs.Classes.{AreClassTypes};
 ghost use Rattle.kr_types_judging.specs.Shown.{IsVerdictWithin, verdict_shown};
 
@@ -17,11 +17,11 @@ use crate::members::value_of;
 use crate::relations::is_void;
 use crate::rules::TypingRule;
 use kr_classes_members::Method;
+use kr_classes_names::Types;
 use kr_classes_table::TypeId;
-use kr_classes_types::Types;
 use kr_types_scopes::{Role, Within};
 
-/// Whether it stands for a statement.
+/// Whether the role is that of a statement.
 fn is_statement(role: Role) -> bool
     ensures { result ≡ rules.is_statement (role_of role) }
 {
@@ -31,7 +31,7 @@ fn is_statement(role: Role) -> bool
     }
 }
 
-/// Whether a call of this result may stand there: one without a result stands only as a statement.
+/// Whether a call with this result may occur there: one without a result is only a statement.
 fn may_stand(types: &Types, number: TypeId, here: Within) -> bool
     requires { number < count types.now }
     ensures { result ≡ (not (is_void (type_at types.now number)) || rules.is_statement (role_of here.role)) }
@@ -47,7 +47,7 @@ fn result_type(classes: &ClassTypes<'_>, method: Method) -> TypeId
     classes.node_types.number(method.file, method.result)
 }
 
-/// T32: a call of a method without result stands only as a statement.
+/// T32: a call of a method without result is a statement.
 fn result_rule(classes: &ClassTypes<'_>, here: Within, method: Method) -> Judgement
     requires { AreNodeTypes classes.now.trees.now classes.now.types.now classes.now.node_types.now }
     ensures within { IsVerdictWithin classes.now.types.now result }
@@ -101,7 +101,7 @@ pub fn call_rule(
     }
 }
 
-/// T24 behind a class's name.
+/// T24 after a class's name.
 pub fn static_rule(
     classes: &ClassTypes<'_>,
     here: Within,

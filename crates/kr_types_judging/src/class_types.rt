@@ -1,8 +1,8 @@
-// What the typing rules read of a program.
+// The part of a program that the typing rules read.
 
 use kr_ast::Tree;
 use kr_classes_members::Members;
-use kr_classes_types::{NodeTypes, Types};
+use kr_classes_names::{NodeTypes, Types};
 
 /// The classes of a program, with types by number: the trees of its files, all types, the members of the classes, and the
 /// types that nodes name.

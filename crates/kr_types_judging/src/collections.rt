@@ -2,18 +2,18 @@
 ghost use Rattle.std.specs.Prelude.{◌≡◌, ◌<◌, ◌||◌, ◌&&◌, not, map, All, bytes_eq, codes};
 ghost use Rattle.kr_classes_table.specs.Types.{is_collection, is_element, is_reference};
 ghost use Rattle.kr_types_meaning.specs.Rules as rules;
-ghost use Rattle.kr_classes_types.specs.Types.{count, type_at};
+ghost use Rattle.kr_classes_names.specs.Types.{count, type_at};
 ghost use Rattle.kr_types_judging.specs.Shown.{IsVerdictWithin, Says, verdict_shown};
 
 use crate::known::Judgement;
 use crate::relations::is_assignable;
 use crate::rules::TypingRule;
 use kr_classes_members::Members;
+use kr_classes_names::Types;
 use kr_classes_table::TypeId;
-use kr_classes_types::Types;
 use kr_types_scopes::Within;
 
-/// Whether it takes the first member of a list.
+/// Whether the call removes the first member of a list.
 fn removes_first(types: &Types, is_list: bool, member: TypeId, name: &[u8]) -> bool
     requires { member < count types.now }
     ensures { result ≡ (bytes_eq name.now (codes "removeFirst") && is_list && is_element (type_at types.now member)) }
@@ -50,7 +50,7 @@ fn looks_for(types: &Types, name: &[u8], argument: TypeId) -> bool
         && !types.is_collection(argument)
 }
 
-/// T25: and with one: `add` takes what is assignable to the type of the members.
+/// T25 with an argument: `add` accepts values assignable to the type of the members.
 fn member_call_rule(
     types: &Types,
     members: &Members,

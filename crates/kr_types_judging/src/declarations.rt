@@ -8,8 +8,8 @@ ghost use Rattle.kr_types_scopes.specs.declared.within.Binding.{Binding};
 ghost use Rattle.kr_ast.specs.Files.{file_at};
 ghost use Rattle.kr_classes_members.specs.Shown.{table_in};
 ghost use Rattle.kr_classes_members.specs.Kept.{AreMembers};
-ghost use Rattle.kr_classes_types.specs.Types.{IsTypeNumber, count, type_at};
-ghost use Rattle.kr_classes_types.specs.Numbers.{AreNodeTypes};
+ghost use Rattle.kr_classes_names.specs.Types.{IsTypeNumber, count, type_at};
+ghost use Rattle.kr_classes_names.specs.Numbers.{AreNodeTypes};
 ghost use Rattle.kr_types_judging.specs.Shown.{IsVerdictWithin, constant_says, initial_goes_into, returned, verdict_shown};
 
 use crate::known::Judgement;
@@ -19,8 +19,8 @@ use crate::rules::TypingRule;
 use crate::statements::is_ensuring;
 use kr_ast::Tree;
 use kr_classes_members::Members;
+use kr_classes_names::{NodeTypes, Types};
 use kr_classes_table::TypeId;
-use kr_classes_types::{NodeTypes, Types};
 use kr_types_scopes::Within;
 
 /// The type that a node of a scope means; that of what has no value where there is none.
@@ -40,7 +40,7 @@ pub fn type_of_node(
     }
 }
 
-/// Whether an initial value, if there is one, goes into what is declared.
+/// Whether an initial value, if there is one, fits the declared type.
 fn initial_fits(types: &Types, members: &Members, declared: TypeId, initial: Option<TypeId>) -> bool
     requires declared { declared < count types.now }
     requires initial { IfSome initial (λ t. t < count types.now) }

@@ -1,14 +1,14 @@
-// What is known of a node, and what a rule says of it.
+// The facts known of a node, and the verdict of a rule.
 ghost use Rattle.std.specs.Prelude.{◌≡◌, ◌<◌};
 ghost use Rattle.kr_types_meaning.specs.Rules as rules;
-ghost use Rattle.kr_classes_types.specs.Types.{TypeList, count, type_at};
+ghost use Rattle.kr_classes_names.specs.Types.{TypeList, count, type_at};
 ghost use Rattle.kr_types_judging.specs.Numbers.{rule_number};
 ghost use Rattle.kr_types_judging.specs.Shown.{IsVerdictWithin, verdict_shown};
 
 use crate::rules::TypingRule;
 use kr_classes_table::TypeId;
 
-/// What is known of an expression: nothing, a value of a type, or a variable of a type; by the type's number.
+/// The facts known of an expression: none, a value of a type, or a variable of a type; by the type's number.
 #[derive(Clone, Copy, PartialEq, Eq)]
 pub enum Typed {
     Untyped,
@@ -16,8 +16,8 @@ pub enum Typed {
     Variable(TypeId),
 }
 
-/// What is known of a node: of an expression; that it is absent, or an empty list; or that it is a list of values, by the
-/// type of the first and the node of the rest.
+/// The facts known of a node: those of an expression; that it is absent, or an empty list; or that it is a list of
+/// values, by the type of the first and the node of the rest.
 #[derive(Clone, Copy, PartialEq, Eq)]
 pub enum Known {
     One(Typed),
@@ -25,7 +25,7 @@ pub enum Known {
     More { first: TypeId, rest: u32 },
 }
 
-/// What a rule says: what is known of the node, or the rule that it breaks.
+/// The verdict of a rule: the facts known of the node, or the broken rule.
 #[derive(Clone, Copy, PartialEq, Eq)]
 pub enum Judgement {
     Fits(Typed),
@@ -49,7 +49,7 @@ impl Judgement {
         Judgement::Fits(Typed::Value(number))
     }
 
-    /// What is left, where the test holds; else this rule is broken.
+    /// The verdict `rest` if the test holds; else this rule is broken.
     pub fn ask(test: bool, rule: TypingRule, rest: Judgement) -> Judgement
         ensures within { (l : TypeList) → IsVerdictWithin l rest → IsVerdictWithin l result }
         ensures says { (l : TypeList) → verdict_shown l result ≡ rules.ask test (rule_number rule) (verdict_shown l rest) }
@@ -69,7 +69,7 @@ impl Judgement {
         }
     }
 
-    /// Nothing where the test holds; else this rule is broken.
+    /// No fault if the test holds; else this rule is broken.
     pub fn fine_if(test: bool, rule: TypingRule) -> Judgement
         ensures within { (l : TypeList) → IsVerdictWithin l result }
         ensures says { (l : TypeList) → verdict_shown l result ≡ rules.ask test (rule_number rule) rules.fine }

@@ -1,4 +1,4 @@
-//! The typing rules as code: what a rule says of a node, from what is known of its parts and its scope.
+//! The typing rules as code: the verdict of a rule on a node, from the facts known of its parts and its scope.
 #![tactic(auto)]
 
 mod arguments;
@@ -16,7 +16,7 @@ mod rules;
 mod statements;
 mod writes;
 
-pub use arguments::{NextParameter, arguments_fit, next_parameter};
+pub use arguments::arguments_fit;
 pub use calls::{call_rule, static_rule};
 pub use class_types::ClassTypes;
 pub use declarations::{
@@ -33,7 +33,7 @@ pub use operators::{
     cast_rule, choice_rule, diamond_rule, instance_rule, number_rule, operator_rule, type_rule,
     unary_rule,
 };
-pub use relations::{are_related, is_assignable, is_int};
+pub use relations::{is_assignable, is_int};
 pub use rules::TypingRule;
 pub use statements::{condition_rule, contract_rule, jump_rule, old_rule};
 pub use writes::{assignment_rule, compound_rule, is_code, step_rule};

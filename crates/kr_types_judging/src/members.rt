@@ -5,8 +5,8 @@ ghost use Rattle.kr_types_meaning.specs.Scopes.{FieldName};
 ghost use Rattle.kr_types_scopes.specs.Settings.{Setting, scope_in};
 ghost use Rattle.kr_types_scopes.specs.declared.within.Binding.{Binding};
 ghost use Rattle.kr_classes_members.specs.Shown.{field_shown, table_in};
-ghost use Rattle.kr_classes_types.specs.Types.{IsTypeNumber, count, type_at};
-ghost use Rattle.kr_classes_types.specs.Numbers.{AreNodeTypes};
+ghost use Rattle.kr_classes_names.specs.Types.{IsTypeNumber, count, type_at};
+ghost use Rattle.kr_classes_names.specs.Numbers.{AreNodeTypes};
 ghost use Rattle.kr_types_judging.specs.Classes.{AreClassTypes};
 ghost use Rattle.kr_types_judging.specs.Shown.{IsVerdictWithin, verdict_shown};
 
@@ -15,8 +15,8 @@ use crate::known::{Judgement, Typed};
 use crate::relations::is_int;
 use crate::rules::TypingRule;
 use kr_classes_members::Field;
+use kr_classes_names::{TypeForm, Types};
 use kr_classes_table::TypeId;
-use kr_classes_types::{TypeForm, Types};
 use kr_types_scopes::Within;
 
 /// The value of a type; none where rule T1 is broken of it.

@@ -6,7 +6,7 @@ ghost use Rattle.kr_types_meaning.specs.Scopes as scopes;
 ghost use Rattle.kr_types_scopes.specs.Settings.{Setting, scope_in};
 ghost use Rattle.kr_types_scopes.specs.declared.within.Binding.{Binding};
 ghost use Rattle.kr_classes_members.specs.Shown.{IsMethod, method_shown, table_in};
-ghost use Rattle.kr_classes_types.specs.Types.{count, type_at};
+ghost use Rattle.kr_classes_names.specs.Types.{count, type_at};
 ghost use Rattle.kr_types_judging.specs.Classes.{AreClassTypes};
 ghost use Rattle.kr_types_judging.specs.Shown.{IsVerdictWithin, verdict_shown};
 
@@ -16,8 +16,8 @@ use crate::collections::collection_rule;
 use crate::known::Judgement;
 use crate::rules::TypingRule;
 use kr_classes_members::Method;
+use kr_classes_names::TypeForm;
 use kr_classes_table::TypeId;
-use kr_classes_types::TypeForm;
 use kr_types_scopes::Within;
 
 /// T5: not in static code; T33: `super.m`, the method that the superclass has, is an instance method; T24.

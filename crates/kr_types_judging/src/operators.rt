@@ -1,7 +1,7 @@
 // Rules on types, literals, `this` and operators: T1, T5 to T15, T20, T21.
 ghost use Rattle.std.specs.Prelude.{◌≡◌, ◌<◌, IfSome, option_map};
 ghost use Rattle.kr_types_meaning.specs.Rules as rules;
-ghost use Rattle.kr_classes_types.specs.Types.{count, type_at};
+ghost use Rattle.kr_classes_names.specs.Types.{count, type_at};
 ghost use Rattle.kr_types_judging.specs.Numbers.{rule_number};
 ghost use Rattle.kr_types_judging.specs.Shown.{IsVerdictWithin, Says, verdict_shown};
 
@@ -13,12 +13,12 @@ use crate::relations::{
 use crate::rules::TypingRule;
 use kr_ast::{BinaryOperator, UnaryOperator};
 use kr_classes_members::Members;
+use kr_classes_names::{TypeForm, Types};
 use kr_classes_table::TypeId;
-use kr_classes_types::{TypeForm, Types};
 use kr_types_meaning::OperatorKind;
 use kr_types_scopes::{Role, Within};
 
-/// T1: the type's names are known, and it has the argument that it takes.
+/// T1: the type's names are known, and it has the argument that it needs.
 pub fn type_rule(types: &Types, number: TypeId) -> Judgement
     requires { number < count types.now }
     ensures within { IsVerdictWithin types.now result }
@@ -44,7 +44,7 @@ pub fn diamond_rule(types: &Types, number: TypeId) -> Judgement
     }
 }
 
-/// T6: 2147483648 stands only under a unary minus.
+/// T6: 2147483648 occurs only under a unary minus.
 pub fn number_rule(types: &Types, members: &Members, here: Within, value: u32) -> Judgement
     ensures within { IsVerdictWithin types.now result }
     ensures says { Says members.now types.now here result (λ s. rules.number_rule s value) }

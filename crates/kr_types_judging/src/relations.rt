@@ -7,12 +7,12 @@ ghost use Rattle.kr_types_meaning.specs.Promotion as promotion;
 ghost use Rattle.kr_types_meaning.specs.Rules as rules;
 ghost use Rattle.kr_classes_members.specs.Shown.{table_in};
 ghost use Rattle.kr_classes_members.specs.Kept.{AreMembers};
-ghost use Rattle.kr_classes_types.specs.Types.{count, type_at};
+ghost use Rattle.kr_classes_names.specs.Types.{count, type_at};
 ghost use Rattle.kr_types_judging.specs.Shown.{are_comparable, are_related_references, cast_fits, goes_into};
 
 use kr_classes_members::Members;
+use kr_classes_names::{TypeForm, Types};
 use kr_classes_table::{ClassId, TypeId};
-use kr_classes_types::{TypeForm, Types};
 
 /// Whether it is `int`.
 pub fn is_int(types: &Types, number: TypeId) -> bool
@@ -47,7 +47,7 @@ pub fn is_void(types: &Types, number: TypeId) -> bool
     }
 }
 
-/// Whether it is what stands between the brackets of `new HashSet<>()`.
+/// Whether it is the inferred type argument of `new HashSet<>()`.
 fn is_inferred(types: &Types, number: TypeId) -> bool
     requires { number < count types.now }
     ensures { result ≡ is_same (type_at types.now number) InferredType }
@@ -248,7 +248,7 @@ pub(crate) fn choice_fits(
     is_boolean(types, test) && are_related(types, members, a, b)
 }
 
-/// Of two types that are related the one that is assigned to.
+/// The wider one of two related types.
 pub(crate) fn wider(types: &Types, members: &Members, a: TypeId, b: TypeId) -> TypeId
     requires first { a < count types.now }
     requires second { b < count types.now }

@@ -13,7 +13,7 @@ pub enum TypingRule {
     RepeatedLocal,
     /// T5: static code has no `this`.
     StaticCode,
-    /// T6: 2147483648 stands under a minus.
+    /// T6: 2147483648 occurs only under a minus.
     NumberTooLarge,
     /// T7: `+ - * / %` take ints.
     Arithmetic,
@@ -21,7 +21,7 @@ pub enum TypingRule {
     Shift,
     /// T9: `< <= > >=` take ints.
     Comparison,
-    /// T10: `== !=` compare what is related.
+    /// T10: the operands of `== !=` are related.
     Equality,
     /// T11: `& | ^` take ints or booleans.
     Bitwise,
@@ -31,15 +31,15 @@ pub enum TypingRule {
     Negation,
     /// T14: unary `+ - ~` take an int.
     Sign,
-    /// T15: `?:` chooses between what is related.
+    /// T15: the arms of `?:` are related.
     Conditional,
-    /// T16: what is assigned fits.
+    /// T16: the assigned value fits.
     Assignment,
     /// T17: its operator fits.
     CompoundAssignment,
     /// T18: `++ --` take an int.
     Step,
-    /// T19: what is written is a variable.
+    /// T19: the target is a variable.
     Target,
     /// T20: a cast is possible.
     Cast,
@@ -63,7 +63,7 @@ pub enum TypingRule {
     LocalValue,
     /// T30: a result fits its method.
     Return,
-    /// T31: a jump stands in a loop.
+    /// T31: a jump is in a loop.
     Jump,
     /// T32: a value has a type.
     NoResult,
@@ -77,11 +77,11 @@ pub enum TypingRule {
     ConstantValue,
     /// T37: a static field is a constant.
     StaticField,
-    /// T38: `\result` and `\old` stand in `ensures`.
+    /// T38: `\result` and `\old` are in `ensures`.
     ContractValue,
     /// T39: a contract writes nothing.
     ContractWrite,
-    /// T40: a contract stands before an instance method.
+    /// T40: a contract belongs to an instance method.
     ContractPlace,
 }
 

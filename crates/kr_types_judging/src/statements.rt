@@ -1,16 +1,16 @@
-// Rules on statements, declarations and contracts: T28 to T31, T35, T38, T40.
+// Rules on statements and contracts: T28, T31, T38, T40.
 ghost use Rattle.std.specs.Prelude.{◌≡◌, ◌<◌};
 ghost use Rattle.kr_types_meaning.specs.Rules as rules;
 ghost use Rattle.kr_types_scopes.specs.Settings.{part_of};
-ghost use Rattle.kr_classes_types.specs.Types.{count, type_at};
+ghost use Rattle.kr_classes_names.specs.Types.{count, type_at};
 ghost use Rattle.kr_types_judging.specs.Shown.{IsVerdictWithin, Says, verdict_shown};
 
 use crate::known::Judgement;
 use crate::relations::is_boolean;
 use crate::rules::TypingRule;
 use kr_classes_members::Members;
+use kr_classes_names::Types;
 use kr_classes_table::TypeId;
-use kr_classes_types::Types;
 use kr_types_scopes::{Part, Within};
 
 /// Whether it is `ensures`.

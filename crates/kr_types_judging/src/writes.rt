@@ -2,7 +2,7 @@
 ghost use Rattle.std.specs.Prelude.{◌≡◌, ◌<◌};
 ghost use Rattle.kr_types_meaning.specs.Rules as rules;
 ghost use Rattle.kr_types_scopes.specs.Settings.{part_of};
-ghost use Rattle.kr_classes_types.specs.Types.{count, type_at};
+ghost use Rattle.kr_classes_names.specs.Types.{count, type_at};
 ghost use Rattle.kr_types_judging.specs.Shown.{IsVerdictWithin, Says, typed_shown, verdict_shown};
 
 use crate::known::{Judgement, Typed};
@@ -11,8 +11,8 @@ use crate::relations::{is_assignable, is_number};
 use crate::rules::TypingRule;
 use kr_ast::BinaryOperator;
 use kr_classes_members::Members;
+use kr_classes_names::Types;
 use kr_classes_table::TypeId;
-use kr_classes_types::Types;
 use kr_types_scopes::{Part, Within};
 
 /// Whether it may be written.

@@ -1,9 +1,9 @@
--- What the family of classes means, as the checker computes it.
+-- The meaning of the family of classes, as the checker computes it.
 use Rattle.std.proofs.Common.{◌≡◌, refl}
 use Rattle.std.specs.Prelude.{[], ◌∷◌, map, flat_map, length, take, true, false, pos, Some, None, option_map, codes}
 use Rattle.kr_ast.specs.declared.node.BinaryOperator.TheVariants.{Add, Less}
 use Rattle.kr_ast.specs.Tree as trees
-use Rattle.kr_ast.specs.Tree.{Tree, Nil}
+use Rattle.kr_ast.specs.Tree.{Nil}
 use Rattle.kr_classes_table.specs.Types.{IntType, BooleanType, NullType, ClassType, SetType, ListType, ArrayType, InferredType}
 use Rattle.kr_classes_table.specs.Table.{table_of, class_at, ancestors, fields_of, field_named, method_named, constructor_parameters, is_assignable, are_related}
 use Rattle.kr_classes_table.specs.Nodes.{nodes}

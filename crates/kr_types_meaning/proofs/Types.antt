@@ -2,7 +2,6 @@
 use Rattle.std.proofs.Common.{◌≡◌, refl, sym, ap, ◌∙◌, ℕ, Bool, true, false, ◌&&◌, List, [], ◌∷◌, if◌then◌else◌}
 use Rattle.std.specs.Prelude.{bytes_eq, codes}
 use Rattle.kr_ast.specs.Tree as trees
-use Rattle.kr_ast.specs.Tree.{Tree}
 use Rattle.kr_classes_table.specs.Types.{JavaType, UnknownType, AppliedType, SetType, ListType, ArrayType, is_known, is_element}
 use Rattle.kr_classes_table.specs.Table.{applied}
 use Rattle.kr_types_meaning.specs.Scopes.{written}

@@ -5,7 +5,7 @@ use Rattle.kr_ast.specs.declared.node.UnaryOperator.TheVariants.{Plus, Minus, Co
 use Rattle.kr_ast.specs.declared.node.StepOperator.TheVariants.{IncrementBefore, DecrementBefore, IncrementBehind, DecrementBehind}
 use Rattle.kr_ast.specs.declared.node.BinaryOperator.TheVariants.{Multiply, Divide, Remainder, Add, Subtract, ShiftLeft, ShiftRight, ShiftRightUnsigned, Less, Greater, LessOrEqual, GreaterOrEqual, Equal, NotEqual, BitAnd, BitXor, BitOr, And, Or}
 use Rattle.kr_ast.specs.Tree as trees
-use Rattle.kr_ast.specs.Tree.{Tree, Nil, Cons}
+use Rattle.kr_ast.specs.Tree.{Tree, Nil}
 use Rattle.kr_types_meaning.specs.Texts.{at, list_of, class_rule_at, type_rule_at, fault_at}
 use Rattle.kr_types_meaning.specs.Typing.{refusal, type_faults}
 use Rattle.kr_classes_table.specs.Table.{table_of}
@@ -828,7 +828,7 @@ each_missing = (list_of ((trees.Class (at 0 1 7) (codes "A") Nil (list_of ((tree
 abbrev pub t1_diamond : List Tree
 t1_diamond = (list_of ((trees.Class (at 0 1 7) (codes "A") Nil (list_of ((trees.Method (at 0 1 16) false (codes "m") (trees.Signature (at 0 1 16) (trees.PrimitiveType (at 0 1 16) Void) Nil Nil) (list_of ((trees.ExpressionStatement (at 0 1 22) (trees.ObjectCreation (at 0 1 22) (trees.DiamondType (at 0 1 26) (trees.NamedType (at 0 1 26) (codes "B"))) Nil)) ∷ []))) ∷ []))) ∷ [])) ∷ []
 
--- what the definitions answer
+-- the results of the definitions
 pub record Worked : Type 0 where
   pub c1_two_read : refusal c1_two ≡ Some (class_rule_at 1 0 1 19)
   pub c1_nested_read : refusal c1_nested ≡ Some (class_rule_at 1 1 1 7)

@@ -16,14 +16,14 @@ third zero s t = s
 third (suc zero) s t = s
 third (suc (suc j)) s t = t
 
--- a part of a `for` in the scope behind its initial statements
+-- a part of a `for`, in the scope after its initial statements
 abbrev pub for_part : ℕ → Scope → Scope
 for_part zero s = s
 for_part (suc zero) s = s
 for_part (suc (suc zero)) s = statement s
 for_part (suc (suc (suc j))) s = in_loop s
 
--- of part j
+-- the scope of part j
 abbrev pub handed : Scope → Tree → ℕ → Scope
 handed s (trees.Cons a b) j = second j s (after s a)
 handed s (trees.FieldAccess p e n) j = value s

@@ -1,4 +1,4 @@
--- Between crates: what holds of types and of the first broken node.
+-- Between crates: theorems on types and on the first broken node.
 use Rattle.std.specs.Prelude.{◌≡◌, ◌↔◌, List, None}
 use Rattle.kr_ast.specs.Tree as trees
 use Rattle.kr_ast.specs.Tree.{Tree}
@@ -15,7 +15,7 @@ IsClassName (trees.NamedType p n) = Unit {0}
 IsClassName (trees.QualifiedType p o n) = Unit {0}
 IsClassName _ = ⊥
 
--- a type that is written out, as all are but `C<>` behind `new`
+-- a type that is written out, as all are but `C<>` after `new`
 abbrev pub IsType : Tree → Type 0
 IsType (trees.PrimitiveType p k) = Unit {0}
 IsType (trees.NamedType p n) = Unit {0}

@@ -1,5 +1,5 @@
--- Between crates: what names, types and constants mean in one family of classes: A with its nested class N, B below A, C below
--- B. Their numbers are 0 to 3.
+-- Between crates: the meaning of names, types and constants in one family of classes: A with its nested class N, B
+-- below A, C below B. Their numbers are 0 to 3.
 use Rattle.std.specs.Prelude.{◌≡◌, ℕ, zero, suc, ◌+◌, List, [], ◌∷◌, map, flat_map, length, take, true, false, pos, Some, None, option_map, codes}
 use Rattle.kr_ast.specs.declared.node.Primitive.TheVariants.{Int, Boolean, Void}
 use Rattle.kr_ast.specs.declared.node.BinaryOperator.TheVariants.{Add, Less}
@@ -26,7 +26,7 @@ table = table_of family
 abbrev pub scope : Scope
 scope = bind_local (codes "b") BooleanType (bind_local (codes "x") IntType (scope_of table (values_of table) 3))
 
--- the same in N
+-- the scope in N
 abbrev pub nested : Scope
 nested = scope_of table (values_of table) 1
 
@@ -198,7 +198,7 @@ nested_in_second = list_of (
     ∷ []))
     ∷ []) ∷ []
 
--- so many classes, each on a line of its own, from this one on
+-- `n` classes, each on a line of its own, from a line on
 abbrev pub classes_on : ℕ → ℕ → List Tree
 classes_on line zero = []
 classes_on line (suc n) = trees.Class (at 0 line 7) (line ∷ []) Nil Nil ∷ classes_on (line + 1) n
@@ -271,7 +271,7 @@ pub record Meanings : Type 0 where
   -- a field or constant comes before the class of its name
   pub field_first : refusal field_of_class_name ≡ None
   pub constant_first : map (λ k. k.value) (values_of (table_of constant_of_class_name)) ≡ Whole (pos 1) ∷ Whole (pos 2) ∷ []
-  -- of the outer class only static methods
+  -- only static methods of the outer class
   pub no_outer_method : refusal method_of_outer ≡ Some (type_rule_at 24 0 2 4)
   pub outer_numbers : map (λ d. d.outer) (table_of nested_in_second).classes ≡ None ∷ Some 0 ∷ None ∷ Some 2 ∷ []
   pub second_outer : refusal nested_in_second ≡ None

@@ -1,6 +1,6 @@
--- Between crates: what is kept of a judgement: the type, and the first broken node with its least rule. What is kept of a node
--- follows from what is kept of its parts.
-use Rattle.std.specs.Prelude.{ℕ, ◌≡◌, ◌<◌, List, [], ◌∷◌, length, slice_get, slice_index_or, Option, Some, None}
+-- Between crates: the note of a judgement: the type, and the first broken node with its least rule. The note of a node
+-- follows from those of its parts.
+use Rattle.std.specs.Prelude.{ℕ, List, [], ◌∷◌, slice_index_or, Option, Some, None}
 use Rattle.kr_base.specs.declared.place.Place.{Place}
 use Rattle.kr_ast.specs.Tree as trees
 use Rattle.kr_ast.specs.Tree.{Tree}
@@ -9,7 +9,7 @@ use Rattle.kr_classes_table.specs.Table.{applied, field_named, method_named}
 use Rattle.kr_classes_table.specs.Rules.{Fault, least, sooner}
 use Rattle.kr_types_meaning.specs.Scopes.{Scope, written, in_class, meant, class_before, method_meant}
 use Rattle.kr_types_meaning.specs.Rules.{Typed, Untyped, Value, Values, Judgement, Fits, Breaks, type_rule, diamond_rule, array_rule, number_rule, this_rule, name_rule, unary_rule, operator_rule, choice_rule, cast_rule, instance_rule, assignment_rule, compound_rule, step_rule, access_rule, constant_rule, element_rule, call_rule, static_rule, super_rule, object_call_rule, creation_rule, array_creation_rule, result_value_rule, old_rule, contract_rule, condition_rule, return_rule, jump_rule, declaration_rule, parameter_rule, super_constructor_rule, implied_rule}
-use Rattle.kr_types_meaning.specs.Typing.{Judged, judged, on_one, on_two, on_list, on_maybe, joined, has_constructor, class_rule}
+use Rattle.kr_types_meaning.specs.Typing.{Judged, on_one, on_two, on_list, on_maybe, joined, has_constructor, class_rule}
 use Rattle.kr_ast.specs.declared.node.Node.{Node}
 use Rattle.kr_ast.specs.Arena.{parts}
 
@@ -65,7 +65,7 @@ abbrev pub method_of : Scope → Place → List ℕ → Option ℕ → Note → 
 method_of s p n (Some c) e es = list p (static_rule s (method_named s.table c n)) es
 method_of s p n None e es = one_and_list p (object_call_rule s n) e es
 
--- what is kept of a node in a scope, given what is kept of each part
+-- the note of a node in a scope, given the note of each part
 abbrev pub noted : Scope → Tree → (ℕ → Note) → Note
 noted s trees.Nil look = note (Values []) None
 noted s (trees.Cons a b) look = both (look 0) (look 1)

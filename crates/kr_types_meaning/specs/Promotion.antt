@@ -2,12 +2,12 @@
 use Rattle.std.specs.Prelude.{Bool, Option, Some, None, is_some}
 use Rattle.kr_classes_table.specs.Types.{JavaType, IntType}
 
--- of one operand: of a sign, of each operand of a shift
+-- the promoted type of one operand: of a sign, of each operand of a shift
 abbrev pub promoted_alone : JavaType → Option JavaType
 promoted_alone IntType = Some IntType
 promoted_alone t = None
 
--- of two operands
+-- the promoted type of two operands
 abbrev pub promoted : JavaType → JavaType → Option JavaType
 promoted IntType u = promoted_alone u
 promoted t u = None

@@ -14,17 +14,17 @@ use Rattle.kr_types_meaning.specs.declared.operators.OperatorKind.TheVariants.{A
 use Rattle.kr_types_meaning.specs.Promotion.{promoted, promoted_alone, is_number, are_numbers}
 use Rattle.kr_types_meaning.specs.Scopes.{Scope, Role, AsStatement, UnderMinus, Part, Code, Ensuring, Declaring, Locals, Fields, Constants, Meant, LocalName, FieldName, NoName, meant, super_class, super_parameters}
 
--- ---- what is known of a node
+-- ---- the facts known of a node
 
--- nothing (it is broken, or so is a part of it or a type that it speaks of), a value of a type, a variable, which may be
--- written, or the values of a list; what is absent is the empty list
+-- nothing (it is broken, or a part of it is, or a type that it refers to), a value of a type, a variable, which can be
+-- assigned, or the values of a list; an absent part is the empty list
 pub data Typed : Type 0 where
   Untyped : Typed
   Value : JavaType → Typed
   Variable : JavaType → Typed
   Values : List JavaType → Typed
 
--- what a rule says of a node: its type, or that it is broken
+-- the verdict of a rule on a node: its type, or the broken rule
 pub data Judgement : Type 0 where
   Fits : Typed → Judgement
   Breaks : ℕ → Judgement
@@ -63,7 +63,7 @@ both_boolean a b = is_boolean a && is_boolean b
 abbrev pub related_references : Scope → JavaType → JavaType → Bool
 related_references s a b = is_reference a && is_reference b && are_related s.table a b
 
--- as many arguments as parameters, each assignable
+-- equally many arguments and parameters, pairwise assignable
 abbrev pub arguments_fit : Scope → List JavaType → List Parameter → Bool
 arguments_fit s [] [] = true
 arguments_fit s (a ∷ more) (p ∷ ps) = takes s p.type a && arguments_fit s more ps
@@ -91,7 +91,7 @@ is_none_of (x ∷ xs) = false
 
 -- ---- types
 
--- T1: the type's names are known, and it has the argument that it takes
+-- T1: the type's names are known, and it has the argument that it needs
 abbrev pub type_rule : JavaType → Judgement
 type_rule t = ask (is_known t) 1 (Fits (Value t))
 
@@ -107,7 +107,7 @@ array_rule t = Fits (Value (ArrayType t))
 
 -- ---- names, literals, operators
 
--- T6: 2147483648 stands only under a unary minus
+-- T6: 2147483648 occurs only under a unary minus
 abbrev pub number_rule : Scope → ℕ → Judgement
 number_rule s n = ask (nat_lt n 2147483648 || is_under_minus s.role) 6 (Fits (Value IntType))
 
@@ -238,7 +238,7 @@ element_rule t i = Breaks 23
 
 -- ---- calls
 
--- T32: a call of a method without result stands only as a statement
+-- T32: a call of a method without result is a statement
 abbrev pub result_rule : Scope → Method → Judgement
 result_rule s m = ask (not (is_void m.result) || is_statement s.role) 32 (gives m.result)
 
@@ -251,7 +251,7 @@ abbrev pub call_rule : Scope → Option Method → List JavaType → Judgement
 call_rule s None ts = Breaks 24
 call_rule s (Some m) ts = ask (m.is_static || not s.is_static) 5 (arguments_rule s ts m)
 
--- T24 behind a class's name
+-- T24 after a class's name
 abbrev pub static_rule : Scope → Option Method → List JavaType → Judgement
 static_rule s None ts = Breaks 24
 static_rule s (Some m) ts = ask m.is_static 24 (arguments_rule s ts m)
@@ -271,7 +271,8 @@ plain_call_rule is_list t n =
     else if bytes_eq n (codes "isEmpty") then Fits (Value BooleanType)
     else ask (bytes_eq n (codes "removeFirst") && is_list && is_element t) 25 (Fits (Value t))
 
--- T25: and with one: `add` takes what is assignable to the type, `contains` and `remove` null and every class or array type
+-- T25 with an argument: `add` accepts values assignable to the type, `contains` and `remove` null and every class or
+-- array type
 abbrev pub member_call_rule : Scope → JavaType → List ℕ → JavaType → Judgement
 member_call_rule s t n x =
     if bytes_eq n (codes "add") then ask (is_assignable s.table x t) 25 (Fits (Value BooleanType))

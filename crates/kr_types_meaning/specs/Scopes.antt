@@ -1,4 +1,4 @@
--- To be believed: what is known where a node stands, and what names mean there (Java Language Specification 6).
+-- To be believed: the context of a node, and the meaning of names there (Java Language Specification 6).
 use Rattle.std.specs.Prelude.{ℕ, Bool, true, false, List, [], ◌∷◌, length, flat_map, bytes_eq, if◌then◌else◌, Option, Some, None, option_and_then, option_to_list, unwrap_or}
 use Rattle.kr_ast.specs.Tree as trees
 use Rattle.kr_ast.specs.Tree.{Tree}
@@ -10,19 +10,19 @@ pub record Local : Type 0 where
   pub name : List ℕ
   pub type : JavaType
 
--- what an expression stands for: a value, a statement, or the operand of a unary minus
+-- the role of an expression: a value, a statement, or the operand of a unary minus
 pub data Role : Type 0 where
   AsValue : Role
   AsStatement : Role
   UnderMinus : Role
 
--- whether a node stands in code, or in a contract of one kind
+-- whether a node is in code, or in a contract of one kind
 pub data Part : Type 0 where
   Code : Part
   Requiring : Part
   Ensuring : Part
 
--- what a declarator declares
+-- the kind of item that a declarator declares
 pub data Declaring : Type 0 where
   Locals : Declaring
   Fields : Declaring
@@ -35,7 +35,7 @@ pub record Scope : Type 0 where
   -- the class whose code it is
   pub class : ℕ
   pub is_static : Bool
-  -- of the method
+  -- the method's result type
   pub result : JavaType
   -- the locals and parameters in scope, the newest first
   pub locals : List Local
@@ -44,7 +44,7 @@ pub record Scope : Type 0 where
   pub is_in_old : Bool
   pub role : Role
   pub declaring : Declaring
-  -- the type of what is declared
+  -- the declared type
   pub declared : JavaType
 
 -- the scope of a class's members
@@ -107,7 +107,7 @@ abbrev pub bind_as : Declaring → List ℕ → Scope → Scope
 bind_as Locals n s = bind_local n s.declared s
 bind_as what n s = s
 
--- the scope behind a node: a local is in scope from its declarator to its block's end, a parameter in the whole method
+-- the scope after a node: a local is in scope from its declarator to its block's end, a parameter in the whole method
 abbrev pub after : Scope → Tree → Scope
 after s (trees.Cons a b) = after (after s a) b
 after s (trees.Local p t ds) = after (declaring Locals t s) ds

@@ -13,7 +13,7 @@ use Rattle.kr_classes_table.specs.Constants.{values_of}
 use Rattle.kr_types_meaning.specs.Scopes.{Scope, Requiring, Ensuring, Locals, scope_of, written, in_class, static_if, value, statement, under_minus, in_loop, in_contract, in_old, declaring, field_kind, bind_as, after, meant, class_before, method_meant}
 use Rattle.kr_types_meaning.specs.Rules.{Typed, Untyped, Value, Variable, Values, Judgement, Fits, Breaks, fine, type_rule, diamond_rule, array_rule, number_rule, this_rule, name_rule, unary_rule, operator_rule, choice_rule, cast_rule, instance_rule, assignment_rule, compound_rule, step_rule, access_rule, constant_rule, element_rule, call_rule, static_rule, super_rule, object_call_rule, creation_rule, array_creation_rule, result_value_rule, old_rule, contract_rule, condition_rule, return_rule, jump_rule, declaration_rule, parameter_rule, super_constructor_rule, implied_rule}
 
--- what is known of a node, and the broken nodes in it
+-- the judgement of a node, and the broken nodes in it
 pub record Judged : Type 0 where
   pub typed : Typed
   pub faults : List Fault
@@ -169,7 +169,7 @@ type_in (Value t) = Some t
 type_in (Variable t) = Some t
 type_in x = None
 
--- the type of an expression that stands for a value
+-- the type of an expression in the role of a value
 abbrev pub type_of : Scope → Tree → Option JavaType
 type_of s e = type_in (judged (value s) e).typed
 

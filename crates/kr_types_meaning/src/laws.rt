@@ -1,4 +1,4 @@
-// What holds of the typing rules.
+// Theorems on the typing rules.
 ghost use Rattle.kr_types_meaning.specs.Laws.{WellTypedLaw, TypesLaw};
 ghost use Rattle.kr_types_meaning.specs.Examples.{Worked};
 ghost use Rattle.kr_types_meaning.specs.Meanings.{Meanings};
@@ -21,7 +21,7 @@ pub fn worked_examples()
     ensures { Worked }
 {}
 
-/// What names, types and constants mean in a family of classes.
+/// The meaning of names, types and constants in a family of classes.
 #[tactic(auto, using(crate::proofs::Meanings::meanings))]
 pub fn worked_meanings()
     ensures { Meanings }

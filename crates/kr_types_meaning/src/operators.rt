@@ -1,6 +1,6 @@
 // Operators by the typing rule that they follow.
 
-/// What stands between two operands.
+/// The kind of a binary operator.
 #[derive(Clone, Copy, PartialEq, Eq)]
 pub enum OperatorKind {
     /// `* / % + -`

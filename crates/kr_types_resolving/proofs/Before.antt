@@ -1,4 +1,4 @@
--- Which class stands before a dot, by what the node before it means.
+-- The class before a dot, by the meaning of the node before it.
 use Rattle.std.proofs.Common.{◌≡◌, refl, ℕ, Bool, true, false, cond, List}
 use Rattle.std.specs.Prelude.{Option, Some, None, option_and_then}
 use Rattle.kr_ast.specs.Tree as trees
@@ -61,7 +61,7 @@ before_meant s (trees.SuperCall p n es) o = no_super (method_of s.table n (super
 before_meant s (trees.ObjectCreation p t es) o = no_creation (written s t)
 before_meant s _ o = refl
 
--- as a value or not
+-- in the role of a value or not
 pub before_value : (s : Scope) (e : Tree) → class_before (value s) e ≡ class_before s e
 before_value s (trees.Variable p n) = refl
 before_value s _ = refl

@@ -8,8 +8,8 @@ use Rattle.kr_classes_table.specs.Table as table
 use Rattle.kr_classes_members.specs.declared.fields.Field.{Field}
 use Rattle.kr_classes_members.specs.declared.methods.Method.{Method}
 use Rattle.kr_classes_members.specs.Shown.{field_shown, method_shown, table_in}
-use Rattle.kr_classes_roster.specs.declared.roster.Roster.{Roster}
-use Rattle.kr_classes_roster.specs.Rosters.{IsRoster, all_fields, all_methods, field_numbered, method_numbered, no_method}
+use Rattle.kr_classes_members.specs.declared.roster.Roster.{Roster}
+use Rattle.kr_classes_members.specs.Rosters.{IsRoster, all_fields, all_methods, field_numbered, method_numbered, no_method}
 use Rattle.kr_types_resolving.proofs.Rostered.{field_got, field_is, method_got}
 use Rattle.kr_types_resolving.specs.Meanings.{Constant, Instance, Static, Virtual, field_meaning, method_meaning}
 

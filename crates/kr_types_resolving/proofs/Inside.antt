@@ -1,4 +1,4 @@
--- What a meaning speaks of.
+-- The items that a meaning refers to.
 use Rattle.std.proofs.Common.{◌≡◌, refl, sym, ap, ◌∙◌, ℕ, Bool, true, false, cond, List, []}
 use Rattle.std.specs.Prelude.{Option, Some, None, option_and_then}
 use Rattle.kr_base.specs.declared.place.Place.{Place}
@@ -43,7 +43,7 @@ virtual_is (Some k) m e = go k.is_static refl e
     go true h e = absurd (cc (e))
     go false h e = let same : m ≡ k = cc in ap (λ (x : Method). x.is_static) same ∙ h
 
--- ---- fields and constants behind a dot
+-- ---- fields and constants after a dot
 
 pub constant_law : (o : Option Field) → constant_in (field_meaning (option_and_then constant_only o)) ≡ option_and_then constant_only o
 constant_law None = refl
@@ -89,7 +89,7 @@ class_untyped s (trees.Variable p n) c h = go (meant s n) h
     go NoName h = refl
 class_untyped s _ c h = absurd (cc (h))
 
--- the field behind an object is the one that its type has
+-- the field after an object is the one of the object's type
 pub instance_behind : (s : Scope) (p : Place) (e : Tree) (n : List ℕ) → instance_in (meaning s (trees.FieldAccess p e n)) ≡ option_and_then instance_only (field_of s.table n (object_class (type_of s e)))
 instance_behind s p e n = go (class_before s e) refl
   where

@@ -7,8 +7,8 @@ use Rattle.kr_ast.specs.Arena.{Arena}
 use Rattle.kr_classes_members.specs.declared.fields.Field.{Field}
 use Rattle.kr_classes_members.specs.declared.methods.Method.{Method}
 use Rattle.kr_classes_members.specs.Shown.{field_shown, method_shown, table_in}
-use Rattle.kr_classes_roster.specs.declared.roster.Roster.{Roster}
-use Rattle.kr_classes_roster.specs.Rosters.{IsRoster, all_fields, all_methods, field_numbered, no_field}
+use Rattle.kr_classes_members.specs.declared.roster.Roster.{Roster}
+use Rattle.kr_classes_members.specs.Rosters.{IsRoster, all_fields, all_methods, field_numbered, no_field}
 
 pub field_got : (files : List Arena) (r : Roster) → IsRoster files r → (k : ℕ) (x : Field) → k < length (all_fields (table_in files)) → x ≡ get_or r.fields.items k x → slice_get (all_fields (table_in files)) k ≡ Some (field_shown files x)
 field_got files r is k x h e =

@@ -1,4 +1,4 @@
--- Between crates: what a node is resolved to, in the words of the typing rules: once, for all that goes by it.
+-- Between crates: resolution of nodes in terms of the typing rules, once for all later stages.
 use Rattle.std.specs.Prelude.{ℕ, List, if◌then◌else◌, Option, Some, None, option_and_then}
 use Rattle.kr_ast.specs.Tree as trees
 use Rattle.kr_ast.specs.Tree.{Tree}
@@ -21,7 +21,7 @@ pub data Meaning : Type 0 where
   Virtual : Method → Meaning
   Static : Method → Meaning
   Super : Method → Meaning
-  -- what is created: an object of a class, or a collection
+  -- a creation: of an object of a class, or of a collection
   New : ℕ → Meaning
   NewSet : Meaning
   NewList : Meaning
@@ -68,7 +68,7 @@ method_of t n c = option_and_then (λ d. method_named t d n) c
 abbrev pub instance_only : Field → Option Field
 instance_only f = if f.is_static then None else Some f
 
--- behind a dot: a constant or static method of the class before it, a field or method of the object
+-- after a dot: a constant or static method of the class before it, a field or method of the object
 abbrev pub field_behind : Table → List ℕ → Option ℕ → Option ℕ → Meaning
 field_behind t n (Some c) o = field_meaning (constant_of t (Some c) n)
 field_behind t n None o = field_meaning (option_and_then instance_only (field_of t n o))
@@ -77,7 +77,7 @@ abbrev pub method_behind : Table → List ℕ → Option ℕ → Option ℕ → 
 method_behind t n (Some c) o = method_meaning (option_and_then static_only (method_named t c n))
 method_behind t n None o = method_meaning (method_of t n o)
 
--- what a node means where the object before its dot has this type
+-- the meaning of a node, if the object before its dot has this type
 abbrev pub meaning_by : Scope → Tree → Option JavaType → Meaning
 meaning_by s (trees.Variable p n) o = name_meaning s.table n (meant s n)
 meaning_by s (trees.FieldAccess p e n) o = field_behind s.table n (class_before s e) (object_class o)
@@ -92,7 +92,7 @@ object_type s (trees.FieldAccess p e n) = type_of s e
 object_type s (trees.MethodCall p e n es) = type_of s e
 object_type s _ = None
 
--- what a node in a scope means
+-- the meaning of a node in a scope
 abbrev pub meaning : Scope → Tree → Meaning
 meaning s t = meaning_by s t (object_type s t)
 

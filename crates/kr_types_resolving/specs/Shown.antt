@@ -6,7 +6,7 @@ use Rattle.kr_types_meaning.specs.Scopes.{Scope}
 use Rattle.kr_classes_names.specs.Shown.{AreHeads}
 use Rattle.kr_classes_members.specs.Shown.{table_in}
 use Rattle.kr_classes_members.specs.Kept.{AreMembers}
-use Rattle.kr_classes_roster.specs.Rosters.{IsRoster, all_fields, all_methods, field_numbered, method_numbered}
+use Rattle.kr_classes_members.specs.Rosters.{IsRoster, all_fields, all_methods, field_numbered, method_numbered}
 use Rattle.kr_types_resolving.specs.Meanings as meanings
 use Rattle.kr_types_resolving.specs.declared.classes.Classes.{Classes}
 use Rattle.kr_types_resolving.specs.declared.meaning.Meaning.{Meaning}
@@ -39,7 +39,7 @@ pub record IsMeant (t : Table) (s : Scope) (e : Tree) (m : Meaning) : Type 0 whe
   pub within : IsMeaningWithin t m
   pub shown : meaning_shown t m ≡ meanings.meaning s e
 
--- of a node by its number
+-- the meaning of a node by its number
 abbrev pub meaning_at : List Meaning → ℕ → Meaning
 meaning_at ms i = slice_index_or ms i kept.Nothing
 

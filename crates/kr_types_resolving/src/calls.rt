@@ -1,8 +1,8 @@
-// What a call without object and a call of `super.m` mean.
+// The meaning of a call without object and of a call of `super.m`.
 ghost use Rattle.std.specs.Prelude.{◌≡◌, ◌<◌, IfSome, length, option_and_then, slice_get};
 ghost use Rattle.kr_classes_table.specs.Table.{method_named};
 ghost use Rattle.kr_types_meaning.specs.Scopes.{Scope, method_meant, static_only, super_class};
-ghost use Rattle.kr_classes_roster.specs.Rosters.{all_methods};
+ghost use Rattle.kr_classes_members.specs.Rosters.{all_methods};
 ghost use Rattle.kr_types_resolving.specs.Meanings as meanings;
 ghost use Rattle.kr_types_resolving.specs.Shown.{AreClasses, IsMeaningWithin, meaning_shown, table_of};
 
@@ -10,7 +10,7 @@ use crate::members::method_meaning;
 use crate::{Classes, Meaning};
 use kr_classes_table::{ClassId, MethodId};
 
-/// The static method of a name, where the nearest of the name is static.
+/// The static method of a name, if the nearest of the name is static.
 pub(crate) fn static_method(classes: &Classes<'_>, class: ClassId, name: &[u8]) -> Option<MethodId>
     requires classes { AreClasses classes.now }
     ensures within { IfSome result (λ k. k < length (all_methods (table_of classes.now))) }
@@ -43,7 +43,7 @@ fn method_meant(classes: &Classes<'_>, class: ClassId, name: &[u8]) -> Option<Me
     }
 }
 
-/// What a call without object means in the code of a class.
+/// The meaning of a call without object in the code of a class.
 pub fn call_meaning(classes: &Classes<'_>, class: ClassId, name: &[u8]) -> Meaning
     requires classes { AreClasses classes.now }
     ensures within { IsMeaningWithin (table_of classes.now) result }
@@ -64,7 +64,7 @@ fn method_above(classes: &Classes<'_>, class: ClassId, name: &[u8]) -> Option<Me
     }
 }
 
-/// What a call of `super.m` means in the code of a class.
+/// The meaning of a call of `super.m` in the code of a class.
 pub fn super_meaning(classes: &Classes<'_>, class: ClassId, name: &[u8]) -> Meaning
     requires classes { AreClasses classes.now }
     ensures within { IsMeaningWithin (table_of classes.now) result }

@@ -1,11 +1,10 @@
-// What names are looked up in.
+// The tables in which names are looked up.
 
 use kr_ast::Tree;
-use kr_classes_members::Members;
+use kr_classes_members::{Members, Roster};
 use kr_classes_names::Heads;
-use kr_classes_roster::Roster;
 
-/// What the files of a program declare: classes by name, their members, and all fields and methods by number.
+/// The declarations in the files of a program: classes by name, their members, and all fields and methods by number.
 #[derive(Clone, Copy)]
 pub struct Classes<'a> {
     pub trees: &'a [Tree],

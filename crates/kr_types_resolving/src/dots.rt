@@ -1,8 +1,8 @@
-// What stands behind a dot, and what is created.
+// The meaning of names after a dot, and of creations.
 ghost use Rattle.std.specs.Prelude.{◌≡◌, ◌<◌, IfSome, Option, length, option_and_then, option_map, slice_get};
-ghost use Rattle.kr_classes_types.specs.Types.{count, type_at};
+ghost use Rattle.kr_classes_names.specs.Types.{count, type_at};
 ghost use Rattle.kr_classes_table.specs.Table.{Table};
-ghost use Rattle.kr_classes_roster.specs.Rosters.{all_fields, all_methods};
+ghost use Rattle.kr_classes_members.specs.Rosters.{all_fields, all_methods};
 ghost use Rattle.kr_types_resolving.specs.Meanings as meanings;
 ghost use Rattle.kr_types_resolving.specs.Shown.{AreClasses, IsMeaningWithin, meaning_shown, table_of};
 
@@ -10,8 +10,8 @@ use crate::calls::static_method;
 use crate::members::{field_meaning, method_meaning};
 use crate::names::constant_named;
 use crate::{Classes, Meaning};
+use kr_classes_names::{TypeForm, Types};
 use kr_classes_table::{ClassId, FieldId, MethodId, TypeId};
-use kr_classes_types::{TypeForm, Types};
 
 /// The class of an object of this type.
 fn object_class(types: &Types, object: Option<TypeId>) -> Option<ClassId>
@@ -60,7 +60,7 @@ fn method_of(classes: &Classes<'_>, class: Option<ClassId>, name: &[u8]) -> Opti
     }
 }
 
-/// A field or constant behind a dot: of the class before it, or of the object's.
+/// A field or constant after a dot: of the class before it, or of the object's.
 pub fn field_behind(
     classes: &Classes<'_>,
     types: &Types,
@@ -82,7 +82,7 @@ pub fn field_behind(
     }
 }
 
-/// A method behind a dot: of the class before it, or of the object's.
+/// A method after a dot: of the class before it, or of the object's.
 pub fn method_behind(
     classes: &Classes<'_>,
     types: &Types,
@@ -104,7 +104,7 @@ pub fn method_behind(
     }
 }
 
-/// What is created, by its type.
+/// The meaning of a creation, by its type.
 pub fn creation_meaning(types: &Types, created: TypeId) -> Meaning
     requires { created < count types.now }
     ensures within { (t : Table) → IsMeaningWithin t result }

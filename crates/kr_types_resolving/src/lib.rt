@@ -1,5 +1,5 @@
-//! What a node is resolved to: a local, a field, a constant, a class, a method and how it is called, or what is created. Names
-//! are looked up here, once; what follows goes by numbers.
+//! Resolution of a node: to a local, a field, a constant, a class, a method and the way to call it, or a creation.
+//! Names are looked up here only; later stages use numbers.
 #![tactic(auto)]
 
 mod calls;

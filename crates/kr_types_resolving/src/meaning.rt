@@ -1,17 +1,17 @@
-// What a node means, by numbers.
+// The meaning of a node, by numbers.
 ghost use Rattle.std.specs.Prelude.{◌≡◌, ◌<◌, IfSome, length, option_map};
 ghost use Rattle.kr_classes_table.specs.Table.{Table};
-ghost use Rattle.kr_classes_roster.specs.Rosters.{all_fields, all_methods, field_numbered, method_numbered};
+ghost use Rattle.kr_classes_members.specs.Rosters.{all_fields, all_methods, field_numbered, method_numbered};
 ghost use Rattle.kr_types_resolving.specs.Meanings as meanings;
 ghost use Rattle.kr_types_resolving.specs.Shown.{IsMeaningWithin, meaning_shown};
 
 use kr_classes_table::{ClassId, FieldId, MethodId};
 
-/// What a node is resolved to. Fields and methods have the roster's numbers.
+/// The item to which a node resolves. Fields and methods have the roster's numbers.
 #[derive(Clone, Copy)]
 pub enum Meaning {
     Nothing,
-    /// a local or parameter, by how many of those in scope are declared before it
+    /// a local or parameter, by the number of those in scope declared before it
     Local(u32),
     /// a field of `this`, or of the object before the dot
     Instance(FieldId),
@@ -30,7 +30,7 @@ pub enum Meaning {
 }
 
 impl Meaning {
-    /// The class that it means, if it means one.
+    /// The class that it means, if any.
     pub fn class(self) -> Option<ClassId>
         ensures { (t : Table) → result ≡ meanings.class_meant (meaning_shown t self) }
     {

@@ -1,6 +1,6 @@
 // Fields and methods that were found, as meanings.
 ghost use Rattle.std.specs.Prelude.{◌≡◌, ◌<◌, IfSome, length, option_and_then, slice_get};
-ghost use Rattle.kr_classes_roster.specs.Rosters.{all_fields, all_methods};
+ghost use Rattle.kr_classes_members.specs.Rosters.{all_fields, all_methods};
 ghost use Rattle.kr_types_resolving.specs.Meanings as meanings;
 ghost use Rattle.kr_types_resolving.specs.Shown.{AreClasses, IsMeaningWithin, meaning_shown, table_of};
 

@@ -1,11 +1,11 @@
-// What a name means where a node stands.
+// The meaning of a name at a node.
 ghost use Rattle.std.specs.Prelude.{◌≡◌, ◌<◌, List, Some, IfOk, IfSome, length, option_and_then, slice_get};
 ghost use Rattle.kr_ast.specs.Files.{file_at};
 ghost use Rattle.kr_classes_table.specs.Constants.{Known, constant_of, field_meant};
 ghost use Rattle.kr_types_meaning.specs.Scopes.{field_or_none, meant};
 ghost use Rattle.kr_types_scopes.specs.Settings.{setting};
 ghost use Rattle.kr_types_scopes.specs.Scoped.{AreScopes, scope_at};
-ghost use Rattle.kr_classes_roster.specs.Rosters.{all_fields};
+ghost use Rattle.kr_classes_members.specs.Rosters.{all_fields};
 ghost use Rattle.kr_types_resolving.specs.Meanings as meanings;
 ghost use Rattle.kr_types_resolving.specs.Shown.{AreClasses, IsMeaningWithin, meaning_shown, table_of};
 
@@ -34,7 +34,7 @@ pub(crate) fn constant_named(classes: &Classes<'_>, class: ClassId, name: &[u8])
     }
 }
 
-/// The field or constant that a name means in the code of a class where no local has it, by its number.
+/// The field or constant that a name means in the code of a class if no local has it, by its number.
 fn field_meant(classes: &Classes<'_>, class: ClassId, name: &[u8]) -> Option<FieldId>
     requires classes { AreClasses classes.now }
     ensures within { IfSome result (λ k. k < length (all_fields (table_of classes.now))) }
@@ -49,7 +49,7 @@ fn field_meant(classes: &Classes<'_>, class: ClassId, name: &[u8]) -> Option<Fie
     }
 }
 
-/// What a name means that no local has.
+/// The meaning of a name that no local has.
 fn unbound_meaning(classes: &Classes<'_>, class: ClassId, name: &[u8]) -> Meaning
     requires classes { AreClasses classes.now }
     ensures within { IsMeaningWithin (table_of classes.now) result }
@@ -61,7 +61,7 @@ fn unbound_meaning(classes: &Classes<'_>, class: ClassId, name: &[u8]) -> Meanin
     }
 }
 
-/// What a name means where a node of a file stands, in the code of a class. The error says that there are 2^32 - 1 locals.
+/// The meaning of a name at a node of a file, in the code of a class. Fails at 2^32 - 1 locals.
 pub fn variable_meaning(
     classes: &Classes<'_>,
     scopes: &Scopes,

@@ -10,8 +10,8 @@ use Rattle.kr_types_scopes.specs.declared.within.Binding.{Binding}
 use Rattle.kr_types_scopes.specs.declared.within.Within.{Within}
 use Rattle.kr_types_scopes.specs.Settings.{Setting, setting, local_of, locals_at, scope_in, type_there, declaring_of, IsChain, AreNamed}
 use Rattle.kr_types_scopes.specs.Tasks.{IsBound, IsStep}
-use Rattle.kr_types_scopes.proofs.Grown.{slice_get_push}
 use Rattle.kr_types_scopes.proofs.Chains.{keeps_push, locals_push, chain_push, with_locals}
+use Rattle.kr_base.proofs.ListLemmas.{slice_get-push}
 
 abbrev local_named : List ℕ → JavaType → Local
 local_named n t = record { name = n; type = t }
@@ -27,7 +27,7 @@ bound_scope g old b from name declared n d below =
     ap (with_locals g from) locals
 
 named_push : (tree : Arena) (bs : List Binding) (b : Binding) → AreNamesIn tree.text (b.name ∷ []) → AreNamed tree bs → AreNamed tree (bs ++ b ∷ [])
-named_push tree bs b n h k c is = elim (slice_get_push bs b k c is) [
+named_push tree bs b n h k c is = elim (slice_get-push bs b k c is) [
   | inl l ↦ h k c l
   | inr r ↦ subst (λ (x : Binding). AreNamesIn tree.text (x.name ∷ [])) r.1 n
 ]

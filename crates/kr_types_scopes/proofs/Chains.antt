@@ -1,16 +1,18 @@
--- Bindings that stand upon earlier ones.
+-- Bindings that refer to earlier ones.
 use Rattle.std.proofs.Common.{◌≡◌, ℕ, ◌+◌, ◌-◌, ◌≤◌, ◌⊎◌, inl, inr, List, [], ◌∷◌, ◌++◌, length, Some, refl, sym, ap, subst, ◌∙◌, arith, length-append}
 use Rattle.std.specs.Prelude.{slice_get}
 use Rattle.std.proofs.lemmas.Option.{slice_get_within}
 use Rattle.kr_classes_table.specs.Table.{Table}
 use Rattle.kr_classes_table.specs.Constants.{Known}
 use Rattle.kr_ast.specs.Arena.{Arena}
+use Rattle.kr_ast.proofs.Grown.{grow_keeps}
 use Rattle.kr_types_meaning.specs.Scopes.{Scope, Local}
 use Rattle.kr_types_scopes.specs.declared.within.Binding.{Binding}
 use Rattle.kr_types_scopes.specs.declared.within.Within.{Within}
 use Rattle.kr_types_scopes.specs.Settings.{Setting, setting, local_of, extended, locals_at, scope_in, class_there, type_there, part_of, role_of, declaring_of, IsLink, IsChain, Keeps}
 use Rattle.kr_types_scopes.specs.Tasks.{IsStep}
-use Rattle.kr_types_scopes.proofs.Grown.{grow_keeps, grow_stay, grow_made, slice_get_push}
+use Rattle.kr_types_scopes.proofs.Grown.{grow_stay, grow_made}
+use Rattle.kr_base.proofs.ListLemmas.{slice_get-push}
 
 pub locals_zero : (g : Setting) (bs : List Binding) → locals_at g bs 0 ≡ []
 unfolding locals_at
@@ -39,14 +41,14 @@ link_on bs b k c le h = record {
   below = h.below;
   number = h.number;
   first = h.first;
-  next = λ d pos is. elim (slice_get_push bs b (c.below - 1) d is) [
+  next = λ d pos is. elim (slice_get-push bs b (c.below - 1) d is) [
     | inl l ↦ h.next d pos l
     | inr r ↦ absurd (omega (arith, r.0, h.below, le, pos))
   ];
 }
 
 pub chain_push : (bs : List Binding) (b : Binding) → IsChain bs → IsLink bs (length bs) b → IsChain (bs ++ b ∷ [])
-chain_push bs b chain link k c is = go (slice_get_push bs b k c is)
+chain_push bs b chain link k c is = go (slice_get-push bs b k c is)
   where
     go : (slice_get bs k ≡ Some c) ⊎ ((k ≡ length bs) × (b ≡ c)) → IsLink (bs ++ b ∷ []) k c
     go (inl l) = link_on bs b k c (omega (arith, slice_get_within bs k c l)) (chain k c l)
@@ -77,7 +79,7 @@ with_locals g w ls = record {
 pub scope_kept : (g : Setting) (old new : List Binding) (w : Within) → Keeps g old new → w.top ≤ length old → scope_in g new w ≡ scope_in g old w
 scope_kept g old new w k le = ap (with_locals g w) (k.stay w.top le)
 
--- steps without a binding, and to the same scopes
+-- steps that add no binding keep the scopes
 pub step_same : (tree : Arena) (bs : List Binding) (w : Within) (f : Setting → Scope) → IsChain bs → w.top ≤ length bs
     → ((t : Table) (v : List Known) → scope_in (setting t v tree) bs w ≡ f (setting t v tree)) → IsStep tree bs bs w f
 step_same tree bs w f chain top e = record { top = top; scope_is = e; keeps = λ t v. keeps_same (setting t v tree) bs; chain = chain; named = λ h. h }

@@ -14,9 +14,12 @@ use Rattle.kr_types_scopes.specs.declared.within.Binding.{Binding}
 use Rattle.kr_types_scopes.specs.declared.within.Within.{Within}
 use Rattle.kr_types_scopes.specs.Settings.{Setting, setting, scope_in, IsChain, AreNamed}
 use Rattle.kr_types_meaning.specs.Handing.{handed}
-use Rattle.kr_types_scopes.specs.Scoped.{nowhere, scope_at, AreScopes, IsHanded}
+use Rattle.kr_types_scopes.specs.Scoped.{nowhere, scope_at, AreScopes, AreStarts, IsHanded}
+use Rattle.kr_types_scopes.specs.Kept.{begun}
+use Rattle.kr_types_scopes.specs.Newest.{IsStart}
 use Rattle.kr_types_scopes.specs.Tasks.{IsStep}
 use Rattle.kr_types_scopes.proofs.Chains.{scope_kept, locals_zero}
+use Rattle.kr_types_scopes.proofs.Begun.{begun_any, begun_length, with_start}
 
 -- the nodes from i on have the scope that the node above them hands on
 pub record Done (g : Setting) (bs : List Binding) (ws : List Within) (i : ℕ) : Type 0 where
@@ -30,19 +33,23 @@ pub record AreDone (tree : Arena) (bs : List Binding) (ws : List Within) (i : �
   pub named : AreNamed tree bs
   pub each : (t : Table) (v : List Known) → Done (setting t v tree) bs ws i
 
--- all of them
-pub scoped_of : (tree : Arena) → IsArena tree.text tree.entries → (bs : List Binding) (ws : List Within) → AreDone tree bs ws 0 → AreScopes tree bs ws
-scoped_of tree a bs ws h t v = record {
-  long = h.long;
-  tops = h.tops;
+-- all of them, with the places where searches begin
+pub scoped_of : (tree : Arena) → IsArena tree.text tree.entries → (bs : List Binding) (ws : List Within) (ss : List ℕ) → AreDone tree bs ws 0 → length ss ≡ length tree.entries → AreStarts tree bs ws ss 0 → AreScopes tree bs (begun ws ss)
+scoped_of tree a bs ws ss h count starts t v = record {
+  long = begun_length ws ss ∙ h.long;
+  tops = λ k. subst (λ (w : Within). w.top ≤ length bs) (sym (at k)) (h.tops k);
   chain = h.chain;
   named = h.named;
-  root = (h.each t v).root;
-  hands = hands;
+  starts = λ i l. subst (λ (w : Within). IsStart tree bs w.top i w.start) (sym (at i)) (starts i (omega arith) l);
+  root = λ k l. ap (scope_in g bs) (at k) ∙ (h.each t v).root k l;
+  hands = λ i j c l p. ap (scope_in g bs) (at c) ∙ hands i j c l p ∙ ap (λ (s : Scope). handed s (tree_in tree i) j) (sym (ap (scope_in g bs) (at i)));
 }
   where
     g : Setting
     g = setting t v tree
+
+    at : (k : ℕ) → get_or (begun ws ss) k nowhere ≡ with_start (get_or ws k nowhere) (get_or ss k 0)
+    at k = begun_any ws ss k (count ∙ sym h.long)
 
     hands : (i j c : ℕ) → i < length tree.entries → IsPart tree.entries i j c → scope_at (setting t v tree) bs ws c ≡ handed (scope_at (setting t v tree) bs ws i) (tree_in tree i) j
     hands i j c lt p =

@@ -5,8 +5,8 @@ pub mod Passing
 pub mod Plain
 pub mod Handed
 pub mod Kept
-pub mod Order
 pub mod Noted
-pub mod Trees
 pub mod Notes
 pub mod Looking
+pub mod Entered
+pub mod Begun

@@ -5,16 +5,16 @@ use Rattle.std.proofs.lemmas.Option.{slice_get_read, slice_get_within, slice_get
 use Rattle.std.proofs.lemmas.Bool.{cases_eq, false_from_ne_true}
 use Rattle.std.proofs.lemmas.Slice.Eq.{bytes_eq-Decides}
 use Rattle.kr_ast.specs.Arena.{Arena, name_in}
+use Rattle.kr_ast.proofs.Grown.{grow_stands}
 use Rattle.kr_classes_table.specs.Table.{Table, Field}
 use Rattle.kr_classes_table.specs.Constants.{Known}
 use Rattle.kr_types_meaning.specs.Scopes.{LocalName, meant_by, field_or_none}
 use Rattle.kr_types_scopes.specs.declared.within.Binding.{Binding}
 use Rattle.kr_types_scopes.specs.Settings.{Setting, setting, type_there, local_of, extended, locals_at, IsLink, IsChain}
 use Rattle.kr_types_scopes.specs.Lookups.{meant_there}
-use Rattle.kr_types_scopes.proofs.Grown.{grow_stands}
 use Rattle.kr_types_scopes.proofs.Chains.{locals_zero}
 
--- a binding and what stands below it
+-- a binding and those below it
 locals_stand : (g : Setting) (bs : List Binding) → IsChain bs → (k : ℕ) (b : Binding) → slice_get bs k ≡ Some b → locals_at g bs (k + 1) ≡ local_of g b ∷ locals_at g bs b.below
 unfolding locals_at
 locals_stand g bs chain k b is =

@@ -1,4 +1,4 @@
--- What is kept of a node follows from what is kept of its parts.
+-- The note of a node follows from those of its parts.
 use Rattle.std.proofs.Common.{◌≡◌, ℕ, ◌⊎◌, inl, inr, Bool, true, false, Option, List, [], ◌∷◌, ◌++◌, Some, None, refl, sym, ap, ◌∙◌, if◌then◌else◌}
 use Rattle.std.specs.Prelude.{slice_get}
 use Rattle.std.proofs.lemmas.Bool.{both_ways, cases_Bool}
@@ -15,7 +15,7 @@ use Rattle.kr_types_meaning.specs.Typing.{Judged, judge, judged, on_one, on_two,
 use Rattle.kr_types_meaning.specs.Noting.{Note, note, kept, concluded, one, two, three, one_and_list, list, maybe, plain, test, both, field_of, method_of, noted, parts_of}
 use Rattle.kr_types_scopes.specs.Noting.{AreNoted}
 use Rattle.kr_types_meaning.specs.Handing.{handed}
-use Rattle.kr_types_scopes.proofs.Order.{asymmetric, onwards}
+use Rattle.kr_classes_table.proofs.Order.{asymmetric, onwards}
 
 assoc_cases : (f g h : Fault) (a b c : Bool) → is_before g f ≡ a → is_before h g ≡ b → is_before h f ≡ c → (a ≡ true → b ≡ true → c ≡ true) → (a ≡ false → b ≡ false → c ≡ false)
     → sooner (if a then Some g else Some f) (Some h) ≡ sooner (Some f) (if b then Some h else Some g)
@@ -46,7 +46,7 @@ kept_judge : (p : Place) (v : Judgement) (below : List Fault) → kept (judge p 
 kept_judge p (Fits t) below = refl
 kept_judge p (Breaks r) below = ap (note Untyped) (least-append below (record { place = p; rule = r } ∷ []))
 
--- what is kept of a judgement, and the first of a list, as records so that arguments are found
+-- the note of a judgement, and the first of a list, as records so that arguments are inferred
 record Kept (x : Judged) (a : Note) : Type 0 where
   is : a ≡ kept x
 

@@ -16,7 +16,7 @@ use Rattle.kr_types_scopes.specs.Scoped.{scope_at, IsScoped}
 use Rattle.kr_types_meaning.specs.Handing.{handed}
 use Rattle.kr_types_meaning.specs.Noting.{Note, kept, parts_of, note_at, part_note}
 use Rattle.kr_types_scopes.specs.Noting.{AreNoted, AreNotes}
-use Rattle.kr_types_scopes.proofs.Trees.{tree_stands}
+use Rattle.kr_ast.proofs.Trees.{tree_stands}
 use Rattle.kr_types_scopes.proofs.Noted.{noted_is}
 
 -- the parts of a node's tree are the trees of its parts

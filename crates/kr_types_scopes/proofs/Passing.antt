@@ -32,7 +32,7 @@ pub within_append : (n : ℕ) (a b : List Task) → AreWithin n a → AreWithin 
 within_append n [] b h k = k
 within_append n (t ∷ a) b h k = (h.0, within_append n a b h.1 k)
 
--- a node and what is known of it
+-- a node with its entry
 pub record IsEntryThere (tree : Arena) (i : ℕ) (e : Entry) : Type 0 where
   pub within : i < length tree.entries
   pub stands : tree_in tree i ≡ tree_of tree.text (tree_in tree) e.place e.node

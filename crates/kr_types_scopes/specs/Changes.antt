@@ -1,4 +1,4 @@
--- Between crates: how a scope changes from a node to its parts, where no local comes into scope.
+-- Between crates: the change of a scope from a node to its parts that declare no local.
 use Rattle.std.specs.Prelude.{ℕ, Some}
 use Rattle.kr_ast.specs.declared.node.Node.{Node}
 use Rattle.kr_ast.specs.declared.node.Node.TheVariants as nodes

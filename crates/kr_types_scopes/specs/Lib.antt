@@ -1,6 +1,7 @@
 pub mod Settings
 pub mod Changes
 pub mod Tasks
+pub mod Newest
 pub mod Scoped
 pub mod Noting
 pub mod Lookups

@@ -1,4 +1,4 @@
--- Between crates: which local a name means.
+-- Between crates: the local that a name means.
 use Rattle.std.specs.Prelude.{ℕ, ◌≡◌, List, Option}
 use Rattle.kr_ast.specs.Arena.{Arena}
 use Rattle.kr_classes_table.specs.Table.{Table, Field}
@@ -10,7 +10,7 @@ use Rattle.kr_types_scopes.specs.declared.lookup.LocalFound.{LocalFound}
 use Rattle.kr_types_scopes.specs.Settings.{setting, type_there, locals_at}
 use Rattle.kr_types_scopes.specs.Scoped.{scope_at}
 
--- what the name means there, where it means no local the given field
+-- the meaning of the name there; if no local has it, the given field
 abbrev pub meant_there : Table → List Known → Arena → List Binding → ℕ → Option Field → List ℕ → Meant
 meant_there t v tree bs top f n = meant_by (locals_at (setting t v tree) bs top) f n
 
@@ -22,7 +22,7 @@ IsLocalThere tree bs top n l = (t : Table) (v : List Known) (f : Option Field) �
 abbrev pub IsNoLocal : Arena → List Binding → ℕ → List ℕ → Type 0
 IsNoLocal tree bs top n = (t : Table) (v : List Known) (f : Option Field) → meant_there t v tree bs top f n ≡ field_or_none f
 
--- where a node stands
+-- the local that a name means at a node
 abbrev pub IsLocalAt : Arena → List Binding → List Within → ℕ → List ℕ → LocalFound → Type 0
 IsLocalAt tree bs ws i n l = (t : Table) (v : List Known) (f : Option Field) → meant_by (scope_at (setting t v tree) bs ws i).locals f n ≡ LocalName l.number (type_there (setting t v tree) l.declared)
 

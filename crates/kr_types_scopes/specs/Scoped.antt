@@ -13,6 +13,7 @@ use Rattle.kr_types_scopes.specs.declared.within.Binding.{Binding}
 use Rattle.kr_types_scopes.specs.Settings.{Setting, setting, scope_in, IsChain, AreNamed}
 use Rattle.kr_types_meaning.specs.Handing.{handed}
 use Rattle.kr_types_scopes.specs.Tasks.{IsStep}
+use Rattle.kr_types_scopes.specs.Newest.{IsStart}
 
 -- outside of classes
 abbrev pub nowhere : Within
@@ -27,17 +28,24 @@ nowhere = record {
   role = roles.AsValue;
   declaring = declarings.Fields;
   declared = None;
+  start = 0;
 }
 
 abbrev pub scope_at : Setting → List Binding → List Within → ℕ → Scope
 scope_at g bs ws i = scope_in g bs (slice_index_or ws i nowhere)
 
--- The last node has the scope outside of classes, and each part of a node the one that the node hands to it.
+-- for the own names of the nodes from this one on
+abbrev pub AreStarts : Arena → List Binding → List Within → List ℕ → ℕ → Type 0
+AreStarts tree bs ws starts from = (i : ℕ) → from ≤ i → i < length tree.entries → IsStart tree bs (slice_index_or ws i nowhere).top i (slice_index_or starts i 0)
+
+-- The last node has the scope outside of classes, and each part of a node the one that the node hands to it. The search for a
+-- node's own name may begin where its scope says.
 pub record IsScoped (g : Setting) (bs : List Binding) (ws : List Within) : Type 0 where
   pub long : length ws ≡ length g.tree.entries
   pub tops : (i : ℕ) → (slice_index_or ws i nowhere).top ≤ length bs
   pub chain : IsChain bs
   pub named : AreNamed g.tree bs
+  pub starts : (i : ℕ) → i < length g.tree.entries → IsStart g.tree bs (slice_index_or ws i nowhere).top i (slice_index_or ws i nowhere).start
   pub root : (i : ℕ) → i + 1 ≡ length g.tree.entries → scope_at g bs ws i ≡ scope_of g.table g.values 0
   pub hands : (i j c : ℕ) → i < length g.tree.entries → IsPart g.tree.entries i j c → scope_at g bs ws c ≡ handed (scope_at g bs ws i) (tree_in g.tree i) j
 

@@ -1,4 +1,4 @@
--- Between crates: what is kept of scopes, and the scopes that it stands for in a tree.
+-- Between crates: the representation of scopes, and the scopes that it represents in a tree.
 use Rattle.std.specs.Prelude.{ℕ, ◌+◌, ◌-◌, ◌≤◌, ◌<◌, ◌≡◌, List, [], ◌∷◌, length, Option, Some, None, unwrap_or, slice_get, slice_index_or}
 use Rattle.kr_ast.specs.Tree as trees
 use Rattle.kr_ast.specs.Tree.{Tree}
@@ -56,7 +56,7 @@ declaring_of declarings.Locals = typing.Locals
 declaring_of declarings.Fields = typing.Fields
 declaring_of (declarings.Constants f) = typing.Constants f
 
--- a local more, upon those that stand below it
+-- one more local, on top of those below it
 abbrev pub local_of : Setting → Binding → Local
 local_of g b = record { name = name_in g.tree.text b.name; type = type_there g b.declared }
 
@@ -84,7 +84,7 @@ scope_in g bs w = record {
   declared = type_there g w.declared;
 }
 
--- a binding stands upon earlier ones, and knows how many there are
+-- a binding refers to earlier ones, and knows how many there are
 pub record IsLink (bs : List Binding) (k : ℕ) (b : Binding) : Type 0 where
   pub below : b.below ≤ k
   pub number : b.number ≤ k
@@ -94,7 +94,7 @@ pub record IsLink (bs : List Binding) (k : ℕ) (b : Binding) : Type 0 where
 abbrev pub IsChain : List Binding → Type 0
 IsChain bs = (k : ℕ) (b : Binding) → slice_get bs k ≡ Some b → IsLink bs k b
 
--- the names of the bindings stand in the tree's text
+-- the names of the bindings are in the tree's text
 abbrev pub AreNamed : Arena → List Binding → Type 0
 AreNamed tree bs = (k : ℕ) (b : Binding) → slice_get bs k ≡ Some b → AreNamesIn tree.text (b.name ∷ [])
 

@@ -1,4 +1,4 @@
--- Between crates: the scope behind a node, with what is still to be passed on the way.
+-- Between crates: the scope after a node, with the pending work on the way.
 use Rattle.std.specs.Prelude.{ℕ, ◌+◌, ◌*◌, ◌≤◌, ◌<◌, ◌≡◌, List, [], ◌∷◌, ◌++◌, length, Option, Some}
 use Rattle.kr_ast.specs.Tree.{Tree, size}
 use Rattle.kr_base.specs.declared.place.Place.{Place}
@@ -17,12 +17,12 @@ use Rattle.kr_ast.specs.declared.node.Name.{Name}
 use Rattle.kr_types_meaning.specs.Handing.{handed}
 use Rattle.kr_types_scopes.specs.Settings.{Setting, setting, type_there, scope_in, IsLink, IsChain, AreNamed, Keeps}
 
--- the scope behind a task: that behind a node, or one with a result type
+-- the scope after a task: that after a node, or one with a result type
 abbrev pub behind : Setting → Scope → Task → Scope
 behind g s (tasks.Pass k) = after s (tree_in g.tree k)
 behind g s (tasks.SetResult k) = record s { result = type_there g (Some k) }
 
--- the scope behind all tasks, one after another
+-- the scope after all tasks in order
 abbrev pub behind_all : Setting → Scope → List Task → Scope
 behind_all g s [] = s
 behind_all g s (t ∷ ts) = behind_all g (behind g s t) ts
@@ -72,7 +72,7 @@ abbrev pub AreWithin : ℕ → List Task → Type 0
 AreWithin n [] = Unit {0}
 AreWithin n (t ∷ ts) = (node_of t < n) × AreWithin n ts
 
--- The task is done, but for tasks of its own that stand before those that were there; with these all is behind it.
+-- The task is done, except for new tasks ahead of the old ones; after these the scope is the right one.
 pub record IsPassed (tree : Arena) (old new : List Binding) (from : Within) (task : Task) (before now : List Task) (made : Within) : Type 0 where
   pub own : List Task
   pub tasks_are : now ≡ own ++ before
@@ -93,6 +93,6 @@ StaysPlainly node position role =
     (g : Setting) (bs : List Binding) (w : Within) (p : Place) (at : ℕ) → tree_in g.tree at ≡ tree_of g.tree.text (tree_in g.tree) p node → IsPlain node → w.role ≡ role
     → handed (scope_in g bs w) (tree_of g.tree.text (tree_in g.tree) p node) position ≡ scope_in g bs w
 
--- the scope behind a node of this kind is that before it
+-- a node of this kind leaves the scope unchanged
 abbrev pub Leaves : Node → Type 0
 Leaves node = (s : Scope) (text : List ℕ) (look : ℕ → Tree) (p : Place) → after s (tree_of text look p node) ≡ s

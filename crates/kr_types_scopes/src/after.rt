@@ -1,4 +1,4 @@
-// The scope behind a node: what it declares is in scope for what follows.
+// The scope after a node: its declarations are in scope for the following nodes.
 ghost use Rattle.std.specs.Prelude.{◌≡◌, ◌≤◌, ◌<◌, [], length, OnOk};
 ghost use Rattle.kr_ast.specs.Arena.{tree_in};
 ghost use Rattle.kr_types_meaning.specs.Scopes.{after};
@@ -8,7 +8,7 @@ ghost use Rattle.kr_types_scopes.specs.Tasks.{IsStep, IsPassed, node_of};
 
 use crate::bindings::{bind, bind_declared};
 use crate::tasks::{Task, Tasks};
-use crate::{Binding, Declaring, Within};
+use crate::within::{Binding, Declaring, Within};
 use kr_ast::{Node, Tree};
 use kr_base::NoMemory;
 
@@ -77,7 +77,7 @@ fn pass(
     }
 }
 
-/// Makes a scope the one behind a node, part by part.
+/// Turns a scope into the one after a node, part by part.
 fn walk(
     tree: &Tree,
     bindings: &mut Vec<Binding>,
@@ -99,7 +99,7 @@ fn walk(
     Ok(())
 }
 
-/// Makes a scope the one behind a node: most nodes leave it as it is.
+/// Turns a scope into the one after a node; most nodes leave it unchanged.
 pub fn after(
     tree: &Tree,
     bindings: &mut Vec<Binding>,

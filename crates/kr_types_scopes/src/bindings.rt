@@ -5,7 +5,7 @@ ghost use Rattle.kr_types_meaning.specs.Scopes.{bind_local, bind_as};
 ghost use Rattle.kr_types_scopes.specs.Settings.{IsChain, type_there, scope_in};
 ghost use Rattle.kr_types_scopes.specs.Tasks.{IsBound, IsStep};
 
-use crate::{Binding, Declaring, Within};
+use crate::within::{Binding, Declaring, Within};
 use kr_ast::{Name, Tree};
 use kr_base::NoMemory;
 

@@ -12,7 +12,7 @@ ghost use Rattle.kr_types_scopes.specs.Changes.{first_change, operand_change, re
 use crate::{Declaring, Part, Role, Within};
 use kr_ast::{Node, UnaryOperator};
 
-/// What is different in the scope of a part.
+/// The difference of a part's scope.
 #[derive(Clone, Copy)]
 pub enum Change {
     Same,
@@ -31,7 +31,7 @@ pub enum Change {
     InClass,
 }
 
-/// What is different for the first part of a node.
+/// The difference for the first part of a node.
 #[inline(always)]
 pub(crate) fn first_change(node: Node) -> Change
     ensures { result ≡ first_change node }
@@ -58,7 +58,7 @@ pub(crate) fn first_change(node: Node) -> Change
     }
 }
 
-/// What is different for an operand.
+/// The difference for an operand.
 #[inline(always)]
 fn operand_change(operator: UnaryOperator) -> Change
     ensures { result ≡ operand_change operator }
@@ -69,7 +69,7 @@ fn operand_change(operator: UnaryOperator) -> Change
     }
 }
 
-/// What is different for the other parts of a node.
+/// The difference for the other parts of a node.
 #[inline(always)]
 pub(crate) fn rest_change(node: Node) -> Change
     ensures { result ≡ rest_change node }
@@ -106,7 +106,7 @@ pub(crate) fn rest_change(node: Node) -> Change
     }
 }
 
-/// What a field's declarators declare.
+/// The kind of item that a field's declarators declare.
 fn field_kind(is_static: bool, is_final: bool) -> Declaring
     ensures { declaring_of result ≡ field_kind is_static is_final }
 {

@@ -1,5 +1,5 @@
 // The scope that a node hands to each of its parts.
-ghost use Rattle.std.specs.Prelude.{◌≡◌, ℕ, List, ◌≤◌, ◌<◌, [], length, OnOk};
+ghost use Rattle.std.specs.Prelude.{◌≡◌, List, ◌≤◌, ◌<◌, [], length, OnOk};
 ghost use Rattle.kr_ast.specs.Arena.{tree_in};
 ghost use Rattle.kr_types_meaning.specs.Scopes.{after};
 ghost use Rattle.kr_types_scopes.specs.declared.within.Binding.{Binding};
@@ -11,11 +11,11 @@ use crate::after::after;
 use crate::bindings::bind_declared;
 use crate::change::{apply, first_change, rest_change};
 use crate::tasks::Tasks;
-use crate::{Binding, Role, Within};
+use crate::within::{Binding, Role, Within};
 use kr_ast::{Node, Tree};
 use kr_base::NoMemory;
 
-/// Makes a scope the one behind a node, for a part that stands behind it; for the first part it stays.
+/// Turns a scope into the one after a node, for a later part; for the first part it stays.
 fn after_first(
     tree: &Tree,
     bindings: &mut Vec<Binding>,
@@ -38,7 +38,7 @@ fn after_first(
     }
 }
 
-/// Makes a scope that of a part of a signature: behind its parameters for the contracts.
+/// Turns a scope into that of a part of a signature: after its parameters for the contracts.
 fn after_signature(
     tree: &Tree,
     bindings: &mut Vec<Binding>,
@@ -61,7 +61,7 @@ fn after_signature(
     }
 }
 
-/// Makes a scope that of a part of a `for`, behind its initial statements.
+/// Turns a scope into that of a part of a `for`, after its initial statements.
 fn in_for(here: &mut Within, position: u8)
     ensures top { here.new.top ≡ here.old.top }
     ensures scope { (g : Setting) (bs : List Binding) → scope_in g bs here.new ≡ for_part position (scope_in g bs here.old) }
@@ -73,7 +73,7 @@ fn in_for(here: &mut Within, position: u8)
     }
 }
 
-/// Makes a scope that of a part of a node that brings no local into scope.
+/// Turns a scope into that of a part of a node that declares no local.
 fn plainly(here: &mut Within, at: u32, node: Node, position: u8)
     ensures top { here.new.top ≤ here.old.top }
     ensures handed { HandsPlainly here.old at node position here.new }
@@ -85,7 +85,7 @@ fn plainly(here: &mut Within, at: u32, node: Node, position: u8)
     }
 }
 
-/// Makes a node's scope that of a part.
+/// Turns a node's scope into that of a part.
 #[inline(never)]
 pub(crate) fn hand_on(
     tree: &Tree,

@@ -1,12 +1,12 @@
-// What holds of all trees.
+// Theorems on all trees.
 ghost use Rattle.kr_types_scopes.specs.Noting.{LocalLaw, JudgedLaw};
 
-/// What is kept of a node follows from what is kept of its parts, each in the scope that the node hands to it.
+/// The note of a node follows from those of its parts, each in its own scope.
 pub fn local_law()
     ensures { LocalLaw }
 {}
 
-/// Notes that follow, node by node, from those of the parts are what is kept of the nodes of a tree.
+/// Notes that follow, node by node, from those of the parts are the notes of the tree's judgement.
 pub fn judged_law()
     ensures { JudgedLaw }
 {}

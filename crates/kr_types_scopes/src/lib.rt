@@ -1,5 +1,5 @@
-//! Which scope each node of a tree has: the class and the method that it stands in, the locals that are declared before it,
-//! and what else the typing rules ask of its surroundings. Nothing is looked up: a class and a type are kept as nodes.
+//! The scope of each node of a tree: its class and method, the locals declared before it, and the rest of the context
+//! that the typing rules need. Nothing is looked up: a class and a type are kept as nodes.
 #![tactic(auto)]
 
 mod after;
@@ -8,14 +8,17 @@ mod change;
 mod hand;
 mod laws;
 mod lookup;
+mod newest;
+mod node_scopes;
 mod scopes;
+mod starts;
 mod stay;
 mod tasks;
 mod within;
 mod within_list;
 
 pub use laws::{judged_law, local_law};
-pub use lookup::{LocalFound, find_local};
+pub use lookup::LocalFound;
+pub use node_scopes::NodeScopes;
 pub use scopes::Scopes;
-pub use within::{Binding, Declaring, Part, Role, Within};
-pub use within_list::WithinList;
+pub use within::{Declaring, Part, Role, Within};

@@ -1,12 +1,12 @@
-// Which local a name means.
+// The local that a name means.
 ghost use Rattle.std.specs.Prelude.{◌≤◌, length, IfSome, IfNone};
 ghost use Rattle.kr_types_scopes.specs.Settings.{IsChain, AreNamed};
 ghost use Rattle.kr_types_scopes.specs.Lookups.{IsLocalThere, IsNoLocal};
 
-use crate::Binding;
+use crate::within::Binding;
 use kr_ast::Tree;
 
-/// A local or parameter: its number, which is how many of those in scope are declared before it, and the node of its type.
+/// A local or parameter: its number, which counts those in scope declared before it, and the node of its type.
 #[derive(Clone, Copy)]
 pub struct LocalFound {
     pub number: usize,

@@ -1,15 +1,20 @@
-// The scopes of all nodes of a tree, from the last to the first: each from that of the node that it is a part of.
-ghost use Rattle.std.specs.Prelude.{◌≡◌, ℕ, ◌+◌, ◌≤◌, ◌<◌, [], length, slice_get, slice_index_or, Some, IfOk, IfSome, IfNone, OnOk};
+// The scopes of all nodes of a tree, from the last to the first: each from that of its parent.
+ghost use Rattle.std.specs.Prelude.{◌≡◌, ℕ, ◌+◌, ◌≤◌, ◌<◌, List, [], length, slice_get, slice_index_or, Some, IfOk, IfSome, IfNone, OnOk};
 ghost use Rattle.kr_ast.specs.Arena.{IsArena};
+ghost use Rattle.kr_types_scopes.specs.declared.within.Binding.{Binding};
 ghost use Rattle.kr_types_scopes.specs.Settings.{IsChain};
+ghost use Rattle.kr_types_scopes.specs.Newest.{IsStart, MayBegin};
 ghost use Rattle.kr_types_scopes.specs.Scoped.{nowhere, AreScopes, IsPlaced};
 ghost use Rattle.kr_types_scopes.specs.Lookups.{IsLocalAt, IsNoLocalAt};
 
 use crate::hand::hand_on;
 use crate::lookup::{LocalFound, find_local};
+use crate::node_scopes::NodeScopes;
+use crate::starts::{own_name, starts_of};
 use crate::stay::stays;
 use crate::tasks::Tasks;
-use crate::{Binding, Within, WithinList};
+use crate::within::{Binding, Within};
+use crate::within_list::WithinList;
 use kr_ast::Tree;
 use kr_base::NoMemory;
 use std::alloc::Global;
@@ -18,10 +23,10 @@ use std::alloc::Global;
 #[derive(Drop)]
 pub struct Scopes {
     pub bindings: Vec<Binding>,
-    pub within: WithinList,
+    pub within: NodeScopes,
 }
 
-/// Gives a node that is a part its scope, from that of the node above it.
+/// Sets the scope of a part, from that of its parent.
 fn add_scope(
     tree: &Tree,
     within: &mut WithinList,
@@ -60,6 +65,23 @@ fn add_scope(
     within.put(at, here)
 }
 
+/// The place below which the search for a name begins where a node is: its own name has no local above its start.
+fn search_top(tree: &Tree, here: Within, node: u32, name: &[u8]) -> usize
+    requires { node < length tree.now.entries }
+    ensures { (bs : List Binding) → here.top ≤ length bs → IsStart tree.now bs here.top node here.start → MayBegin tree.now bs here.top name.now result }
+{
+    match own_name(tree, node) {
+        None => here.top,
+        Some(own) => {
+            if own == name {
+                here.start as usize
+            } else {
+                here.top
+            }
+        }
+    }
+}
+
 impl Scopes {
     /// The scopes of a tree's nodes.
     pub fn of(alloc: Global, tree: &Tree) -> Result<Scopes, NoMemory>
@@ -67,13 +89,15 @@ impl Scopes {
     {
         let nodes = tree.nodes();
         let mut within = WithinList::outside(alloc, nodes as usize)?;
-        let mut bindings = Vec::with_capacity(alloc, nodes as usize)?;
+        let mut bindings = Vec::new(alloc);
         let mut tasks = Tasks::new(alloc);
         let mut at = nodes - 1;
         while at > 0 {
             at -= 1;
             add_scope(tree, &mut within, &mut bindings, &mut tasks, at)?;
         }
+        let starts = starts_of(alloc, tree, &bindings, &within)?;
+        let within = NodeScopes::new(within, starts);
         Ok(Scopes { bindings, within })
     }
 
@@ -85,7 +109,7 @@ impl Scopes {
         self.within.at(node)
     }
 
-    /// The local or parameter that a name means where a node of the tree stands.
+    /// The local or parameter that a name means at a node of the tree.
     pub fn local(&self, tree: &Tree, node: u32, name: &[u8]) -> Option<LocalFound>
         requires scopes { AreScopes tree.now self.now.bindings.items self.now.within.items }
         requires within { node < length tree.now.entries }
@@ -93,6 +117,7 @@ impl Scopes {
         ensures none { IfNone result (IsNoLocalAt tree.now self.now.bindings.items self.now.within.items node name.now) }
     {
         let here = self.at(node);
-        find_local(tree, &self.bindings, here.top, name)
+        let top = search_top(tree, here, node, name);
+        find_local(tree, &self.bindings, top, name)
     }
 }

@@ -1,4 +1,4 @@
-// Parts that have the scope of the node that they are parts of.
+// Parts with the same scope as their parent.
 ghost use Rattle.std.specs.Prelude.{◌≡◌, ◌<◌, ℕ, IsTrue, List, length};
 ghost use Rattle.kr_ast.specs.Arena.{tree_in};
 ghost use Rattle.kr_types_meaning.specs.Handing.{handed};
@@ -12,7 +12,7 @@ use crate::Role;
 use crate::change::{Change, first_change, rest_change};
 use kr_ast::{Node, Tree};
 
-/// Whether a change leaves a scope with this role as it is.
+/// Whether a change leaves a scope with this role unchanged.
 #[inline(always)]
 fn changes_nothing(change: Change, role: Role) -> bool
     ensures { (g : Setting) (at : ℕ) (bs : List Binding) (w : Kept) → w.role ≡ role → IsTrue result → changed g at (scope_in g bs w) change ≡ scope_in g bs w }
@@ -27,7 +27,7 @@ fn changes_nothing(change: Change, role: Role) -> bool
     }
 }
 
-/// Whether a part of a node that brings no local into scope has the node's scope, which has this role.
+/// Whether a part of a node that declares no local has the node's scope, which has this role.
 #[inline(always)]
 fn stays_plainly(node: Node, position: u8, role: Role) -> bool
     ensures { IsTrue result → StaysPlainly node position role }
@@ -39,7 +39,7 @@ fn stays_plainly(node: Node, position: u8, role: Role) -> bool
     }
 }
 
-/// Whether the scope behind a node is that before it.
+/// Whether a node leaves the scope unchanged.
 #[inline(always)]
 fn leaves_scope(node: Node) -> bool
     ensures { IsTrue result → Leaves node }
@@ -54,7 +54,7 @@ fn leaves_scope(node: Node) -> bool
     }
 }
 
-/// Whether a part has the scope of the node that it is a part of, which has this role. Where it doesn't say so, it may have.
+/// Whether a part has the scope of its parent, which has this role. It may have even if the answer is no.
 #[inline(always)]
 pub(crate) fn stays(tree: &Tree, role: Role, node: u32, position: u8) -> bool
     requires { node < length tree.now.entries }

@@ -1,4 +1,4 @@
-// What is still to be passed on the way to the scope behind a node.
+// The pending work on the way to the scope after a node.
 ghost use Rattle.std.specs.Prelude.{◌≡◌, ◌∷◌, [], OnOk, MatchOption};
 
 use kr_base::NoMemory;
@@ -28,7 +28,7 @@ impl Model for Tasks {
 }
 
 impl Tasks {
-    /// No tasks. It takes no memory.
+    /// Allocates nothing.
     pub fn new(alloc: Global) -> Self
         ensures { result ≡ [] }
     {

@@ -1,10 +1,10 @@
-// What is kept of a scope.
+// The representation of a scope.
 ghost use Rattle.std.specs.Prelude.{◌≡◌, None, Some};
 ghost use Rattle.kr_types_scopes.specs.Scoped.{nowhere};
 
 use kr_ast::Name;
 
-/// Whether a node stands in code, or in a contract of one kind.
+/// Whether a node is in code, or in a contract of one kind.
 #[derive(Clone, Copy, PartialEq, Eq)]
 pub enum Part {
     Code,
@@ -12,7 +12,7 @@ pub enum Part {
     Ensuring,
 }
 
-/// What an expression stands for: a value, a statement, or the operand of a unary minus.
+/// The role of an expression: a value, a statement, or the operand of a unary minus.
 #[derive(Clone, Copy, PartialEq, Eq)]
 pub enum Role {
     AsValue,
@@ -20,7 +20,7 @@ pub enum Role {
     UnderMinus,
 }
 
-/// What a declarator declares; of constants whether they are `final`.
+/// The kind of item that a declarator declares; for constants, whether they are `final`.
 #[derive(Clone, Copy, PartialEq, Eq)]
 pub enum Declaring {
     Locals,
@@ -38,14 +38,16 @@ pub struct Binding {
 }
 
 /// A scope: the node of the class, whether the code is static, the node of the method's result type, the bindings in
-/// scope by their top, and what the typing rules ask of a node's surroundings. Fields lie in memory in this order: the wide
-/// ones stand first, which saves room and time.
+/// A scope: the node of the class, whether the code is static, the node of the method's result type, the bindings in
+/// scope by their top, and the context that the typing rules need; and where the search for the node's own name begins.
+/// Fields are laid out in this order: wide ones first, which saves memory and time.
 #[derive(Clone, Copy)]
 pub struct Within {
     pub top: usize,
     pub class: Option<u32>,
     pub result: Option<u32>,
     pub declared: Option<u32>,
+    pub start: u32,
     pub is_static: bool,
     pub is_in_loop: bool,
     pub part: Part,
@@ -70,6 +72,7 @@ impl Within {
             role: Role::AsValue,
             declaring: Declaring::Fields,
             declared: None,
+            start: 0,
         }
     }
 

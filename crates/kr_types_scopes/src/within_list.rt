@@ -1,4 +1,4 @@
-// The scopes of a tree's nodes, in few bytes each: most nodes have the scope of the node that they are a part of.
+// The scopes of a tree's nodes, compactly: most nodes have the scope of their parent.
 ghost use Rattle.std.specs.Prelude.{◌≡◌, ◌<◌, IfOk, OnOk, length, replicate, set, slice_index_or};
 ghost use Rattle.kr_types_scopes.specs.Scoped.{nowhere};
 
@@ -7,7 +7,8 @@ use kr_base::NoMemory;
 use std::alloc::Global;
 use std::marker::Model;
 
-/// The scopes of nodes: those that were made, and for each node the number of its own. Contracts see the list of the nodes'.
+/// The scopes of nodes: the distinct ones, and for each node the number of its own. Contracts see the list of the
+/// nodes' scopes.
 #[derive(Drop)]
 pub struct WithinList {
     made: Vec<Within>,
@@ -26,12 +27,12 @@ impl Model for WithinList {
 }
 
 impl WithinList {
-    /// The scope outside of classes, for so many nodes.
+    /// The scope outside classes, for each of `nodes` nodes.
     pub(crate) fn outside(alloc: Global, nodes: usize) -> Result<WithinList, NoMemory>
         ensures { IfOk result (λ l. l.items ≡ replicate nodes nowhere) }
     {
         let numbers = vec![in alloc; 0; nodes]?;
-        let mut made = Vec::with_capacity(alloc, nodes)?;
+        let mut made = Vec::new(alloc);
         made.push(Within::outside())?;
         Ok(WithinList { made, numbers })
     }
@@ -51,7 +52,7 @@ impl WithinList {
         self.made[self.numbers[node as usize] as usize]
     }
 
-    /// Gives a node the scope of another.
+    /// Sets a node's scope to that of another.
     pub(crate) fn copy(&mut self, node: u32, from: u32)
         requires node { node < length self.old.items }
         requires from { from < length self.old.items }
@@ -60,7 +61,7 @@ impl WithinList {
         self.numbers[node as usize] = self.numbers[from as usize];
     }
 
-    /// Gives a node a scope of its own.
+    /// Sets a node's scope to a new one.
     pub(crate) fn put(&mut self, node: u32, here: Within) -> Result<(), NoMemory>
         requires { node < length self.old.items }
         ensures { OnOk result (self.new.items ≡ set self.old.items node here) }

@@ -28,7 +28,7 @@ maybe_same f g h (Value t) = h (Some t)
 maybe_same f g h (Variable t) = h (Some t)
 maybe_same f g h (Values ts) = h None
 
--- it may be said with what is equal
+-- equal premises give equal verdicts
 pub said_likewise : (t : Table) (o : Option (Option JavaType)) (v : Judgement) (d e : Declaring) (x y : JavaType) (new old has had : Bool) → v ≡ with_maybe (declares t d x new has) o → d ≡ e → x ≡ y → new ≡ old → has ≡ had → v ≡ with_maybe (declares t e y old had) o
 said_likewise t o v d e x y new old has had said a b f g =
     said

@@ -2,7 +2,7 @@
 use Rattle.std.specs.Prelude.{ℕ, Option, Some, None, option_map}
 use Rattle.kr_classes_table.specs.Types.{JavaType}
 use Rattle.kr_types_meaning.specs.Rules as rules
-use Rattle.kr_classes_types.specs.Types.{TypeList, type_at}
+use Rattle.kr_classes_names.specs.Types.{TypeList, type_at}
 
 -- it is looked at where the part is absent or has a type
 abbrev pub with_maybe : (Option JavaType → rules.Judgement) → Option (Option JavaType) → rules.Judgement

@@ -1,4 +1,4 @@
-// Classes and constructors: what is kept of a node where the superclass's constructor is called without a word.
+// The notes of classes and constructors with an implicit call of the superclass's constructor.
 ghost use Rattle.std.specs.Prelude.{◌≡◌, ℕ};
 ghost use Rattle.kr_classes_table.specs.Rules.{sooner};
 ghost use Rattle.kr_types_meaning.specs.Rules as rules;
@@ -31,7 +31,7 @@ fn class_named(trees: &[Tree], heads: &Heads, name: &[u8]) -> ClassId
     }
 }
 
-/// What T34 says of a class: only one without a constructor calls that of its superclass without a word.
+/// The verdict of T34 on a class: only one without a constructor calls that of its superclass implicitly.
 fn class_verdict(classes: &ClassTypes<'_>, class: ClassId) -> Judgement
     requires classes { AreClassTypes classes.now }
     ensures within { IsVerdictWithin classes.now.types.now result }
@@ -43,7 +43,7 @@ fn class_verdict(classes: &ClassTypes<'_>, class: ClassId) -> Judgement
     Judgement::fine()
 }
 
-/// A class, from what is kept of its members (Java Language Specification 8.8.9).
+/// A class, from the notes of its members (Java Language Specification 8.8.9).
 pub fn class_note(
     classes: &ClassTypes<'_>,
     heads: &Heads,
@@ -62,7 +62,7 @@ pub fn class_note(
     conclude(place, verdict, x.least)
 }
 
-/// What T34 says of a constructor of a class, by whether the call of the superclass's constructor is absent.
+/// The verdict of T34 on a constructor of a class, by whether the call of the superclass's constructor is absent.
 fn constructor_verdict(classes: &ClassTypes<'_>, class: ClassId, call: Note) -> Judgement
     requires classes { AreClassTypes classes.now }
     ensures within { IsVerdictWithin classes.now.types.now result }

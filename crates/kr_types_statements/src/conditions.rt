@@ -1,4 +1,4 @@
-// Statements with a condition: what is kept of a node, from what is kept of its parts.
+// The notes of statements with a condition, from those of their parts.
 ghost use Rattle.std.specs.Prelude.{◌≡◌, ℕ};
 ghost use Rattle.kr_classes_table.specs.Rules.{sooner};
 ghost use Rattle.kr_types_meaning.specs.Rules as rules;
@@ -6,7 +6,7 @@ ghost use Rattle.kr_types_meaning.specs.Noting.{test};
 ghost use Rattle.kr_types_judging.specs.Shown.{HasNoRest, IsNoteWithin, note_shown};
 
 use kr_base::Place;
-use kr_classes_types::Types;
+use kr_classes_names::Types;
 use kr_types_expressions::condition_note;
 use kr_types_judging::{Note, earlier};
 

@@ -1,4 +1,4 @@
-// Declared names: what is kept of a declarator and of a parameter.
+// The notes of declarators and parameters.
 ghost use Rattle.std.specs.Prelude.{◌≡◌, ◌<◌, ℕ, List, Option, IfSome, length, option_map, is_some};
 ghost use Rattle.kr_ast.specs.Arena.{Arena};
 ghost use Rattle.kr_classes_table.specs.Constants.{Known, value_at};
@@ -10,7 +10,7 @@ ghost use Rattle.kr_types_scopes.specs.Scoped.{AreScopes, scope_at};
 ghost use Rattle.kr_ast.specs.Files.{file_at};
 ghost use Rattle.kr_classes_members.specs.Shown.{table_in};
 ghost use Rattle.kr_classes_members.specs.Kept.{AreMembers};
-ghost use Rattle.kr_classes_types.specs.Types.{count, type_at};
+ghost use Rattle.kr_classes_names.specs.Types.{count, type_at};
 ghost use Rattle.kr_classes_constants.specs.Kept.{AreValues};
 ghost use Rattle.kr_types_judging.specs.Classes.{AreClassTypes};
 ghost use Rattle.kr_types_judging.specs.Shown.{HasNoRest, IsNoteWithin, IsVerdictWithin, note_shown, verdict_shown};
@@ -23,8 +23,8 @@ use kr_ast::{Tree, tree_of};
 use kr_base::Place;
 use kr_classes_constants::Values;
 use kr_classes_members::Members;
+use kr_classes_names::Types;
 use kr_classes_table::TypeId;
-use kr_classes_types::Types;
 use kr_types_judging::{
     ClassTypes, Judgement, Note, TypingRule, conclude, constant_initial_rule, field_initial_rule,
     local_rule, type_of_node,
@@ -42,7 +42,8 @@ fn is_new(trees: &[Tree], scopes: &Scopes, file: u32, node: u32, name: &[u8]) ->
     scopes.local(tree, node, name).is_none()
 }
 
-/// What T4, T29 and T35 to T37 say of a declared name, by what it declares and whether its constant has a value.
+/// The verdict of T4, T29 and T35 to T37 on a declared name, by the kind of declaration and whether its constant has a
+/// value.
 fn declared_rule(
     types: &Types,
     members: &Members,
@@ -66,7 +67,7 @@ fn declared_rule(
     }
 }
 
-/// What they say where the initial value is absent or has a type.
+/// Their verdict, if the initial value is absent or has a type.
 fn declarator_verdict(
     types: &Types,
     members: &Members,
@@ -133,7 +134,7 @@ pub fn declarator_note(
     conclude(place, verdict, x.least)
 }
 
-/// A parameter, from what is kept of its type (Java Language Specification 8.4.1).
+/// A parameter, from the note of its type (Java Language Specification 8.4.1).
 pub fn parameter_note(
     trees: &[Tree],
     types: &Types,

@@ -1,4 +1,4 @@
-//! Types, writes, statements and declarations: what is kept of a node, from what is kept of its parts.
+//! The notes of types, assignments, statements and declarations, from those of their parts.
 #![tactic(auto)]
 
 mod classes;

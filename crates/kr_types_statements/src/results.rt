@@ -1,4 +1,4 @@
-// Results of methods: what is kept of `return` and of `\result`.
+// The notes of `return` and `\result`.
 ghost use Rattle.std.specs.Prelude.{◌≡◌, ◌<◌, ℕ, List, IfSome};
 ghost use Rattle.kr_ast.specs.Arena.{Arena};
 ghost use Rattle.kr_types_meaning.specs.Rules as rules;
@@ -8,8 +8,8 @@ ghost use Rattle.kr_types_scopes.specs.declared.within.Binding.{Binding};
 ghost use Rattle.kr_ast.specs.Files.{file_at};
 ghost use Rattle.kr_classes_members.specs.Shown.{table_in};
 ghost use Rattle.kr_classes_members.specs.Kept.{AreMembers};
-ghost use Rattle.kr_classes_types.specs.Types.{count, type_at};
-ghost use Rattle.kr_classes_types.specs.Numbers.{AreNodeTypes};
+ghost use Rattle.kr_classes_names.specs.Types.{count, type_at};
+ghost use Rattle.kr_classes_names.specs.Numbers.{AreNodeTypes};
 ghost use Rattle.kr_types_judging.specs.Classes.{AreClassTypes};
 ghost use Rattle.kr_types_judging.specs.Shown.{HasNoRest, IsNoteWithin, IsVerdictWithin, note_shown, verdict_shown};
 ghost use Rattle.kr_types_expressions.specs.Links.{IsLinked};
@@ -18,8 +18,8 @@ ghost use Rattle.kr_types_statements.specs.Maybe.{types_in, with_maybe};
 use crate::parts::maybe_type;
 use kr_base::Place;
 use kr_classes_members::Members;
+use kr_classes_names::Types;
 use kr_classes_table::TypeId;
-use kr_classes_types::Types;
 use kr_types_judging::{
     ClassTypes, Judgement, Note, conclude, result_value_rule, return_rule, type_of_node,
 };
@@ -43,7 +43,7 @@ pub fn result_note(classes: &ClassTypes<'_>, file: u32, here: Within, place: Pla
     conclude(place, verdict, None)
 }
 
-/// What T30 says where the value is absent or has a type.
+/// The verdict of T30, if the value is absent or has a type.
 fn return_verdict(
     types: &Types,
     members: &Members,

@@ -1,4 +1,4 @@
-// Types as they are written: what is kept of their nodes.
+// The notes of types as written.
 ghost use Rattle.std.specs.Prelude.{◌≡◌, ◌<◌, ℕ, IfOk, IfSome, option_map};
 ghost use Rattle.kr_ast.specs.Arena.{tree_in};
 ghost use Rattle.kr_classes_table.specs.Table.{applied};
@@ -7,15 +7,15 @@ ghost use Rattle.kr_types_meaning.specs.Scopes.{Scope, written};
 ghost use Rattle.kr_types_meaning.specs.Noting.{leaf, one};
 ghost use Rattle.kr_ast.specs.Files.{file_at};
 ghost use Rattle.kr_classes_members.specs.Shown.{table_in};
-ghost use Rattle.kr_classes_types.specs.Types.{Extends, count, type_at};
-ghost use Rattle.kr_classes_types.specs.Numbers.{AreNodeTypes};
+ghost use Rattle.kr_classes_names.specs.Types.{Extends, count, type_at};
+ghost use Rattle.kr_classes_names.specs.Numbers.{AreNodeTypes};
 ghost use Rattle.kr_types_judging.specs.Shown.{HasNoRest, IsNoteWithin, IsVerdictWithin, note_shown, verdict_shown};
 ghost use Rattle.kr_types_expressions.specs.Parts.{with_one};
 
 use kr_ast::Tree;
 use kr_base::{NoMemory, Place};
+use kr_classes_names::{NodeTypes, TypeForm, Types};
 use kr_classes_table::TypeId;
-use kr_classes_types::{NodeTypes, TypeForm, Types};
 use kr_types_expressions::part_type;
 use kr_types_judging::{Judgement, Note, conclude, diamond_rule, type_of_node, type_rule};
 
@@ -57,7 +57,7 @@ pub fn diamond_type_note(
     conclude(place, verdict, None)
 }
 
-/// What T1 says of a head with an argument that has a type.
+/// The verdict of T1 on a head with an argument that has a type.
 fn generic_verdict(
     types: &mut Types,
     head: TypeId,
@@ -100,7 +100,7 @@ pub fn generic_type_note(
     Ok(conclude(place, verdict, x.least))
 }
 
-/// What is said of an array whose elements have a type.
+/// The verdict on an array whose elements have a type.
 fn array_verdict(types: &mut Types, a: Option<TypeId>) -> Result<Judgement, NoMemory>
     requires { IfSome a (λ t. t < count types.old) }
     ensures extends { Extends types.old types.new }

@@ -1,4 +1,4 @@
-// Writes: what is kept of a node, from what is kept of its target and its value.
+// The notes of assignments, from those of target and value.
 ghost use Rattle.std.specs.Prelude.{◌≡◌, ◌<◌, ℕ, List, IfSome, option_map};
 ghost use Rattle.kr_ast.specs.Arena.{Arena};
 ghost use Rattle.kr_types_meaning.specs.Rules as rules;
@@ -7,22 +7,22 @@ ghost use Rattle.kr_types_scopes.specs.Settings.{Setting, scope_in};
 ghost use Rattle.kr_types_scopes.specs.declared.within.Binding.{Binding};
 ghost use Rattle.kr_classes_members.specs.Shown.{table_in};
 ghost use Rattle.kr_classes_members.specs.Kept.{AreMembers};
-ghost use Rattle.kr_classes_types.specs.Types.{TypeList, count, type_at};
+ghost use Rattle.kr_classes_names.specs.Types.{TypeList, count, type_at};
 ghost use Rattle.kr_types_judging.specs.Shown.{HasNoRest, IsNoteWithin, IsVerdictWithin, known_shown, note_shown, typed_shown, verdict_shown};
 ghost use Rattle.kr_types_expressions.specs.Parts.{with_one, with_two};
 
 use kr_ast::BinaryOperator;
 use kr_base::Place;
 use kr_classes_members::Members;
+use kr_classes_names::Types;
 use kr_classes_table::TypeId;
-use kr_classes_types::Types;
 use kr_types_expressions::part_type;
 use kr_types_judging::{
     Judgement, Known, Note, Typed, assignment_rule, compound_rule, conclude, earlier, step_rule,
 };
 use kr_types_scopes::Within;
 
-/// What is known of an expression that is written; a list is no variable.
+/// The facts known of an expression that is assigned to; a list is no variable.
 fn target_of(known: Known) -> Typed
     ensures { (l : TypeList) (look : ℕ → rules.Typed) → rules.is_variable (typed_shown l result) ≡ rules.is_variable (known_shown l look known) }
 {
@@ -33,7 +33,7 @@ fn target_of(known: Known) -> Typed
     }
 }
 
-/// What T18, T19 and T39 say where the target has a type.
+/// The verdict of T18, T19 and T39, if the target has a type.
 fn step_verdict(
     types: &Types,
     members: &Members,
@@ -63,7 +63,7 @@ pub fn step_note(types: &Types, members: &Members, here: Within, place: Place, x
     conclude(place, verdict, x.least)
 }
 
-/// What T16, T19 and T39 say where both sides have types.
+/// The verdict of T16, T19 and T39, if both sides have types.
 fn assignment_verdict(
     types: &Types,
     members: &Members,
@@ -105,7 +105,7 @@ pub fn assignment_note(
     conclude(place, verdict, earlier(x.least, y.least))
 }
 
-/// What T17, T19 and T39 say where both sides have types.
+/// The verdict of T17, T19 and T39, if both sides have types.
 fn compound_verdict(
     types: &Types,
     members: &Members,

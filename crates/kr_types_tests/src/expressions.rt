@@ -2,8 +2,8 @@
 ghost use Rattle.std.specs.Prelude.{◌≡◌, ◌<◌, length, IfOk};
 ghost use Rattle.kr_classes_members.specs.Kept.{AreMembers};
 ghost use Rattle.kr_classes_names.specs.Shown.{AreHeads};
-ghost use Rattle.kr_classes_types.specs.Types.{TypeList, count};
-ghost use Rattle.kr_classes_types.specs.Numbers.{AreNodeTypes};
+ghost use Rattle.kr_classes_names.specs.Types.{TypeList, count};
+ghost use Rattle.kr_classes_names.specs.Numbers.{AreNodeTypes};
 ghost use Rattle.kr_types_judging.specs.Classes.{AreClassTypes};
 ghost use Rattle.kr_types_judging.specs.Shown.{HasNoRest, IsKnownWithin, IsNoteWithin};
 ghost use Rattle.kr_types_expressions.specs.Notes.{AreNotesWithin, IsRestBelow};
@@ -11,8 +11,7 @@ ghost use Rattle.kr_types_expressions.specs.Notes.{AreNotesWithin, IsRestBelow};
 use kr_ast::Tree;
 use kr_base::{NoMemory, Place};
 use kr_classes_members::Members;
-use kr_classes_names::Heads;
-use kr_classes_types::{NodeTypes, TypeForm, Types};
+use kr_classes_names::{Heads, NodeTypes, TypeForm, Types};
 use kr_types_expressions::{
     NoteList, absent_note, array_creation_note, call_note, constructor_call_note, creation_note,
     list_note, method_call_note, super_call_note, this_note, value_types,
@@ -45,7 +44,7 @@ fn broken(note: Note) -> u32 {
     }
 }
 
-/// A note that stands there.
+/// A note without a fault.
 fn standing(types: &Types, notes: &NoteList, at: u32) -> Note
     requires notes { AreNotesWithin types.now notes.now }
     requires at { at < length notes.now }
@@ -109,7 +108,7 @@ fn broken_calls(
     Ok((broken(call), broken(above)))
 }
 
-/// The rules that creations and a call through an object break, where the object and what is created have the type of `null`.
+/// The rules that creations and a call through an object break, if the object and the created type are `null`'s.
 fn broken_creations(
     alloc: Global,
     classes: &ClassTypes<'_>,

@@ -1,4 +1,4 @@
-// Two small files, and what each layer says of them.
+// Two small files, and each layer's answers.
 ghost use Rattle.std.specs.Prelude.{◌≡◌, ◌<◌, IfOk, length};
 ghost use Rattle.kr_classes_members.specs.Kept.{AreMembers};
 ghost use Rattle.kr_classes_names.specs.Shown.{AreHeads};
@@ -11,7 +11,7 @@ use kr_classes_names::Heads;
 use kr_sources::{Unread, tree_of};
 use std::alloc::Global;
 
-/// What is looked at.
+/// A layer to test.
 #[derive(Clone, Copy)]
 enum Layer {
     Names,

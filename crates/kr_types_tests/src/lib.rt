@@ -1,6 +1,6 @@
-//! Tests of the class table and of typing, layer by layer: small sources, and what each layer says of their trees.
-//! What a test looks at is borrowed by small functions that answer whether it is as it should be: a step that may fail
-//! while trees or tables are owned makes a proof long.
+//! Tests of the class table and of typing, layer by layer: small sources, and each layer's answers on their trees. Small
+//! functions borrow the values under test and answer whether they are as expected: a step that may fail while trees or tables
+//! are owned makes a proof long.
 #![tactic(auto)]
 
 #[cfg(test)]

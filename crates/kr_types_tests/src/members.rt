@@ -4,7 +4,7 @@ use kr_base::NoMemory;
 use kr_classes_members::{Field, Members};
 use std::alloc::Global;
 
-/// The fields are those of the two classes, each in the same column.
+/// The fields are those of the two classes, in the expected columns.
 fn fields_fit(fields: &[Field]) -> bool {
     match fields {
         [first, second] => {
@@ -14,7 +14,7 @@ fn fields_fit(fields: &[Field]) -> bool {
     }
 }
 
-/// What the names `first` and `second` mean there.
+/// The meaning of the names `first` and `second` there.
 fn names_fit(members: &Members) -> bool {
     match members.field_meant(1, b"first") {
         None => false,

@@ -1,8 +1,7 @@
 // Members of two classes by number.
 
 use kr_base::NoMemory;
-use kr_classes_members::Members;
-use kr_classes_roster::Roster;
+use kr_classes_members::{Members, Roster};
 use std::alloc::Global;
 
 fn numbers_fit(roster: &Roster, members: &Members) -> bool {

@@ -24,7 +24,7 @@ fn is_int(tree: &Tree, node: Option<u32>) -> bool {
     }
 }
 
-/// Whether `x` is the first local where a node stands, with the type `int`, and `y` is none.
+/// Whether `x` is the first local at a node, with the type `int`, and `y` is none.
 fn has_local(tree: &Tree, scopes: &Scopes, node: u32) -> bool
     requires scopes { AreScopes tree.now scopes.now.bindings.items scopes.now.within.items }
     requires within { node < length tree.now.entries }
@@ -39,7 +39,7 @@ fn has_local(tree: &Tree, scopes: &Scopes, node: u32) -> bool
     }
 }
 
-/// The declared type where a node stands, if there is one.
+/// The declared type at a node, if there is one.
 fn declared_at(scopes: &Scopes, node: u32) -> Option<u32> {
     if (node as usize) < scopes.within.len() {
         scopes.at(node).declared
@@ -48,7 +48,7 @@ fn declared_at(scopes: &Scopes, node: u32) -> Option<u32> {
     }
 }
 
-/// Whether no local is in scope where a node stands.
+/// Whether no local is in scope at a node.
 fn has_no_locals(scopes: &Scopes, node: u32) -> bool {
     (node as usize) < scopes.within.len() && scopes.at(node).top == 0
 }

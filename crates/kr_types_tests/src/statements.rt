@@ -1,14 +1,13 @@
 // Types that are made of others: an array, and a set of arrays.
 ghost use Rattle.std.specs.Prelude.{◌<◌, IfSome, length};
 ghost use Rattle.kr_classes_names.specs.Shown.{AreHeads};
-ghost use Rattle.kr_classes_types.specs.Types.{TypeList, count};
-ghost use Rattle.kr_classes_types.specs.Numbers.{AreNodeTypes};
+ghost use Rattle.kr_classes_names.specs.Types.{TypeList, count};
+ghost use Rattle.kr_classes_names.specs.Numbers.{AreNodeTypes};
 ghost use Rattle.kr_types_judging.specs.Shown.{IsNoteWithin};
 
 use kr_ast::{Node, Tree};
 use kr_base::{NoMemory, Place};
-use kr_classes_names::Heads;
-use kr_classes_types::{NodeTypes, TypeForm, Types};
+use kr_classes_names::{Heads, NodeTypes, TypeForm, Types};
 use kr_types_judging::{Known, Note, Typed};
 use kr_types_statements::{array_type_note, generic_type_note};
 use std::alloc::Global;
@@ -19,7 +18,7 @@ const PLACE: Place = Place {
     col: 1,
 };
 
-/// What is kept of a node with a value of a type.
+/// The note of a node with a value of a type.
 fn value(number: u32) -> Note
     ensures { (l : TypeList) → number < count l → IsNoteWithin l result }
 {

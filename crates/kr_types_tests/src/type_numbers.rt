@@ -4,8 +4,7 @@ ghost use Rattle.kr_classes_names.specs.Shown.{AreHeads};
 
 use kr_ast::Tree;
 use kr_base::NoMemory;
-use kr_classes_names::Heads;
-use kr_classes_types::{NodeTypes, TypeForm, Types};
+use kr_classes_names::{Heads, NodeTypes, TypeForm, Types};
 use std::alloc::Global;
 
 /// Whether a node of the first file names the type of a number.
@@ -49,7 +48,7 @@ pub fn fit(alloc: Global, trees: &[Tree], heads: &Heads) -> Result<bool, NoMemor
     read_fit(alloc, trees, heads, &mut types)
 }
 
-/// A set of arrays is known, and an array type is the same as itself.
+/// A set of arrays is known, and an array type equals itself.
 fn sets_fit(alloc: Global, types: &mut Types) -> Result<bool, NoMemory> {
     let element = types.int();
     let array = types.number(TypeForm::Array(element))?;

@@ -15,7 +15,7 @@ fn column(col: u32) -> Place {
     }
 }
 
-/// How many nodes stand at the initial value, each of them an int.
+/// How many nodes at the initial value are an int.
 fn ints_at_value(program: &Program) -> u32
     requires program { IsProgram program.now }
     requires alone { length program.now.trees.items ≡ 1 }

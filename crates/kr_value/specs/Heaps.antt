@@ -8,8 +8,8 @@ use Rattle.kr_value.specs.declared.object.Class.TheVariants.{Object, Array}
 use Rattle.kr_value.specs.declared.object.Spot.{Spot}
 use Rattle.kr_value.specs.declared.object.Spot.TheVariants.{Field, Length, Element}
 
--- An object: what it is of and its values. These are an object's fields, an array's elements, a collection's members in
--- the order in which they were added.
+-- An object: its class and its values, which are the fields, an array's elements, or a collection's members in the
+-- order in which they were added.
 pub record HeapObject : Type 0 where
   pub class : Class
   pub values : List Value
@@ -24,7 +24,7 @@ no_object = record { class = Object 0; values = [] }
 abbrev pub object_in : Heap → ℕ → HeapObject
 object_in heap o = get_or heap o no_object
 
--- whether an object has a value at a spot: an object of a class at its fields, an array at its length and its elements
+-- whether an object has a spot: fields for an object of a class, length and elements for an array
 abbrev pub has_spot_of : Class → ℕ → Spot → Bool
 has_spot_of (Object c) n (Field f) = nat_lt f n
 has_spot_of (Array t) n Length = true
@@ -34,7 +34,7 @@ has_spot_of class n spot = false
 abbrev pub has_spot : HeapObject → Spot → Bool
 has_spot object spot = has_spot_of object.class (length object.values) spot
 
--- what an object has at a spot that it has
+-- the value at a spot that the object has
 abbrev pub value_of_spot : HeapObject → Spot → Value
 value_of_spot object (Field f) = get_or object.values f Null
 value_of_spot object Length = Int (pos (length object.values))

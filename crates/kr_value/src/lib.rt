@@ -1,5 +1,5 @@
-//! What a run of the tested program works on: values, and the objects of a heap, which have a class and, at their spots,
-//! values. This crate has the types and what they mean; each object goes by its number in the heap.
+//! The values and objects of a run of the tested program. An object has a class and, at its spots, values; it is known
+//! by its number in the heap.
 #![tactic(auto)]
 
 mod object;

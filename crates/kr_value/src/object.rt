@@ -1,7 +1,7 @@
-// What objects are of, and where they have values.
+// The classes and the spots of objects.
 
-/// What an object is of: a class by its number in the class table, an array type by its number, or one of the two
-/// collections of the library.
+/// The class of an object: a class by its number in the class table, an array type by its number, or one of the
+/// library's two collections.
 #[derive(Clone, Copy, PartialEq, Eq)]
 pub enum Class {
     Object(u32),
@@ -10,8 +10,8 @@ pub enum Class {
     List,
 }
 
-/// Where an object has a value: a field by its position in the class, those of the superclass first; an array's length;
-/// an element by its index.
+/// A place for a value in an object: a field by its position in the class, those of the superclass first; an array's
+/// length; an element by its index.
 #[derive(Clone, Copy, PartialEq, Eq)]
 pub enum Spot {
     Field(u32),

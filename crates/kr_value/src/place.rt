@@ -1,9 +1,10 @@
-// Where a candidate has values.
+// The places of a candidate's values.
 
 use crate::object::Spot;
 use crate::value::Obj;
 
-/// Where a candidate has a value: what `this` is, a parameter of the method under test, or a spot of an object of the heap.
+/// A place for a value of a candidate: `this`, a parameter of the method under test, or a spot of an object of the
+/// heap.
 #[derive(Clone, Copy, PartialEq, Eq)]
 pub enum SlotPlace {
     This,

@@ -1,6 +1,6 @@
-// What an expression gives.
+// The results of expressions.
 
-/// An object of a heap, by its number: how many were made before it.
+/// An object of a heap, by the number of objects made before it.
 pub type Obj = u32;
 
 /// A value of a primitive type, or a reference (Java Language Specification 4.2, 4.3).

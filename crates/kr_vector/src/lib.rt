@@ -1,4 +1,4 @@
-//! Slots, the places where a candidate has a value, and vectors: an index for each slot, into the slot's domain.
+//! Slots, the places for a candidate's values, and vectors: an index into its domain for each slot.
 #![tactic(auto)]
 
 mod slot;

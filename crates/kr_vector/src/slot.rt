@@ -1,4 +1,4 @@
-// Slots: the places where a candidate has a value.
+// Slots: the places for a candidate's values.
 
 /// A slot, by its number from 0.
 #[derive(Clone, Copy, PartialEq, Eq)]

@@ -21,7 +21,7 @@ impl Model for Vector {
 }
 
 impl Vector {
-    /// The vector of so many slots whose indices are all 0.
+    /// The vector of this many slots whose indices are all 0.
     pub fn zero(alloc: Global, slots: usize) -> Result<Vector, NoMemory>
         ensures { IfOk result (λ vector. vector ≡ replicate slots 0) }
     {
@@ -30,7 +30,6 @@ impl Vector {
         })
     }
 
-    /// How many slots it has.
     pub fn len(&self) -> usize
         ensures { result ≡ length self.now }
     {
@@ -46,12 +45,21 @@ impl Vector {
         self.indices[at]
     }
 
-    /// Gives a slot another index.
     pub fn set(&mut self, slot: Slot, index: u32)
         requires { slot.0 < length self.old }
         ensures { self.new ≡ slice_set self.old slot.0 index }
     {
         self.indices[slot.0 as usize] = index;
+    }
+
+    /// Becomes a copy of a vector of as many slots.
+    pub fn copy_from(&mut self, other: &Vector)
+        requires { length self.old ≡ length other.now }
+        ensures { self.new ≡ other.now }
+    {
+        self.indices
+            .as_mut_slice()
+            .copy_from_slice(other.indices.as_slice());
     }
 
     pub fn indices(&self) -> &[u32]

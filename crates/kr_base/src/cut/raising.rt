@@ -1,24 +1,11 @@
-// The cut of a mark: where a thief cuts what is left of a span.
+// Where the remainder of a span is split.
 ghost use Rattle.std.specs.Prelude.{◌≡◌, IfOk};
-ghost use Rattle.kr_base.specs.declared.span.Bound.TheVariants.{At};
-ghost use Rattle.kr_base.specs.Bounds.{less};
 ghost use Rattle.kr_base.specs.Inside.{inside_of, Adds};
 
 use crate::{Bound, Cut, NoMemory};
-use std::cmp::Ordering;
 
-/// Whether the cut of these numbers stands before a bound.
-#[tactic(auto, unfolding(crate::specs::Bounds::less))]
-fn is_front_below(front: &[u32], bound: &Bound) -> bool
-    ensures { result ≡ less (At front.now) bound.now }
-{
-    match bound {
-        Bound::End => true,
-        Bound::At(cut) => front.cmp(cut.numbers()) == Ordering::Less,
-    }
-}
-
-/// Adds a number to a front: raised by one where that stands below the bound, else as it is. Says whether it was raised.
+/// Adds a number to a front: raised by one where the result is below the bound, else as it is. Reports whether it was
+/// raised.
 fn push_raised(front: &mut Vec<u32>, number: u32, bound: &Bound) -> Result<bool, NoMemory>
     ensures { IfOk result (λ is_raised. Adds front.old.items number bound.now is_raised front.new.items) }
 {
@@ -27,7 +14,7 @@ fn push_raised(front: &mut Vec<u32>, number: u32, bound: &Bound) -> Result<bool,
         return Ok(false);
     }
     front.push(number + 1)?;
-    if is_front_below(front.as_slice(), bound) {
+    if bound.is_above_key(front.as_slice()) {
         return Ok(true);
     }
     let _ = front.pop();
@@ -36,8 +23,8 @@ fn push_raised(front: &mut Vec<u32>, number: u32, bound: &Bound) -> Result<bool,
 }
 
 impl Cut {
-    /// The cut at which the rest of a span is parted that is done up to this one and ends at a bound: the first, place
-    /// by place, of the cuts with the number there raised by one and what stands before it that is below the bound.
+    /// Where to split the remainder after this cut and up to `bound`. The candidates are the cut's prefixes, shortest
+    /// first, each with its last number raised by one; the first below the bound is taken.
     pub fn inside(&self, bound: &Bound) -> Result<Option<Cut>, NoMemory>
         ensures { IfOk result (λ cut. cut ≡ inside_of self.now bound.now) }
     {

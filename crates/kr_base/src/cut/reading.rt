@@ -1,4 +1,4 @@
-// A cut read from its text.
+// Parsing the text of a cut, byte by byte.
 ghost use Rattle.std.specs.Prelude.{◌≡◌, ◌<◌, List, ℕ, true, [], ◌∷◌, ◌++◌, take, Some, None, IfOk};
 ghost use Rattle.std.specs.Char.{is_ascii_digit};
 ghost use Rattle.kr_base.specs.Stages.{Steps};
@@ -8,13 +8,12 @@ use crate::{Cut, NoMemory};
 use std::alloc::Global;
 use thiserror::Error;
 
-/// Why a text isn't read as a cut.
 #[derive(Debug, Drop, Error)]
 pub enum CutRefusal {
-    /// The byte through which no cut's text begins, or the length of a text that ends too early.
+    /// The index of the first byte that no cut's text has there, or the length of a text that ends too early.
     #[error("no cut: byte {0}")]
     Malformed(usize),
-    /// A cut's text of this many numbers, which are too many.
+    /// The text is well formed, and has this many numbers, more than 4,096.
     #[error("a cut of {0} numbers")]
     TooLong(usize),
     #[error("out of memory")]
@@ -29,17 +28,17 @@ impl From<NoMemory> for CutRefusal {
     }
 }
 
-/// The most numbers of a cut that is read.
+/// The most numbers of a cut that is parsed.
 const MOST: usize = 4_096;
 
-/// What a byte is behind the digits of a number.
+/// The effect of the next byte, after the digits so far of a number.
 #[derive(Clone, Copy)]
 enum Step {
-    /// One more digit, and they go on to this number.
+    /// A digit; the number is now this.
     Digit(u32),
-    /// The dot behind this number.
+    /// A dot, which ends this number.
     Dot(u32),
-    /// No cut's text has it there.
+    /// No cut's text has this byte here.
     Dead,
 }
 
@@ -49,7 +48,7 @@ fn is_digit(byte: u8) -> bool
     byte.is_ascii_digit()
 }
 
-/// A byte where a number begins.
+/// The byte at the start of a number.
 fn first_byte(byte: u8) -> Step
     ensures { Steps None byte result }
 {
@@ -59,7 +58,7 @@ fn first_byte(byte: u8) -> Step
     Step::Digit(u32::from(byte - b'0'))
 }
 
-/// A digit behind those of a number.
+/// A further digit.
 fn more_digits(number: u32, byte: u8) -> Step
     requires digit { is_ascii_digit byte ≡ true }
     requires some { 0 < number }
@@ -72,7 +71,7 @@ fn more_digits(number: u32, byte: u8) -> Step
     Step::Digit(value as u32)
 }
 
-/// A byte behind the digits of a number.
+/// A byte after at least one digit.
 fn later_byte(number: u32, byte: u8) -> Step
     ensures { Steps (Some number) byte result }
 {
@@ -97,7 +96,7 @@ fn step_of(begun: Option<u32>, byte: u8) -> Step
     }
 }
 
-/// Keeps a number, where there aren't too many.
+/// Pushes a number, unless the list is full.
 fn keep(kept: &mut Vec<u32>, number: u32) -> Result<(), NoMemory>
     ensures { IfOk result (λ _. (done : List ℕ) → kept.old.items ≡ take 4096 done → kept.new.items ≡ take 4096 (done ++ number ∷ [])) }
 {
@@ -108,8 +107,8 @@ fn keep(kept: &mut Vec<u32>, number: u32) -> Result<(), NoMemory>
     Ok(())
 }
 
-/// What was read of a text: the numbers that ended, as many as are kept, how many they are, and the number whose
-/// digits may go on.
+/// The state of the parser: the first 4,096 complete numbers, the count of all of them, and the number whose digits may
+/// continue.
 #[derive(Drop)]
 struct Reading {
     kept: Vec<u32>,
@@ -122,7 +121,7 @@ impl Reading {
     ghost use Rattle.kr_base.specs.Parsing.{Parses};
     ghost use Rattle.kr_base.specs.Stages.{IsAt, Reads};
 
-    /// Reads one byte more. Says whether some cut's text goes on with it.
+    /// Consumes a byte. Reports whether some cut's text continues with it.
     fn read(&mut self, byte: u8) -> Result<bool, NoMemory>
         requires { self.old.count < 2 ^ 63 }
         ensures { IfOk result (λ goes_on. (front done : List ℕ) → IsAt front done self.old.begun self.old.kept.items self.old.count →
@@ -143,7 +142,7 @@ impl Reading {
         }
     }
 
-    /// The cut of a text that was read to its end.
+    /// The cut, at the end of the text.
     fn finish(self, end: usize) -> Result<Cut, CutRefusal>
         requires { self.count < 2 ^ 63 }
         ensures { (text done : List ℕ) → IsAt text done self.begun self.kept.items self.count → length text ≡ end → Parses text result }
@@ -167,7 +166,7 @@ impl Reading {
 impl Cut {
     ghost use Rattle.kr_base.specs.Parsing.{Parses};
 
-    /// The cut of a text: numbers below 2^32 in decimal, joined by dots, at least one and at most 4,096.
+    /// Accepts 1 to 4,096 numbers below 2^32 in decimal, without leading zeros, joined by dots.
     pub fn parse(alloc: Global, text: &str) -> Result<Cut, CutRefusal>
         ensures { Parses text.now result }
     {

@@ -1,7 +1,8 @@
 // Rows taken out, and the end.
 ghost use Rattle.std.specs.Prelude.{◌≡◌, [], true, false, length, IfOk, IfErr, IfSome, IfNone, OnOk, OnErr};
 ghost use Rattle.std.specs.List.{list_all};
-ghost use Rattle.kr_core.specs.States.{is_closed, is_cut};
+ghost use Rattle.kr_base.specs.Bounds.{is_cut};
+ghost use Rattle.kr_core.specs.States.{is_closed};
 ghost use Rattle.kr_core.specs.Steps.{Step, fits};
 ghost use Rattle.kr_board.specs.Boards.{Adds, Stays, AreNext};
 ghost use Rattle.kr_board.specs.Closing.{all_closed, front_rows, first_mark, mark_in, is_listing, IsListing, Lists, GivesListing, GivesBack, spent_key};
@@ -156,7 +157,7 @@ impl<R: Drop> Board<R> {
         }
     }
 
-    /// The same, with the log, which is moved out. It takes no memory.
+    /// The listing with the log, which is moved out. It takes no memory.
     pub fn close_with_log(self) -> Result<Logged<R>, Board<R>>
         ensures finished { OnOk result (all_closed self.core ≡ true) }
         ensures listing { IfOk result (λ closed. IsListing self closed.listing × Lists self closed.listing) }

@@ -65,7 +65,7 @@ impl<R: Drop> Board<R> {
         let _ = self.log.push(Event::GiveUp { seat, segment });
     }
 
-    // The same of the segment at a place, if it has an owner.
+    // Gives up the segment at a place, if it has an owner.
     fn release_at(&mut self, i: usize)
         requires { i < length self.old.core.segments }
         ensures { IsReleasedAt i self.old self.new }

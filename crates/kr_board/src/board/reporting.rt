@@ -11,7 +11,7 @@ use kr_base::{Bound, Cut, NoMemory};
 use kr_core::{Core, Event, Lease, Reply};
 use kr_survey::{Part, RowList};
 
-/// What a report comes to: the lease's seat doesn't own the segment; its mark is another; the part reaches above its upto,
+/// The answer to a report: the lease's seat doesn't own the segment; its mark is another; the part reaches above its upto,
 /// which the lease has then; the window is full, and lease and part are handed back; nothing is left of the segment; or it
 /// goes on under this lease. The first four change nothing but the log.
 #[derive(Drop)]
@@ -140,7 +140,7 @@ impl<R: Drop> Board<R> {
         }
     }
 
-    // The same, with two copies of the reach.
+    // Takes a part in that fits, with two copies of its reach.
     fn write_in(
         &mut self,
         lease: Lease,

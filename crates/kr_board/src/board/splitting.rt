@@ -63,7 +63,7 @@ impl<R: Drop> Board<R> {
         }
     }
 
-    // The same at a cut.
+    // The seat steals from itself at a cut.
     fn steal_own(&mut self, lease: &Lease, cut: Cut) -> Result<Lease, NoMemory>
         requires { split_of self.old.core lease.now ≡ Some cut }
         ensures event { IfOk result (λ rest. Adds self.old (Steal lease.now.seat lease.now.segment cut self.old.core.next) (Leased rest) [] self.new) }

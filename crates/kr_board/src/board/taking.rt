@@ -1,4 +1,4 @@
-// What a seat that wants work is given.
+// Leases for seats that want work.
 ghost use Rattle.std.specs.Prelude.{◌≡◌, ◌↔◌, [], None, IfOk, IfSome, IfNone, OnOk, OnErr, true, is_some, if◌then◌else◌};
 ghost use Rattle.std.specs.List.{find, list_any};
 ghost use Rattle.kr_core.specs.Steps.{fits};
@@ -11,7 +11,7 @@ use super::Board;
 use kr_base::{Bound, Cut, NoMemory};
 use kr_core::{Event, Lease, Reply, Segment};
 
-/// What a seat is given: a lease; nothing now, while others are at work; or nothing any more.
+/// The answer to a seat that wants work: a lease; nothing now, while others are at work; or nothing any more.
 #[derive(Drop)]
 pub enum Taken {
     Lease(Lease),
@@ -94,7 +94,7 @@ impl<R: Drop> Board<R> {
         }
     }
 
-    // The same, where no segment is free.
+    // Takes where no segment is free.
     fn take_rest(&mut self, seat: u32) -> Result<Taken, NoMemory>
         requires { first_free self.old.core ≡ None }
         ensures event { IfOk result (λ taken. Adds self.old (take_event seat self.old.core) (reply_of taken) [] self.new) }
@@ -134,7 +134,7 @@ impl<R: Drop> Board<R> {
         }
     }
 
-    // The lease of what is behind a cut, in a segment that may be stolen from.
+    // The lease of the rest after a cut, in a segment that may be stolen from.
     pub(super) fn steal(&mut self, seat: u32, victim: u64, cut: Cut) -> Result<Taken, NoMemory>
         requires { fits self.old.core (Event.Steal seat victim cut self.old.core.next) ≡ true }
         ensures added { IfOk result (λ taken. Adds self.old (Event.Steal seat victim cut self.old.core.next) (reply_of taken) [] self.new) }

@@ -2,8 +2,8 @@
 ghost use Rattle.std.specs.Prelude.{◌≡◌, ◌+◌, ◌↔◌, IsTrue, length};
 ghost use Rattle.std.specs.List.{sum_by};
 ghost use Rattle.kr_survey.specs.Joins.{joined};
-ghost use Rattle.kr_core.specs.States.{capped};
-ghost use Rattle.kr_board.specs.Windows.{IsFew, IsInWindow, is_open_front, is_over, passes};
+ghost use Rattle.kr_base.specs.Causes.{capped};
+ghost use Rattle.kr_board.specs.Windows.{CountsFew, IsFew, IsInWindow, is_open_front, is_over, passes};
 
 use super::Board;
 use kr_core::Segment;
@@ -57,6 +57,13 @@ impl<R: Drop> Board<R> {
     {
         let _ = &self.alloc;
         counted_rows(self.segments())
+    }
+
+    /// The segments count no more rows than the window and 256. It does nothing.
+    pub fn counts_few(&self)
+        ensures { CountsFew self.now.window self.now.core }
+    {
+        let _ = &self.alloc;
     }
 
     /// How many rows may be kept, if there is a bound.

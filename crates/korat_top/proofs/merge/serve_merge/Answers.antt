@@ -3,7 +3,7 @@ use Rattle.std.specs.Prelude.{slice_index_or}
 use Rattle.kr_args.specs.declared.forms.Command.TheVariants as commands
 use Rattle.kr_report.specs.Reports.{bytes_of, line_answer}
 use Rattle.kr_report.specs.Texts.{memory_text, read_fault_text}
-use Rattle.kr_shard_files.specs.Found.{fault_text, merged_answer}
+use Rattle.kr_shard.specs.Found.{fault_text, merged_answer}
 use Rattle.korat_top.specs.Answer.{merged}
 use Rattle.korat_top.specs.Ends.{seen}
 use Rattle.korat_top.proofs.Calls.{writes_seen, put_answer, put_read_fault, put_memory}

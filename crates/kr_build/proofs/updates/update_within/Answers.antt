@@ -1,4 +1,4 @@
-use Rattle.std.proofs.Common.{◌≡◌, ◌+◌, ◌<◌, ℕ, List, ap, sym, subst, ◌∙◌, length, arith, get_or}
+use Rattle.std.proofs.Common.{◌+◌, ◌<◌, ℕ, List, ap, sym, subst, ◌∙◌, length, arith, get_or}
 use Rattle.std.specs.Prelude.{slice_set}
 use Rattle.std.proofs.lemmas.List.{length-set}
 use Rattle.kr_mean.specs.Heaps.{heap_of}

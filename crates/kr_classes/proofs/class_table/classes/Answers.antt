@@ -1,7 +1,7 @@
 use Rattle.std.proofs.Common.{◌∙◌, subst}
 use Rattle.std.specs.Prelude.{Option}
 use Rattle.kr_classes.specs.declared.refusal.Found.{Found}
-use Rattle.kr_classes.specs.Faults.{table_in}
+use Rattle.kr_classes_members.specs.Shown.{table_in}
 use Rattle.kr_classes.specs.MemberRules.{IsMembersFault}
 use Rattle.kr_classes.proofs.Fronts.{by_members}
 use Rattle.kr_classes.proofs.class_table.classes.Goals as goal

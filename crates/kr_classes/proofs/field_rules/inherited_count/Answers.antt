@@ -3,7 +3,7 @@ use Rattle.std.specs.Prelude.{flat_map}
 use Rattle.kr_classes_table.specs.Table.{is_instance, line_within, own_fields}
 use Rattle.kr_classes_members.specs.Kept.{class_count}
 use Rattle.kr_classes_members.proofs.Upwards.{ended}
-use Rattle.kr_classes.specs.Faults.{table_in}
+use Rattle.kr_classes_members.specs.Shown.{table_in}
 use Rattle.kr_classes.proofs.Counts.{capped, closing, count_onward}
 use Rattle.kr_classes.proofs.field_rules.inherited_count.Goals as goal
 

@@ -3,7 +3,7 @@ use Rattle.std.specs.Prelude.{flat_map}
 use Rattle.kr_ast.specs.Arena.{Arena}
 use Rattle.kr_classes_table.specs.Table.{ancestors, is_instance, line_within, own_fields}
 use Rattle.kr_classes_members.specs.Kept.{AreMembers, class_count}
-use Rattle.kr_classes.specs.Faults.{table_in}
+use Rattle.kr_classes_members.specs.Shown.{table_in}
 use Rattle.kr_classes.proofs.field_rules.inherited_count.Given as goal
 
 abbrev pub invariant-loop-step : goal.invariant-loop-step

@@ -4,12 +4,12 @@ use Rattle.std.specs.List.{position_from}
 use Rattle.std.proofs.lemmas.List.{take_all}
 use Rattle.kr_ast.specs.Arena.{Arena, name_in}
 use Rattle.kr_classes_table.specs.Table as table
-use Rattle.kr_classes_table.specs.Table.{ancestors, is_number, own_fields, own_methods}
+use Rattle.kr_classes_table.specs.Table.{ancestors, is_number, own_fields}
 use Rattle.kr_classes_table.specs.Rules.{is_name_among, least, repeated}
 use Rattle.kr_classes_names.proofs.Walks.{map_map}
 use Rattle.kr_classes_members.specs.declared.fields.Field.{Field}
-use Rattle.kr_classes_members.specs.Shown.{field_name, field_shown}
-use Rattle.kr_classes.specs.Faults.{inherited_names, table_in}
+use Rattle.kr_classes_members.specs.Shown.{table_in, field_name, field_shown}
+use Rattle.kr_classes.specs.Faults.{inherited_names}
 use Rattle.kr_classes.proofs.Again.{found_among, one_more}
 use Rattle.kr_classes.proofs.field_rules.repeated_field.Goals as goal
 

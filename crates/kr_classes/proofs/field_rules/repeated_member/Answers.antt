@@ -3,7 +3,8 @@ use Rattle.std.specs.Prelude.{flat_map}
 use Rattle.kr_classes_table.specs.Table as table
 use Rattle.kr_classes_table.specs.Rules.{break_if, least, repeated}
 use Rattle.kr_classes_members.proofs.Upwards.{kept_count}
-use Rattle.kr_classes.specs.Faults.{class_in, field_places, inherited_names, table_in}
+use Rattle.kr_classes.specs.Faults.{class_in, field_places, inherited_names}
+use Rattle.kr_classes_members.specs.Shown.{table_in}
 use Rattle.kr_classes.proofs.Each.{constructors_there, fields_there, of_both}
 use Rattle.kr_classes.proofs.field_rules.repeated_member.Goals as goal
 

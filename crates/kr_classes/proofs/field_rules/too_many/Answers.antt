@@ -3,7 +3,8 @@ use Rattle.std.specs.Prelude.{flat_map}
 use Rattle.kr_classes_table.specs.Table.{ancestors, fields_of, is_instance, own_fields}
 use Rattle.kr_classes_table.specs.Rules.{break_if, least, past}
 use Rattle.kr_classes_members.proofs.Upwards.{kept_count}
-use Rattle.kr_classes.specs.Faults.{class_in, table_in}
+use Rattle.kr_classes.specs.Faults.{class_in}
+use Rattle.kr_classes_members.specs.Shown.{table_in}
 use Rattle.kr_classes.proofs.Counts.{inherited_length, room_left}
 use Rattle.kr_classes.proofs.Each.{fields_there, of_both}
 use Rattle.kr_classes.proofs.field_rules.too_many.Goals as goal

@@ -1,6 +1,7 @@
 use Rattle.std.proofs.Common.{sym, subst, List, ℕ}
 use Rattle.std.specs.Prelude.{Option}
-use Rattle.kr_classes.specs.Faults.{AreBelow, AreSuperclasses, table_in}
+use Rattle.kr_classes.specs.Faults.{AreBelow, AreSuperclasses}
+use Rattle.kr_classes_members.specs.Shown.{table_in}
 use Rattle.kr_classes.specs.Refusals.{rule_number}
 use Rattle.kr_classes.proofs.Fronts.{below_of, by_names, superclasses_of}
 use Rattle.kr_classes.proofs.hierarchy.hierarchy_of.Goals as goal

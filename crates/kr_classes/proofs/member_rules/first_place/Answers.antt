@@ -2,12 +2,14 @@ use Rattle.std.proofs.Common.{◌≡◌, ◌<◌, sym, ap, ◌∙◌, length, ma
 use Rattle.std.proofs.lemmas.List.{length-map}
 use Rattle.kr_ast.specs.Arena.{root}
 use Rattle.kr_classes_table.specs.Table.{headings_of}
+use Rattle.kr_classes_table.proofs.Tables.{long}
 use Rattle.kr_classes_names.specs.Shown.{heading_shown}
 use Rattle.kr_classes_members.proofs.Upwards.{kept_count}
-use Rattle.kr_classes.specs.Faults.{no_class, table_in}
+use Rattle.kr_classes.specs.Faults.{no_class}
+use Rattle.kr_classes_members.specs.Shown.{table_in}
 use Rattle.kr_classes.specs.MemberRules.{member_number, rule_of}
 use Rattle.kr_classes_members.proofs.Classes.{classes_in}
-use Rattle.kr_classes.proofs.ByClass.{all_in, long, more_in}
+use Rattle.kr_classes.proofs.ByClass.{all_in, more_in}
 use Rattle.kr_classes.proofs.member_rules.first_place.Goals as goal
 
 pub place_in_class-requires-clause-class : goal.place_in_class-requires-clause-class

@@ -1,4 +1,5 @@
-use Rattle.kr_classes.specs.Faults.{IsFirstIn, table_in}
+use Rattle.kr_classes.specs.Faults.{IsFirstIn}
+use Rattle.kr_classes_members.specs.Shown.{table_in}
 use Rattle.kr_classes.specs.MemberRules.{member_number, rule_of}
 use Rattle.kr_classes.proofs.member_rules.first_place.Given as goal
 

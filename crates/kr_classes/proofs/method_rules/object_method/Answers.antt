@@ -5,9 +5,8 @@ use Rattle.kr_classes_table.specs.Table as table
 use Rattle.kr_classes_table.specs.Rules.{break_if, is_name_among, least, object_methods}
 use Rattle.kr_base.proofs.Added.{flat_all}
 use Rattle.kr_classes_members.specs.declared.methods.Method.{Method}
-use Rattle.kr_classes_members.specs.Shown.{method_name, method_shown}
+use Rattle.kr_classes_members.specs.Shown.{table_in, method_name, method_shown}
 use Rattle.kr_classes_members.proofs.Upwards.{kept_count}
-use Rattle.kr_classes.specs.Faults.{table_in}
 use Rattle.kr_classes.proofs.Each.{methods_there, one_each}
 use Rattle.kr_classes.proofs.method_rules.object_method.Goals as goal
 

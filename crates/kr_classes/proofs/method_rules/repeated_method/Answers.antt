@@ -4,12 +4,11 @@ use Rattle.std.specs.List.{position_from}
 use Rattle.std.proofs.lemmas.List.{take_all}
 use Rattle.kr_ast.specs.Arena.{Arena, name_in}
 use Rattle.kr_classes_table.specs.Table as table
-use Rattle.kr_classes_table.specs.Table.{ancestors, is_number, own_fields, own_methods}
+use Rattle.kr_classes_table.specs.Table.{is_number, own_methods}
 use Rattle.kr_classes_table.specs.Rules.{least, repeated}
 use Rattle.kr_classes_names.proofs.Walks.{map_map}
 use Rattle.kr_classes_members.specs.declared.methods.Method.{Method}
-use Rattle.kr_classes_members.specs.Shown.{method_name, method_shown}
-use Rattle.kr_classes.specs.Faults.{table_in}
+use Rattle.kr_classes_members.specs.Shown.{table_in, method_name, method_shown}
 use Rattle.kr_classes.proofs.Again.{one_more}
 use Rattle.kr_classes.proofs.method_rules.repeated_method.Goals as goal
 

@@ -2,7 +2,8 @@ use Rattle.std.proofs.Common.{◌<◌, length, get_or, arith}
 use Rattle.std.specs.Prelude.{None}
 use Rattle.kr_classes_table.specs.Rules.{C3}
 use Rattle.kr_classes_names.specs.declared.headings.Heading.{Heading}
-use Rattle.kr_classes.specs.Faults.{no_class, table_in}
+use Rattle.kr_classes.specs.Faults.{no_class}
+use Rattle.kr_classes_members.specs.Shown.{table_in}
 use Rattle.kr_classes.proofs.ByClass.{more, all_in, own_ancestor, same_item}
 use Rattle.kr_classes.proofs.name_rules.first_own_ancestor.Goals as goal
 

@@ -1,4 +1,5 @@
-use Rattle.kr_classes.specs.Faults.{IsFirstIn, repeats, table_in}
+use Rattle.kr_classes.specs.Faults.{IsFirstIn, repeats}
+use Rattle.kr_classes_members.specs.Shown.{table_in}
 use Rattle.kr_classes.proofs.name_rules.first_repeated_name.Given as goal
 
 abbrev pub invariant-loop-class : goal.invariant-loop-class

@@ -2,8 +2,7 @@ use Rattle.std.proofs.Common.{◌<◌, ap, ◌∙◌, false, length, arith}
 use Rattle.kr_classes_table.specs.Rules.{least, overrides}
 use Rattle.kr_base.proofs.Added.{flat_all}
 use Rattle.kr_classes_members.specs.declared.methods.Method.{Method}
-use Rattle.kr_classes_members.specs.Shown.{method_shown}
-use Rattle.kr_classes.specs.Faults.{table_in}
+use Rattle.kr_classes_members.specs.Shown.{table_in, method_shown}
 use Rattle.kr_classes.specs.Overriding.{is_shared, rule_for}
 use Rattle.kr_classes.proofs.Each.{one_each}
 use Rattle.kr_classes.proofs.overridden.first_override.Goals as goal

@@ -1,8 +1,8 @@
 use Rattle.std.proofs.Common.{◌≡◌, take}
 use Rattle.std.specs.Prelude.{flat_map}
 use Rattle.kr_classes_table.specs.Rules.{least, overrides}
-use Rattle.kr_classes_members.specs.Shown.{method_shown}
-use Rattle.kr_classes.specs.Faults.{fault_at, table_in}
+use Rattle.kr_classes_members.specs.Shown.{table_in, method_shown}
+use Rattle.kr_classes.specs.Faults.{fault_at}
 use Rattle.kr_classes.specs.Overriding.{is_shared, rule_for}
 use Rattle.kr_classes.proofs.overridden.first_override.Given as goal
 

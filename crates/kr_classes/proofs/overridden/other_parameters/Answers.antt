@@ -3,7 +3,8 @@ use Rattle.std.specs.Prelude.{flat_map}
 use Rattle.kr_classes_table.specs.Rules.{least, overrides, repeated}
 use Rattle.kr_classes_members.proofs.Upwards.{kept_count}
 use Rattle.kr_classes.specs.declared.overriding.Shared.TheVariants.{Parameters}
-use Rattle.kr_classes.specs.Faults.{class_in, method_places, table_in}
+use Rattle.kr_classes.specs.Faults.{class_in, method_places}
+use Rattle.kr_classes_members.specs.Shown.{table_in}
 use Rattle.kr_classes.specs.Overriding.{is_shared}
 use Rattle.kr_classes.proofs.Each.{methods_there, of_both}
 use Rattle.kr_classes.proofs.overridden.other_parameters.Goals as goal

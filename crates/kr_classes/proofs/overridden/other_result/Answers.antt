@@ -3,7 +3,7 @@ use Rattle.std.specs.Prelude.{flat_map}
 use Rattle.kr_classes_table.specs.Rules.{least, overrides}
 use Rattle.kr_classes_members.proofs.Upwards.{kept_count}
 use Rattle.kr_classes.specs.declared.overriding.Shared.TheVariants.{ResultType}
-use Rattle.kr_classes.specs.Faults.{table_in}
+use Rattle.kr_classes_members.specs.Shown.{table_in}
 use Rattle.kr_classes.specs.Overriding.{is_shared}
 use Rattle.kr_classes.proofs.Each.{methods_there}
 use Rattle.kr_classes.proofs.overridden.other_result.Goals as goal

@@ -1,5 +1,5 @@
 use Rattle.std.proofs.Common.{sym}
-use Rattle.kr_classes_types.specs.Types.{type_at}
+use Rattle.kr_classes_names.specs.Types.{type_at}
 use Rattle.kr_classes.proofs.SameTypes.{other_length}
 use Rattle.kr_classes.proofs.overriding.are_equal.Goals as goal
 

@@ -1,5 +1,5 @@
 use Rattle.std.proofs.Common.{◌≡◌, map, drop}
-use Rattle.kr_classes_types.specs.Types.{type_at}
+use Rattle.kr_classes_names.specs.Types.{type_at}
 use Rattle.kr_classes.specs.Overriding.{are_same}
 use Rattle.kr_classes.proofs.overriding.are_equal.Given as goal
 

@@ -5,7 +5,7 @@ use Rattle.kr_ast.specs.Files.{file_at}
 use Rattle.kr_base.proofs.Added.{flat_all}
 use Rattle.kr_classes_members.specs.Shown.{headings_in}
 use Rattle.kr_base.proofs.Added.{found_shown, found_stands}
-use Rattle.kr_classes_types.specs.Types.{count, type_at}
+use Rattle.kr_classes_names.specs.Types.{count, type_at}
 use Rattle.kr_classes.proofs.SameTypes.{map_flat}
 use Rattle.kr_classes.proofs.overriding.parameter_types.Goals as goal
 

@@ -4,8 +4,8 @@ use Rattle.kr_ast.specs.Arena.{tree_in}
 use Rattle.kr_classes_table.specs.Table.{parameter_in}
 use Rattle.kr_ast.specs.Files.{file_at}
 use Rattle.kr_classes_members.specs.Shown.{headings_in}
-use Rattle.kr_classes_types.specs.Types.{TypeList, count, type_at}
-use Rattle.kr_classes_types.specs.Numbers.{AreNodeTypes}
+use Rattle.kr_classes_names.specs.Types.{TypeList, count, type_at}
+use Rattle.kr_classes_names.specs.Numbers.{AreNodeTypes}
 use Rattle.kr_classes.proofs.overriding.parameter_types.Given as goal
 
 abbrev pub invariant-loop-node : goal.invariant-loop-node

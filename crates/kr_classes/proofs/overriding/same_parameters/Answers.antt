@@ -4,7 +4,7 @@ use Rattle.kr_classes_table.specs.Types.{JavaType}
 use Rattle.kr_classes_table.specs.Table.{parameters_in}
 use Rattle.kr_ast.specs.Files.{file_at}
 use Rattle.kr_classes_members.specs.Shown.{headings_in}
-use Rattle.kr_classes_types.specs.Types.{type_at}
+use Rattle.kr_classes_names.specs.Types.{type_at}
 use Rattle.kr_classes.specs.Overriding.{are_same}
 use Rattle.kr_classes.proofs.SameTypes.{by_types}
 use Rattle.kr_classes.proofs.overriding.same_parameters.Goals as goal

@@ -1,5 +1,5 @@
 use Rattle.kr_code_members.specs.Nodes.{table}
-use Rattle.kr_classes_roster.specs.Rosters.{method_numbered}
+use Rattle.kr_classes_members.specs.Rosters.{method_numbered}
 use Rattle.kr_code_bodies.proofs.Assembled.{bodies_are, method_later}
 use Rattle.kr_code_bodies.proofs.bodies.bodies_of.Goals as goal
 

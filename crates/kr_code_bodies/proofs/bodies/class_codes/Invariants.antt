@@ -1,9 +1,9 @@
 use Rattle.std.proofs.Common.{◌≡◌, ◌≤◌, ℕ, List, length, Some}
 use Rattle.std.specs.Prelude.{slice_get}
-use Rattle.kr_classes_types.specs.Listed.{IsGrown}
+use Rattle.kr_classes_names.specs.ListedTypes.{IsGrown}
 use Rattle.kr_code_members.specs.Nodes.{table}
 use Rattle.kr_code.specs.declared.code.ClassCode.{ClassCode}
-use Rattle.kr_classes_roster.specs.Rosters.{fields_of_class, first_of}
+use Rattle.kr_classes_members.specs.Rosters.{fields_of_class, first_of}
 use Rattle.kr_code_bodies.specs.Made.{AddsInitialisers, IsClassMade}
 use Rattle.kr_code_bodies.proofs.bodies.class_codes.Given as goal
 

@@ -1,6 +1,6 @@
 use Rattle.std.specs.Prelude.{None}
 use Rattle.kr_classes_members.specs.Shown.{table_in}
-use Rattle.kr_classes_roster.specs.Rosters.{method_numbered}
+use Rattle.kr_classes_members.specs.Rosters.{method_numbered}
 use Rattle.kr_code_bodies.specs.Tabled.{IsOverrider}
 use Rattle.kr_code_bodies.proofs.Rows.{AreFront}
 use Rattle.kr_code_bodies.proofs.dispatch.dispatch.Given as goal

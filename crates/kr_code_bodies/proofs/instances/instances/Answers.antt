@@ -1,5 +1,5 @@
 use Rattle.std.proofs.Common.{false, arith}
-use Rattle.kr_classes_types.specs.Types.{type_at}
+use Rattle.kr_classes_names.specs.Types.{type_at}
 use Rattle.kr_code_bodies.specs.Tabled.{IsInstance}
 use Rattle.kr_code_bodies.proofs.Rows.{row_more, whole_table}
 use Rattle.kr_code_bodies.proofs.Forms.{type_past, void_row}

@@ -2,7 +2,7 @@ use Rattle.std.proofs.Common.{List, false}
 use Rattle.kr_ast.specs.Arena.{Arena}
 use Rattle.kr_classes_table.specs.Types.{JavaType}
 use Rattle.kr_classes_members.specs.Kept.{AreMembers}
-use Rattle.kr_classes_types.specs.Types.{type_at}
+use Rattle.kr_classes_names.specs.Types.{type_at}
 use Rattle.kr_code_bodies.specs.Tabled.{IsInstance}
 use Rattle.kr_code_bodies.proofs.Rows.{AreFront}
 use Rattle.kr_code_bodies.proofs.instances.instances.Given as goal

@@ -1,7 +1,7 @@
 use Rattle.std.proofs.Common.{ap, [], ◌∷◌, length, length-append, get_or, arith}
 use Rattle.std.proofs.lemmas.Option.{slice_get-get_or}
 use Rattle.kr_code_members.specs.Nodes.{table}
-use Rattle.kr_classes_roster.specs.Rosters.{method_numbered}
+use Rattle.kr_classes_members.specs.Rosters.{method_numbered}
 use Rattle.kr_code_members.specs.declared.nodes.MethodNode.{MethodNode}
 use Rattle.kr_code_members.proofs.Zipped.{each_push}
 use Rattle.kr_code_lowering.proofs.Growth.{grown_on}

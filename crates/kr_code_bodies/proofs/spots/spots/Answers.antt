@@ -2,7 +2,7 @@ use Rattle.std.proofs.Common.{sym, ap, subst, length, arith}
 use Rattle.std.specs.Prelude.{None}
 use Rattle.kr_classes_table.specs.Table as table
 use Rattle.kr_classes_members.specs.Shown.{table_in}
-use Rattle.kr_classes_roster.specs.Rosters.{field_numbered}
+use Rattle.kr_classes_members.specs.Rosters.{field_numbered}
 use Rattle.kr_code_bodies.specs.Rows.{IsRow}
 use Rattle.kr_code_bodies.specs.Tabled.{IsSpot}
 use Rattle.kr_code_bodies.proofs.Rows.{row_more, whole_table}

@@ -1,6 +1,6 @@
 use Rattle.std.specs.Prelude.{None}
 use Rattle.kr_classes_members.specs.Shown.{table_in}
-use Rattle.kr_classes_roster.specs.Rosters.{field_numbered}
+use Rattle.kr_classes_members.specs.Rosters.{field_numbered}
 use Rattle.kr_code_bodies.specs.Tabled.{IsSpot}
 use Rattle.kr_code_bodies.proofs.Rows.{AreFront}
 use Rattle.kr_code_bodies.proofs.spots.spots.Given as goal

@@ -2,7 +2,7 @@ use Rattle.std.proofs.Common.{sym, ap, ◌∙◌}
 use Rattle.std.specs.Prelude.{Option, option_map}
 use Rattle.kr_classes_table.specs.Table.{Field}
 use Rattle.kr_classes_table.specs.Constants.{known_value, values_of}
-use Rattle.kr_classes_roster.specs.Rosters.{field_numbered}
+use Rattle.kr_classes_members.specs.Rosters.{field_numbered}
 use Rattle.kr_code_members.specs.Nodes.{table}
 use Rattle.kr_code_lowering.proofs.Read.{constant_found}
 use Rattle.kr_code_lowering.proofs.access.class_constant.Goals as goal

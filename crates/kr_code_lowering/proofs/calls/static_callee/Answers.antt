@@ -1,7 +1,7 @@
 use Rattle.std.proofs.Common.{sym, ap, ◌∙◌}
 use Rattle.std.specs.Prelude.{option_map}
 use Rattle.std.proofs.lemmas.Option.{slice_get-get_or}
-use Rattle.kr_classes_roster.specs.Rosters.{all_methods, method_numbered, no_method}
+use Rattle.kr_classes_members.specs.Rosters.{all_methods, method_numbered, no_method}
 use Rattle.kr_code_members.specs.Nodes.{table}
 use Rattle.kr_code_lowering.proofs.Read.{static_found}
 use Rattle.kr_code_lowering.proofs.calls.static_callee.Goals as goal

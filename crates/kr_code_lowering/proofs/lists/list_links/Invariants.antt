@@ -1,5 +1,5 @@
 use Rattle.std.proofs.Common.{◌≡◌, ℕ, List, ◌++◌, length, drop}
-use Rattle.kr_classes_types.specs.Listed.{IsGrown}
+use Rattle.kr_classes_names.specs.ListedTypes.{IsGrown}
 use Rattle.kr_code_lowering.specs.Sites.{IsSite}
 use Rattle.kr_code_lowering.specs.Lists.{AreItems}
 use Rattle.kr_code_lowering.proofs.lists.list_links.Given as goal

@@ -1,5 +1,5 @@
 use Rattle.std.proofs.Common.{◌≡◌, ◌+◌, length}
-use Rattle.kr_classes_types.specs.Listed.{IsGrown}
+use Rattle.kr_classes_names.specs.ListedTypes.{IsGrown}
 use Rattle.kr_code_lowering.specs.Resolving.{AreNodes}
 use Rattle.kr_code_lowering.proofs.nodes.add_file.Given as goal
 

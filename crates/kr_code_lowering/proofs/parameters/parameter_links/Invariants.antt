@@ -1,7 +1,7 @@
 use Rattle.std.proofs.Common.{◌≡◌, ◌++◌, length, map, drop}
 use Rattle.kr_classes_table.specs.Table.{items}
-use Rattle.kr_classes_types.specs.Listed.{IsGrown}
-use Rattle.kr_classes_types.specs.Types.{type_at}
+use Rattle.kr_classes_names.specs.ListedTypes.{IsGrown}
+use Rattle.kr_classes_names.specs.Types.{type_at}
 use Rattle.kr_code_members.specs.Nodes.{table}
 use Rattle.kr_code_lowering.specs.Bodies.{parameter_type}
 use Rattle.kr_code_lowering.specs.Sites.{IsSite, tree_at}

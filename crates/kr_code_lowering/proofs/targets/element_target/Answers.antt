@@ -3,7 +3,7 @@ use Rattle.std.specs.Prelude.{option_map}
 use Rattle.kr_ast.specs.declared.node.Node.TheVariants.{ArrayAccess}
 use Rattle.kr_types_meaning.specs.Scopes.{Scope}
 use Rattle.kr_types_meaning.specs.Typing.{judged, type_in}
-use Rattle.kr_classes_types.specs.Types.{type_at}
+use Rattle.kr_classes_names.specs.Types.{type_at}
 use Rattle.kr_code_lowering.specs.Origins.{node_tree}
 use Rattle.kr_code_lowering.specs.Sites.{scope_at}
 use Rattle.kr_code_lowering.proofs.Naming.{part_small, parts_are}

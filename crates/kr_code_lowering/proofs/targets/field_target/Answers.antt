@@ -2,7 +2,7 @@ use Rattle.std.proofs.Common.{Some, None, arith}
 use Rattle.kr_ast.specs.Arena.{name_in}
 use Rattle.kr_ast.specs.declared.node.Node.TheVariants.{FieldAccess}
 use Rattle.kr_types_meaning.specs.Typing.{type_of}
-use Rattle.kr_classes_roster.specs.Rosters.{field_numbered}
+use Rattle.kr_classes_members.specs.Rosters.{field_numbered}
 use Rattle.kr_code_members.specs.Nodes.{table}
 use Rattle.kr_code_lowering.specs.Origins.{node_tree}
 use Rattle.kr_code_lowering.specs.Sites.{arena_at, scope_at}

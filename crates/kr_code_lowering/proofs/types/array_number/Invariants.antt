@@ -1,7 +1,7 @@
 use Rattle.std.proofs.Common.{◌≡◌, map, drop}
 use Rattle.kr_classes_table.specs.Types.{ArrayType}
 use Rattle.kr_classes_table.specs.Arrays.{array_number, array_number_from}
-use Rattle.kr_classes_types.specs.Types.{type_at}
+use Rattle.kr_classes_names.specs.Types.{type_at}
 use Rattle.kr_code_lowering.proofs.types.array_number.Given as goal
 
 abbrev pub invariant-loop-number : goal.invariant-loop-number

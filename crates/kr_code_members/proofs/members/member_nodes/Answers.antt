@@ -1,7 +1,7 @@
 use Rattle.std.proofs.Common.{◌≡◌, sym, ap, ◌∙◌, subst, ◌<◌, [], ◌∷◌, length, length-append, take, arith}
 use Rattle.std.specs.Prelude.{flat_map}
 use Rattle.std.proofs.lemmas.List.{take_all}
-use Rattle.kr_classes_roster.specs.Rosters.{methods_of_class, no_method}
+use Rattle.kr_classes_members.specs.Rosters.{methods_of_class, no_method}
 use Rattle.kr_code_members.specs.Nodes.{IsClassNodes, IsMethodNode, table}
 use Rattle.kr_code_members.specs.Walk.{HasHeading, heading_numbered, no_heading}
 use Rattle.kr_code_members.proofs.Zipped.{each_push, zip_at, zip_length, zip_number}

@@ -1,7 +1,7 @@
 use Rattle.std.proofs.Common.{◌≡◌, ℕ, length, take, Some}
 use Rattle.std.specs.Prelude.{flat_map, slice_get}
 use Rattle.std.specs.List.{AllZip}
-use Rattle.kr_classes_roster.specs.Rosters.{methods_of_class}
+use Rattle.kr_classes_members.specs.Rosters.{methods_of_class}
 use Rattle.kr_code_members.specs.declared.nodes.ClassNodes.{ClassNodes}
 use Rattle.kr_code_members.specs.Nodes.{IsClassNodes, IsMethodNode, table}
 use Rattle.kr_code_members.proofs.members.member_nodes.Given as goal

@@ -4,6 +4,6 @@ use Rattle.kr_contract.specs.Tests.{IsPlain}
 use Rattle.kr_contract.proofs.Decided.{EnsuredLead}
 use Rattle.kr_contract.proofs.parts.check_all.Given as goal
 
--- so many hold, and what is left says the verdict
+-- so many hold, and the rest determines the verdict
 abbrev pub invariant-nodes : goal.invariant-nodes
 invariant-nodes l = IsPlain l.world × EnsuredLead l.code l.nodes (state_of l.fn.world) (l.number + 1) (drop l.node-index l.nodes) (state_of l.world)

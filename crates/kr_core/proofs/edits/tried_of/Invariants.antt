@@ -1,6 +1,6 @@
 use Rattle.std.proofs.Common.{◌≡◌, take}
 use Rattle.std.specs.List.{sum_by}
-use Rattle.kr_core.specs.States.{capped}
+use Rattle.kr_base.specs.Causes.{capped}
 use Rattle.kr_core.proofs.edits.tried_of.Given as goal
 
 abbrev pub invariant-loop-segment : goal.invariant-loop-segment

@@ -1,5 +1,5 @@
 use Rattle.std.proofs.Common.{◌≡◌, ◌+◌, ◌-◌, ◌^◌, ◌≤◌, drop}
-use Rattle.kr_core.specs.States.{capped}
+use Rattle.kr_base.specs.Causes.{capped}
 use Rattle.kr_core.proofs.Fronts.{rows_in}
 use Rattle.kr_core.proofs.fits.front_rows.Given as goal
 

@@ -1,7 +1,7 @@
 use Rattle.std.proofs.Common.{◌∙◌}
 use Rattle.kr_base.specs.declared.span.Bound.TheVariants.{At}
 use Rattle.kr_survey.specs.Joins.{joined, lists}
-use Rattle.kr_deque_joining.proofs.Chains.{covers}
+use Rattle.kr_deque.proofs.Chains.{covers}
 use Rattle.kr_deque.proofs.Worked.{later_hands, later_settled, later_sound, later_given, given_lists, each_joined}
 use Rattle.kr_deque.proofs.listing.pieces_of.Goals as goal
 

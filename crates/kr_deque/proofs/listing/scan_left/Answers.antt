@@ -1,6 +1,6 @@
 use Rattle.std.proofs.Common.{[], ◌∷◌, ◌++◌, ◌∙◌, ap, sym, subst, append_assoc}
 use Rattle.std.specs.Vec.Iter.{into_iter_items}
-use Rattle.kr_deque_joining.specs.Joined.{AllAhead}
+use Rattle.kr_deque_hands.specs.Pieces.{AllAhead}
 use Rattle.kr_deque.proofs.Listed.{found_more}
 use Rattle.kr_deque.proofs.listing.scan_left.Goals as goal
 

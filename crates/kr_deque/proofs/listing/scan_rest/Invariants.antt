@@ -1,5 +1,5 @@
 use Rattle.std.proofs.Common.{◌≡◌, ◌∷◌, [], true}
-use Rattle.kr_deque_joining.specs.Spans.{is_ahead}
+use Rattle.kr_survey.specs.Spans.{is_ahead}
 use Rattle.kr_deque.proofs.Listed.{GoesOn}
 use Rattle.kr_deque.proofs.listing.scan_rest.Given as goal
 

@@ -1,7 +1,7 @@
 use Rattle.std.proofs.Common.{◌≡◌, ◌++◌, true, [], length}
 use Rattle.std.specs.Vec.Iter.{into_iter_items}
 use Rattle.crossbeam_deque.specs.Handles.{SameWorker, worker_view, worker_index}
-use Rattle.kr_deque_joining.specs.Joined.{AllAhead}
+use Rattle.kr_deque_hands.specs.Pieces.{AllAhead}
 use Rattle.kr_deque_hands.specs.Logs.{log, view_of, no_marks}
 use Rattle.kr_deque_hands.proofs.starting.fill.Given as goal
 

@@ -1,6 +1,6 @@
 use Rattle.std.proofs.Common.{Option, [], ◌∷◌, subst}
 use Rattle.kr_base.specs.declared.span.Span.{Span}
-use Rattle.kr_deque_joining.specs.Joined.{AllAhead}
+use Rattle.kr_deque_hands.specs.Pieces.{AllAhead}
 use Rattle.kr_deque_hands.specs.Turns.{listed}
 use Rattle.kr_deque_hands.specs.Hands.{Works}
 use Rattle.kr_deque_hands.proofs.Carrying.{works_then}

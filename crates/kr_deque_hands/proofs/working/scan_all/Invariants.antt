@@ -1,5 +1,5 @@
 use Rattle.std.proofs.Common.{◌≡◌, ◌∷◌, [], true, None}
-use Rattle.kr_deque_joining.specs.Spans.{is_ahead}
+use Rattle.kr_survey.specs.Spans.{is_ahead}
 use Rattle.kr_deque_hands.specs.Hands.{Works}
 use Rattle.kr_deque_hands.proofs.working.scan_all.Given as goal
 

@@ -1,4 +1,4 @@
-use Rattle.kr_deque_joining.specs.Joined.{AllAhead, spans_of}
+use Rattle.kr_deque_hands.specs.Pieces.{AllAhead, spans_of}
 use Rattle.kr_deque_tests.proofs.joining.pieces_of.Given as goal
 
 abbrev pub invariant-loop-name : goal.invariant-loop-name

@@ -1,6 +1,6 @@
 use Rattle.std.proofs.Common.{◌≡◌, Some, sym, ap, ◌∙◌, subst}
 use Rattle.kr_mean.specs.Problem.{DomainObject}
-use Rattle.kr_iso.specs.Choices.{MayStand}
+use Rattle.kr_mean.specs.Choices.{MayStand}
 use Rattle.kr_iso.specs.Objects.{shown, object_of}
 use Rattle.kr_iso.proofs.Unused.{barred_not}
 use Rattle.kr_iso.proofs.choice.is_allowed.Goals as goal

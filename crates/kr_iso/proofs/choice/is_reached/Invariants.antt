@@ -1,5 +1,5 @@
 use Rattle.std.proofs.Common.{◌≤◌, ◌+◌, ℕ, drop, length}
-use Rattle.kr_iso.specs.Choices.{IsUsed}
+use Rattle.kr_mean.specs.Choices.{IsUsed}
 use Rattle.kr_iso.proofs.choice.is_reached.Given as goal
 
 abbrev pub invariant-loop-left : goal.invariant-loop-left

@@ -1,5 +1,5 @@
 use Rattle.std.proofs.Common.{ℕ, ◌<◌, ◌≤◌}
-use Rattle.kr_iso.specs.Choices.{IsAllowed}
+use Rattle.kr_mean.specs.Choices.{IsAllowed}
 use Rattle.kr_iso.specs.Objects.{shown}
 use Rattle.kr_iso.specs.Unused.{MayNotStand}
 use Rattle.kr_iso.proofs.choice.next_choice.Given as goal

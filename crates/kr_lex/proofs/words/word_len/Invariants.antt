@@ -3,7 +3,7 @@ use Rattle.std.specs.Str.{encode_utf8_all}
 use Rattle.kr_lex.specs.Characters.{AllParts}
 use Rattle.kr_lex.proofs.words.word_len.Given as goal
 
--- the bytes so far are characters that names may go on with
+-- the bytes so far can continue a name
 abbrev pub invariant-loop-len : goal.invariant-loop-len
 invariant-loop-len l = (l.len ≤ length l.text) × ((chars : List ℕ) × AllParts chars × (take l.len l.text ≡ encode_utf8_all chars))
 

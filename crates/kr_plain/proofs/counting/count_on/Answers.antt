@@ -7,9 +7,9 @@ use Rattle.kr_plain.proofs.counting.count_on.Goals as goal
 pub overflow_add-index : goal.overflow_add-index
 overflow_add-index g c =
     let S = g.C.Slots.space c.args.candidates.now in
-    let v = g.C.Candidates.vector c.args.candidates.now in
+    let v = g.C.Candidate.vector c.args.candidates.now in
     let at = c.loop-slot.slot - 1 in
-    let u = g.C.Candidates.vector c.loop-slot.candidates in
+    let u = g.C.Candidate.vector c.loop-slot.candidates in
     let is : Cleared S v (at + 1) u = subst (λ (k : ℕ). Cleared S v k u) (omega (arith, c.loop-slot-test.true)) c.loop-slot.invariant.cleared in
     let less : get_or u at 0 < S.size at = within_size S v u at is in
     let size : c.size-size.result ≡ S.size at = c.size-size.ensures ∙ ap (λ (T : Space). T.size at) c.loop-slot.invariant.space in
@@ -18,9 +18,9 @@ overflow_add-index g c =
 pub returns-then-index-size-clause-follows : goal.returns-then-index-size-clause-follows
 returns-then-index-size-clause-follows g c =
     let S = g.C.Slots.space c.args.candidates.now in
-    let v = g.C.Candidates.vector c.args.candidates.now in
+    let v = g.C.Candidate.vector c.args.candidates.now in
     let at = c.loop-slot.slot - 1 in
-    let u = g.C.Candidates.vector c.loop-slot.candidates in
+    let u = g.C.Candidate.vector c.loop-slot.candidates in
     let is : Cleared S v (at + 1) u = subst (λ (k : ℕ). Cleared S v k u) (omega (arith, c.loop-slot-test.true)) c.loop-slot.invariant.cleared in
     let h : at < S.slots = (let w = is.within in omega (arith, w)) in
     let size : c.size-size.result ≡ S.size at = c.size-size.ensures ∙ ap (λ (T : Space). T.size at) c.loop-slot.invariant.space in
@@ -28,13 +28,13 @@ returns-then-index-size-clause-follows g c =
     (goes_on S v u at h is (c.index-index.result + 1) (ap (λ (i : ℕ). i + 1) c.index-index.ensures) (omega (arith, size, c.if-index-size.true)))
 
 pub returns-clause-follows : goal.returns-clause-follows
-returns-clause-follows g c = ends (g.C.Slots.space c.args.candidates.now) (g.C.Candidates.vector c.args.candidates.now) (g.C.Candidates.vector c.loop-slot.candidates)
-    (subst (λ (k : ℕ). Cleared (g.C.Slots.space c.args.candidates.now) (g.C.Candidates.vector c.args.candidates.now) k (g.C.Candidates.vector c.loop-slot.candidates)) (omega (arith, c.loop-slot-test.false)) c.loop-slot.invariant.cleared)
+returns-clause-follows g c = ends (g.C.Slots.space c.args.candidates.now) (g.C.Candidate.vector c.args.candidates.now) (g.C.Candidate.vector c.loop-slot.candidates)
+    (subst (λ (k : ℕ). Cleared (g.C.Slots.space c.args.candidates.now) (g.C.Candidate.vector c.args.candidates.now) k (g.C.Candidate.vector c.loop-slot.candidates)) (omega (arith, c.loop-slot-test.false)) c.loop-slot.invariant.cleared)
 
 pub loop-slot-init : goal.loop-slot-init
 loop-slot-init g c =
     let S = g.C.Slots.space c.args.candidates.now in
-    let v = g.C.Candidates.vector c.args.candidates.now in
+    let v = g.C.Candidate.vector c.args.candidates.now in
     record {
       space = refl;
       order = refl;
@@ -45,9 +45,9 @@ loop-slot-init g c =
 pub loop-slot-preserved : goal.loop-slot-preserved
 loop-slot-preserved g c =
     let S = g.C.Slots.space c.args.candidates.now in
-    let v = g.C.Candidates.vector c.args.candidates.now in
+    let v = g.C.Candidate.vector c.args.candidates.now in
     let at = c.loop-slot.slot - 1 in
-    let u = g.C.Candidates.vector c.loop-slot.candidates in
+    let u = g.C.Candidate.vector c.loop-slot.candidates in
     let is : Cleared S v (at + 1) u = subst (λ (k : ℕ). Cleared S v k u) (omega (arith, c.loop-slot-test.true)) c.loop-slot.invariant.cleared in
     let h : at < S.slots = (let w = is.within in omega (arith, w)) in
     let size : c.size-size.result ≡ S.size at = c.size-size.ensures ∙ ap (λ (T : Space). T.size at) c.loop-slot.invariant.space in

@@ -1,6 +1,5 @@
 use Rattle.std.proofs.Common.{◌≡◌, ◌<◌, ◌+◌, ◌++◌, ◌∷◌, [], ◌∙◌, ℕ, List, true, false, drop, get_or, ap, sym, subst, arith, rules}
-use Rattle.kr_iso.specs.Choices.{IsAllowed}
-use Rattle.kr_mean.specs.Choices.{AllowedAlong}
+use Rattle.kr_mean.specs.Choices.{AllowedAlong, IsAllowed}
 use Rattle.kr_mean.specs.Readings.{AllBelow}
 use Rattle.kr_plain.proofs.Along.{Goes, below_at, goes_on, stops}
 use Rattle.kr_plain.proofs.least.is_allowed_along.Goals as goal
@@ -23,7 +22,7 @@ is_allowed-requires-clause-index g c =
 pub returns-then-not-is_allowed : goal.returns-then-not-is_allowed
 returns-then-not-is_allowed g c =
     let S = g.C.Slots.space c.args.candidates.now in
-    let v = g.C.Candidates.vector c.args.candidates.now in
+    let v = g.C.Candidate.vector c.args.candidates.now in
     let order = c.last_order-order.result.now in
     let path = c.loop-slot.path.items in
     let s = get_or order c.loop-slot.slot-index 0 in
@@ -37,7 +36,7 @@ returns-then-not-is_allowed g c =
 pub loop-slot-preserved : goal.loop-slot-preserved
 loop-slot-preserved g c =
     let S = g.C.Slots.space c.args.candidates.now in
-    let v = g.C.Candidates.vector c.args.candidates.now in
+    let v = g.C.Candidate.vector c.args.candidates.now in
     let order = c.last_order-order.result.now in
     let k = c.loop-slot.slot-index in
     let path = c.loop-slot.path.items in

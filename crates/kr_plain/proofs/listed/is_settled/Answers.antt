@@ -22,7 +22,7 @@ one_more xs v k before here s h l = go (cases_eq s k)
 
 pub returns-then-not-has_slot : goal.returns-then-not-has_slot
 returns-then-not-has_slot g c =
-    let v = g.C.Candidates.vector c.args.candidates.now in
+    let v = g.C.Candidate.vector c.args.candidates.now in
     let none : contains_number c.last_order-order.result.now c.loop-slot.slot ≡ false = sym c.has_slot.ensures ∙ c.if-not-has_slot.true in
     let l = lacks c.last_order-order.result.now c.loop-slot.slot none in (
       λ t. absurd (cc (t)),
@@ -30,7 +30,7 @@ returns-then-not-has_slot g c =
     )
 
 pub loop-slot-preserved : goal.loop-slot-preserved
-loop-slot-preserved g c = one_more c.last_order-order.result.now (g.C.Candidates.vector c.args.candidates.now) c.loop-slot.slot c.loop-slot.invariant (λ l. elim c.else-index-ne0.branch [
+loop-slot-preserved g c = one_more c.last_order-order.result.now (g.C.Candidate.vector c.args.candidates.now) c.loop-slot.slot c.loop-slot.invariant (λ l. elim c.else-index-ne0.branch [
   | else-index-ne0-via-then-index-ne0+else-not-has_slot w ↦ absurd (has c.last_order-order.result.now c.loop-slot.slot (sym w.has_slot.ensures ∙ w.if-not-has_slot.false) l)
   | else-index-ne0-via-else-index-ne0 w ↦ sym c.index.ensures ∙ w.if-index-ne0.false
 ])

@@ -1,4 +1,4 @@
-use Rattle.std.proofs.Common.{◌≡◌, ap, ◌∙◌, sym, subst, ℕ, ◌<◌, List, ◌++◌, All, length, map, take, arith}
+use Rattle.std.proofs.Common.{ap, ◌∙◌, sym, subst, ℕ, ◌<◌, List, ◌++◌, All, length, map, arith}
 use Rattle.std.specs.Prelude.{flat_map}
 use Rattle.kr_types_meaning.specs.Scopes.{Scope}
 use Rattle.kr_types_meaning.specs.Running.{running}

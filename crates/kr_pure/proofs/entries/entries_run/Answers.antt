@@ -1,15 +1,13 @@
-use Rattle.std.proofs.Common.{refl, sym, ap, ◌∙◌, subst, List, [], ◌++◌, All, map}
+use Rattle.std.proofs.Common.{refl, sym, ap, ◌∙◌, subst, List, [], ◌++◌, map}
 use Rattle.std.specs.Prelude.{flat_map}
-use Rattle.kr_ast.specs.Arena.{root}
 use Rattle.kr_classes_table.specs.Table.{Method}
 use Rattle.kr_types_meaning.specs.Scopes.{Scope}
 use Rattle.kr_ast.specs.declared.files.NodeId.{NodeId}
 use Rattle.kr_types_meaning.specs.Running.{running}
-use Rattle.kr_classes_roster.specs.Rosters.{method_numbered}
-use Rattle.kr_classes_types.specs.Types.{type_at}
+use Rattle.kr_classes_members.specs.Rosters.{method_numbered}
+use Rattle.kr_classes_names.specs.Types.{type_at}
 use Rattle.kr_mean.specs.Code.{code_of_class, code_of_method, code_run, methods_run}
-use Rattle.kr_code_members.specs.Nodes.{node_tree, table}
-use Rattle.kr_space_problem.specs.Posed.{run_program}
+use Rattle.kr_code_members.specs.Nodes.{node_tree, table, run_program}
 use Rattle.kr_pure_effects.specs.Nodes.{node_there}
 use Rattle.kr_pure.specs.Entries.{Enter}
 use Rattle.kr_pure.proofs.Entered.{entered_same, none_entered}

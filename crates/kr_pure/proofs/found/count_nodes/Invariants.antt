@@ -1,6 +1,6 @@
 use Rattle.std.proofs.Common.{◌≡◌, All, take, length}
 use Rattle.kr_ast.specs.Arena.{IsArena}
-use Rattle.kr_pure.specs.Found.{all_entries}
+use Rattle.kr_types.specs.Programs.{all_entries}
 use Rattle.kr_pure.proofs.found.count_nodes.Given as goal
 
 abbrev pub invariant-loop-tree : goal.invariant-loop-tree

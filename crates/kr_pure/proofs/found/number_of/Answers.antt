@@ -22,7 +22,7 @@ overflow_add-result c =
     let files = c.args.trees.now in
     let below = below_all files c.args.at.file c.args.at.node c.requires.node.file c.requires.node.node in
     let at : c.loop-file.file ≡ c.args.at.file = omega arith in
-    let same = ap (λ n. length (Rattle.kr_pure.specs.Found.all_entries (Rattle.std.proofs.Common.take n files))) at in
+    let same = ap (λ n. length (Rattle.kr_types.specs.Programs.all_entries (Rattle.std.proofs.Common.take n files))) at in
     omega (arith, below, same)
 
 pub returns-clause-within : goal.returns-clause-within
@@ -30,11 +30,11 @@ returns-clause-within c =
     let files = c.args.trees.now in
     let below = below_all files c.args.at.file c.args.at.node c.requires.node.file c.requires.node.node in
     let at : c.loop-file.file ≡ c.args.at.file = omega arith in
-    let same = ap (λ n. length (Rattle.kr_pure.specs.Found.all_entries (Rattle.std.proofs.Common.take n files))) at in
+    let same = ap (λ n. length (Rattle.kr_types.specs.Programs.all_entries (Rattle.std.proofs.Common.take n files))) at in
     omega (arith, below, same)
 
 pub returns-clause-number : goal.returns-clause-number
 returns-clause-number c =
     let at : c.loop-file.file ≡ c.args.at.file = omega arith in
-    let same = ap (λ n. length (Rattle.kr_pure.specs.Found.all_entries (Rattle.std.proofs.Common.take n c.args.trees.now))) at in
+    let same = ap (λ n. length (Rattle.kr_types.specs.Programs.all_entries (Rattle.std.proofs.Common.take n c.args.trees.now))) at in
     omega (arith, same)

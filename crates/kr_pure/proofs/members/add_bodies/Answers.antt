@@ -1,5 +1,5 @@
 use Rattle.std.proofs.Common.{ap, ◌++◌, ◌∷◌, [], ◌<◌, ℕ, List, length, get_or, arith}
-use Rattle.kr_classes_roster.specs.Rosters.{method_numbered}
+use Rattle.kr_classes_members.specs.Rosters.{method_numbered}
 use Rattle.kr_mean.specs.Program.{program_with}
 use Rattle.kr_mean.specs.Code.{Node, code_of_method}
 use Rattle.kr_code_members.specs.Nodes.{table}

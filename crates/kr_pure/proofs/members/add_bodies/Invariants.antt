@@ -1,7 +1,7 @@
 use Rattle.std.proofs.Common.{List, ◌++◌, take}
 use Rattle.std.specs.Prelude.{flat_map}
 use Rattle.kr_classes_table.specs.Types.{JavaType}
-use Rattle.kr_classes_roster.specs.Rosters.{method_numbered}
+use Rattle.kr_classes_members.specs.Rosters.{method_numbered}
 use Rattle.kr_mean.specs.Program.{program_with}
 use Rattle.kr_mean.specs.Code.{Node, code_of_method}
 use Rattle.kr_code_members.specs.Nodes.{table}

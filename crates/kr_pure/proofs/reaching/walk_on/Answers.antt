@@ -1,7 +1,7 @@
 use Rattle.std.proofs.Common.{◌≡◌, refl, ◌<◌, ◌≤◌, length, arith, Some}
 use Rattle.std.specs.Prelude.{slice_get}
 use Rattle.std.proofs.lemmas.Option.{slice_get_read, slice_get_within}
-use Rattle.kr_pure.specs.Found.{all_entries}
+use Rattle.kr_types.specs.Programs.{all_entries}
 use Rattle.kr_pure.proofs.Adding.{few}
 use Rattle.kr_pure.specs.Reach.{IsBelow, IsFollowed}
 use Rattle.kr_pure.proofs.Steps.{all_by_index, step_stays, walk_more}

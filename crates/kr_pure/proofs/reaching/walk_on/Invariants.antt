@@ -1,7 +1,8 @@
 use Rattle.std.proofs.Common.{◌≡◌, ℕ, ◌-◌, ◌<◌, ◌≤◌, All, length}
 use Rattle.std.specs.Prelude.{Contains, Some, slice_get}
 use Rattle.kr_ast.specs.declared.files.NodeId.{NodeId}
-use Rattle.kr_pure.specs.Found.{AreFound, all_entries}
+use Rattle.kr_pure.specs.Found.{AreFound}
+use Rattle.kr_types.specs.Programs.{all_entries}
 use Rattle.kr_pure.specs.Reach.{IsBelow, IsFollowed}
 use Rattle.kr_pure.proofs.reaching.walk_on.Given as goal
 

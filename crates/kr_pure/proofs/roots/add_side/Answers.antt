@@ -1,6 +1,6 @@
 use Rattle.std.proofs.Common.{subst, List, ◌++◌}
 use Rattle.std.specs.Prelude.{IfOk}
-use Rattle.kr_classes_roster.specs.Rosters.{method_numbered}
+use Rattle.kr_classes_members.specs.Rosters.{method_numbered}
 use Rattle.kr_code_members.specs.Nodes.{table}
 use Rattle.kr_mean.specs.Code.{Node}
 use Rattle.kr_pure.specs.Entries.{Enter}

@@ -3,7 +3,8 @@ use Rattle.std.specs.Prelude.{flat_map}
 use Rattle.kr_ast.specs.declared.files.NodeId.{NodeId}
 use Rattle.kr_mean.specs.Code.{code_of_method}
 use Rattle.kr_mean.specs.Purity.{rep_ok_method}
-use Rattle.kr_space_problem.specs.Posed.{posed, run_program}
+use Rattle.kr_space_problem.specs.Posed.{posed}
+use Rattle.kr_code_members.specs.Nodes.{run_program}
 use Rattle.kr_pure.specs.Entries.{Enter}
 use Rattle.kr_pure.proofs.Entered.{none_entered}
 use Rattle.kr_pure.proofs.roots.root_entries.Goals as goal

@@ -3,7 +3,7 @@ use Rattle.std.proofs.lemmas.Result.{IfOk-weaker}
 use Rattle.kr_ast.specs.Arena.{tree_in}
 use Rattle.kr_ast.specs.Files.{file_at}
 use Rattle.kr_classes_members.specs.Shown.{table_in}
-use Rattle.kr_classes_roster.specs.Rosters.{method_numbered}
+use Rattle.kr_classes_members.specs.Rosters.{method_numbered}
 use Rattle.kr_types.specs.Programs.{scope_there}
 use Rattle.kr_types_resolving.specs.Shown.{IsMeaningWithin, meaning_shown}
 use Rattle.kr_pure_effects.specs.Nodes.{runs_by}

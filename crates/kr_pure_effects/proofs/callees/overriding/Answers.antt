@@ -3,7 +3,7 @@ use Rattle.std.specs.Prelude.{IfOk}
 use Rattle.std.proofs.lemmas.Result.{IfOk-weaker}
 use Rattle.kr_ast.specs.Arena.{Arena}
 use Rattle.kr_classes_members.specs.Shown.{method_shown, table_in}
-use Rattle.kr_classes_roster.specs.Rosters.{method_numbered}
+use Rattle.kr_classes_members.specs.Rosters.{method_numbered}
 use Rattle.kr_mean.specs.Program.{Program}
 use Rattle.kr_mean.specs.Code.{overriders}
 use Rattle.kr_pure_effects.proofs.callees.overriding.Goals as goal

@@ -1,6 +1,6 @@
 use Rattle.std.proofs.Common.{refl, sym, ap, ◌∙◌, map}
 use Rattle.kr_value.specs.declared.object.Class.{Class}
-use Rattle.kr_classes_types.specs.Types.{type_at}
+use Rattle.kr_classes_names.specs.Types.{type_at}
 use Rattle.kr_space_problem.specs.Posed.{posed}
 use Rattle.kr_pure_effects.proofs.Finitized.{some_touched}
 use Rattle.kr_pure_effects.proofs.candidates.touches_candidates.Goals as goal

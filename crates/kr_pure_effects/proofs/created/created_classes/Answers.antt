@@ -4,7 +4,7 @@ use Rattle.std.proofs.lemmas.Result.{IfOk-weaker}
 use Rattle.kr_ast.specs.Arena.{root}
 use Rattle.kr_classes_table.specs.Types.{JavaType}
 use Rattle.kr_classes_table.specs.Table.{line_of}
-use Rattle.kr_classes_types.specs.Types.{type_of_form}
+use Rattle.kr_classes_names.specs.Types.{type_of_form}
 use Rattle.kr_mean.specs.Code.{classes_of}
 use Rattle.kr_types.proofs.Named.{IsThere, line_there, named_there}
 use Rattle.kr_pure_effects.proofs.created.created_classes.Goals as goal

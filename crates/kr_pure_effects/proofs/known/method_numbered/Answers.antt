@@ -1,7 +1,7 @@
 use Rattle.std.proofs.Common.{sym, subst, arith}
 use Rattle.std.proofs.lemmas.Option.{get_or_from_slice_get}
 use Rattle.kr_classes_members.specs.Shown.{IsMethod, method_shown, table_in}
-use Rattle.kr_classes_roster.specs.Rosters.{all_methods, no_method}
+use Rattle.kr_classes_members.specs.Rosters.{all_methods, no_method}
 use Rattle.kr_types_resolving.proofs.Chosen.{method_there}
 use Rattle.kr_types_resolving.proofs.Rostered.{method_got}
 use Rattle.kr_pure_effects.proofs.known.method_numbered.Goals as goal

@@ -3,8 +3,8 @@ use Rattle.kr_ast.specs.Arena.{Arena, root, tree_in}
 use Rattle.kr_classes_table.specs.Table.{Heading, headings_of, table_of, type_named}
 use Rattle.kr_ast.specs.Files.{file_at}
 use Rattle.kr_classes_members.specs.Shown.{table_in}
-use Rattle.kr_classes_types.specs.Types.{IsTypeNumber}
-use Rattle.kr_classes_types.specs.Numbers.{number_in}
+use Rattle.kr_classes_names.specs.Types.{IsTypeNumber}
+use Rattle.kr_classes_names.specs.Numbers.{number_in}
 use Rattle.kr_pure_effects.proofs.known.named_type.Goals as goal
 
 headings_are : (files : List Arena) → headings_of (map root files) ≡ (table_in files).headings

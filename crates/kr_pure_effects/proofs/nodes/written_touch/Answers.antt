@@ -6,7 +6,7 @@ use Rattle.kr_ast.specs.Tree as trees
 use Rattle.kr_ast.specs.Tree.{Tree}
 use Rattle.kr_ast.specs.Files.{file_at}
 use Rattle.kr_classes_table.specs.Types.{JavaType}
-use Rattle.kr_classes_types.specs.Types.{type_at}
+use Rattle.kr_classes_names.specs.Types.{type_at}
 use Rattle.kr_types_meaning.specs.Typing.{type_of}
 use Rattle.kr_types_meaning.specs.Running.{running}
 use Rattle.kr_laws_types.proofs.Loops.{running_same}

@@ -3,7 +3,7 @@ use Rattle.std.specs.Prelude.{All, flat_map, option_to_list}
 use Rattle.std.specs.List.{range_with_len}
 use Rattle.kr_value.specs.declared.object.Class.TheVariants.{Object}
 use Rattle.kr_classes_members.specs.Shown.{method_shown, table_in}
-use Rattle.kr_classes_roster.specs.Rosters.{all_methods, method_numbered}
+use Rattle.kr_classes_members.specs.Rosters.{all_methods, method_numbered}
 use Rattle.kr_mean.specs.Program.{Program, overriding}
 use Rattle.kr_pure_effects.proofs.runnable.overriders.Given as goal
 

@@ -9,7 +9,7 @@ use Rattle.kr_types_meaning.specs.Running.{running}
 use Rattle.kr_ast.specs.Files.{file_at}
 use Rattle.kr_types.specs.Programs.{scope_there}
 use Rattle.kr_classes_members.specs.Shown.{table_in}
-use Rattle.kr_classes_types.specs.Types.{type_at}
+use Rattle.kr_classes_names.specs.Types.{type_at}
 use Rattle.kr_mean.specs.Program.{Program}
 use Rattle.kr_mean.specs.Code.{classes_of, classes_run}
 use Rattle.kr_pure_effects.proofs.Found.{for_all}

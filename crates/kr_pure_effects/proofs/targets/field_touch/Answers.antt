@@ -2,7 +2,7 @@ use Rattle.std.proofs.Common.{sym, ap, ◌∙◌, subst, ℕ, ◌<◌, length, a
 use Rattle.std.specs.Prelude.{Option, IfSome, option_map}
 use Rattle.kr_classes_table.specs.Table.{Field}
 use Rattle.kr_classes_members.specs.Shown.{table_in}
-use Rattle.kr_classes_roster.specs.Rosters.{all_fields, field_numbered}
+use Rattle.kr_classes_members.specs.Rosters.{all_fields, field_numbered}
 use Rattle.kr_types_resolving.specs.Shown.{meaning_shown}
 use Rattle.kr_types_resolving.proofs.Chosen.{field_there}
 use Rattle.kr_types_resolving.proofs.Rostered.{field_is}

@@ -2,7 +2,7 @@ use Rattle.std.proofs.Common.{◌≡◌, List, drop, map}
 use Rattle.kr_ast.specs.Arena.{Arena}
 use Rattle.kr_classes_members.specs.Shown.{table_in}
 use Rattle.kr_classes_members.specs.Kept.{AreMembers}
-use Rattle.kr_classes_types.specs.Types.{type_at}
+use Rattle.kr_classes_names.specs.Types.{type_at}
 use Rattle.kr_mean.specs.Program.{Program}
 use Rattle.kr_pure_effects.specs.Touches.{touches_some}
 use Rattle.kr_pure_effects.proofs.touch.touches_one.Given as goal

@@ -1,7 +1,6 @@
-use Rattle.std.proofs.Common.{List, ◌∷◌, refl}
+use Rattle.std.proofs.Common.{List, refl}
 use Rattle.std.specs.Prelude.{reverse}
 use Rattle.kr_value.specs.declared.value.Value.{Value}
-use Rattle.kr_mean.specs.Steps.{bind, give}
 use Rattle.kr_code.specs.Doing.{values_at}
 use Rattle.kr_code.specs.Tables.{listed}
 use Rattle.kr_run_state.specs.Worlds.{state_at}

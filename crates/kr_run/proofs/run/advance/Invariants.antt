@@ -4,7 +4,7 @@ use Rattle.kr_run_frames.specs.Leads.{Leads}
 use Rattle.kr_run_frames.specs.Frames.{resumed}
 use Rattle.kr_run.proofs.run.advance.Given as goal
 
--- what is left to do is what there was to do
+-- the rest of the run keeps its outcome
 abbrev pub invariant-steps : goal.invariant-steps
 invariant-steps l = Leads l.code (Ok l.task) l.stack l.world l.fn.world (λ d x. resumed l.code d l.fn.stack l.fn.task (state_at l.fn.world x))
 

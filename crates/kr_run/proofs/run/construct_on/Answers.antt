@@ -1,8 +1,7 @@
-use Rattle.std.proofs.Common.{List, ◌∷◌, refl}
-use Rattle.std.specs.Prelude.{reverse}
+use Rattle.std.proofs.Common.{List, refl}
 use Rattle.kr_value.specs.declared.value.Value.{Value}
-use Rattle.kr_mean.specs.Steps.{bind, give}
-use Rattle.kr_code.specs.Doing.{values_at, constructed}
+use Rattle.kr_mean.specs.Steps.{give}
+use Rattle.kr_code.specs.Doing.{constructed}
 use Rattle.kr_code.specs.Tables.{listed}
 use Rattle.kr_run_state.specs.Worlds.{state_at}
 use Rattle.kr_run_frames.specs.Frame as frames

@@ -1,4 +1,4 @@
--- What is done with all arguments that are there.
+-- The use of all arguments.
 use Rattle.std.proofs.Common.{List, Some, subst, rules, ◌≡◌, ◌∷◌, []}
 use Rattle.kr_value.specs.declared.value.Value.{Value}
 use Rattle.kr_code.specs.Doing.{run_method}

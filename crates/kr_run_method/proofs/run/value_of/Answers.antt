@@ -1,4 +1,4 @@
--- What is done where no frame waits.
+-- No frame waits.
 use Rattle.std.proofs.Common.{List, subst}
 use Rattle.kr_run_frames.specs.Frame.{Frame}
 use Rattle.kr_run_frames.specs.Frames.{resumed}

@@ -8,8 +8,8 @@ use Rattle.kr_run_state.proofs.Candidates.{kept_same}
 use Rattle.kr_run_frames.specs.declared.task.Task.TheVariants as tasks
 use Rattle.kr_run_frames.specs.Frames.{out_flow}
 use Rattle.kr_run_frames.proofs.Outcomes.{leads_alike}
-use Rattle.kr_run_moves.proofs.Going.{none_listed}
 use Rattle.kr_run_moves.proofs.values.declare_none.Goals as goal
+use Rattle.kr_run_known.proofs.Going.{none_listed}
 
 pub returns : goal.returns
 returns c =

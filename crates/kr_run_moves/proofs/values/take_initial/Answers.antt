@@ -1,4 +1,4 @@
-use Rattle.std.proofs.Common.{Err, ap, sym}
+use Rattle.std.proofs.Common.{Err, ap}
 use Rattle.kr_value.specs.declared.value.Value.{Value}
 use Rattle.kr_mean.specs.Steps.{assign, bind, give}
 use Rattle.kr_code.specs.Doing.{Doing, all_declared}

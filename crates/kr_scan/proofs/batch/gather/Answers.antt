@@ -5,7 +5,7 @@ use Rattle.kr_base.specs.Entries.{is_spent}
 use Rattle.kr_mean.specs.Entries.{all_entries, mark_of}
 use Rattle.kr_mean.specs.declared.row.Row.{Row}
 use Rattle.kr_step.specs.declared.stage.Next.{Next}
-use Rattle.kr_step_span.specs.Scans.{Scans, Finds, left, entry_at}
+use Rattle.kr_step.specs.Scans.{Scans, Finds, left, entry_at}
 use Rattle.kr_judge_prepared.specs.Preparing.{Ready}
 use Rattle.kr_space_problem.specs.Posed.{posed}
 use Rattle.kr_survey.specs.Scans.{row_of as rows_at}
@@ -37,9 +37,9 @@ returns-in-Ok-End-clause-gathered g c =
     let upto = c.loop-why.span.upto in
     let done = inv.front.0 in
     let is = inv.front.1 in
-    let runs = runs_along P (g.C.Slots.space c.args.span.now.candidates) (g.C.Slots.space c.loop-why.span.candidates) (g.C.Candidates.order c.args.span.now.candidates) (g.C.Candidates.order c.loop-why.span.candidates)
-    (g.C.Candidates.ending c.args.span.now.candidates) (g.C.Candidates.ending c.loop-why.span.candidates) inv.space inv.order inv.ending c.requires.runs_on in
-    let v = g.C.Candidates.vector c.next.new.self.candidates in
+    let runs = runs_along P (g.C.Slots.space c.args.span.now.candidates) (g.C.Slots.space c.loop-why.span.candidates) (g.C.Candidate.order c.args.span.now.candidates) (g.C.Candidate.order c.loop-why.span.candidates)
+    (g.C.Candidate.ending c.args.span.now.candidates) (g.C.Candidate.ending c.loop-why.span.candidates) inv.space inv.order inv.ending c.requires.runs_on in
+    let v = g.C.Candidate.vector c.next.new.self.candidates in
     let new = c.next.new.self.cut in
     let none = subst (λ (n : Next). Scans P upto cut v new n) c.in-Ok-End.field-0-is (c.in-Ok-End.ensures.found P runs) in
     ended all c.args.span.now.cut c.args.span.now.upto c.args.most done [] (left P upto cut) c.loop-why.rows.items c.loop-why.tried is new none.0
@@ -53,9 +53,9 @@ returns-then-is_spent-clause-gathered g c =
     let upto = c.loop-why.span.upto in
     let done = inv.front.0 in
     let is = inv.front.1 in
-    let runs = runs_along P (g.C.Slots.space c.args.span.now.candidates) (g.C.Slots.space c.loop-why.span.candidates) (g.C.Candidates.order c.args.span.now.candidates) (g.C.Candidates.order c.loop-why.span.candidates)
-    (g.C.Candidates.ending c.args.span.now.candidates) (g.C.Candidates.ending c.loop-why.span.candidates) inv.space inv.order inv.ending c.requires.runs_on in
-    let v = g.C.Candidates.vector c.next.new.self.candidates in
+    let runs = runs_along P (g.C.Slots.space c.args.span.now.candidates) (g.C.Slots.space c.loop-why.span.candidates) (g.C.Candidate.order c.args.span.now.candidates) (g.C.Candidate.order c.loop-why.span.candidates)
+    (g.C.Candidate.ending c.args.span.now.candidates) (g.C.Candidate.ending c.loop-why.span.candidates) inv.space inv.order inv.ending c.requires.runs_on in
+    let v = g.C.Candidate.vector c.next.new.self.candidates in
     let new = c.next.new.self.cut in
     let ending = c.in-Ok-Found.ending in
     let found : Finds P upto cut v new ending = subst (λ (n : Next). Scans P upto cut v new n) c.in-Ok-Found.field-0-is (c.in-Ok-Found.ensures.found P runs) in
@@ -74,9 +74,9 @@ returns-then-tried-most-clause-gathered g c =
     let upto = c.loop-why.span.upto in
     let done = inv.front.0 in
     let is = inv.front.1 in
-    let runs = runs_along P (g.C.Slots.space c.args.span.now.candidates) (g.C.Slots.space c.loop-why.span.candidates) (g.C.Candidates.order c.args.span.now.candidates) (g.C.Candidates.order c.loop-why.span.candidates)
-    (g.C.Candidates.ending c.args.span.now.candidates) (g.C.Candidates.ending c.loop-why.span.candidates) inv.space inv.order inv.ending c.requires.runs_on in
-    let v = g.C.Candidates.vector c.next.new.self.candidates in
+    let runs = runs_along P (g.C.Slots.space c.args.span.now.candidates) (g.C.Slots.space c.loop-why.span.candidates) (g.C.Candidate.order c.args.span.now.candidates) (g.C.Candidate.order c.loop-why.span.candidates)
+    (g.C.Candidate.ending c.args.span.now.candidates) (g.C.Candidate.ending c.loop-why.span.candidates) inv.space inv.order inv.ending c.requires.runs_on in
+    let v = g.C.Candidate.vector c.next.new.self.candidates in
     let new = c.next.new.self.cut in
     let ending = c.in-Ok-Found.ending in
     let found : Finds P upto cut v new ending = subst (λ (n : Next). Scans P upto cut v new n) c.in-Ok-Found.field-0-is (c.in-Ok-Found.ensures.found P runs) in
@@ -95,9 +95,9 @@ loop-why-preserved g c =
     let upto = c.loop-why.span.upto in
     let done = inv.front.0 in
     let is = inv.front.1 in
-    let runs = runs_along P (g.C.Slots.space c.args.span.now.candidates) (g.C.Slots.space c.loop-why.span.candidates) (g.C.Candidates.order c.args.span.now.candidates) (g.C.Candidates.order c.loop-why.span.candidates)
-    (g.C.Candidates.ending c.args.span.now.candidates) (g.C.Candidates.ending c.loop-why.span.candidates) inv.space inv.order inv.ending c.requires.runs_on in
-    let v = g.C.Candidates.vector c.next.new.self.candidates in
+    let runs = runs_along P (g.C.Slots.space c.args.span.now.candidates) (g.C.Slots.space c.loop-why.span.candidates) (g.C.Candidate.order c.args.span.now.candidates) (g.C.Candidate.order c.loop-why.span.candidates)
+    (g.C.Candidate.ending c.args.span.now.candidates) (g.C.Candidate.ending c.loop-why.span.candidates) inv.space inv.order inv.ending c.requires.runs_on in
+    let v = g.C.Candidate.vector c.next.new.self.candidates in
     let new = c.next.new.self.cut in
     let ending = c.in-Ok-Found.ending in
     let found : Finds P upto cut v new ending = subst (λ (n : Next). Scans P upto cut v new n) c.in-Ok-Found.field-0-is (c.in-Ok-Found.ensures.found P runs) in

@@ -2,7 +2,7 @@ use Rattle.std.proofs.Common.{◌≡◌, ℕ, ◌+◌, ◌-◌, ◌<◌, ◌≤�
 use Rattle.kr_base.specs.declared.entry.Entry.{Entry}
 use Rattle.kr_mean.specs.Entries.{all_entries}
 use Rattle.kr_mean.specs.declared.row.Row.{Row}
-use Rattle.kr_step_span.specs.Scans.{left}
+use Rattle.kr_step.specs.Scans.{left}
 use Rattle.kr_space_problem.specs.Posed.{posed}
 use Rattle.kr_scan.proofs.Gathering.{IsFront}
 use Rattle.kr_scan.proofs.batch.gather.Given as goal
@@ -10,8 +10,8 @@ use Rattle.kr_scan.proofs.batch.gather.Given as goal
 abbrev pub invariant-loop-why : goal.invariant-loop-why
 invariant-loop-why g l = record {
   space : g.C.Slots.space l.span.candidates ≡ g.C.Slots.space l.initial.span.candidates;
-  order : g.C.Candidates.order l.span.candidates ≡ g.C.Candidates.order l.initial.span.candidates;
-  ending : g.C.Candidates.ending l.span.candidates ≡ g.C.Candidates.ending l.initial.span.candidates;
+  order : g.C.Candidate.order l.span.candidates ≡ g.C.Candidate.order l.initial.span.candidates;
+  ending : g.C.Candidate.ending l.span.candidates ≡ g.C.Candidate.ending l.initial.span.candidates;
   upto : l.span.upto ≡ l.initial.span.upto;
   maker : l.maker ≡ l.initial.maker;
   counted : l.runs ≤ l.initial.runs + l.tried;

@@ -8,16 +8,16 @@ use Rattle.kr_scan.proofs.Rows.{row_is, structure_same}
 use Rattle.kr_scan.proofs.maker.row_for.Goals as goal
 
 pub structure_of-requires-clause-well : goal.structure_of-requires-clause-well
-structure_of-requires-clause-well g c = well_formed (posed c.args.prepared.now.problem) c.layout-layout.result.now c.layout-layout.ensures.laid c.laws.ensures.well
+structure_of-requires-clause-well c = well_formed (posed c.args.prepared.now.problem) c.layout-layout.result.now c.layout-layout.ensures.laid c.laws.ensures.well
 
 pub structure_of-requires-clause-vector : goal.structure_of-requires-clause-vector
-structure_of-requires-clause-vector g c =
-    subst (λ (s : Space). IsVector s (g.C.Candidates.vector c.args.candidate.now)) (space_same (posed c.args.prepared.now.problem) c.layout-layout.result.now c.layout-layout.ensures.laid) c.requires.vector
+structure_of-requires-clause-vector c =
+    subst (λ (s : Space). IsVector s c.args.vector.now) (space_same (posed c.args.prepared.now.problem) c.layout-layout.result.now c.layout-layout.ensures.laid) c.requires.vector
 
 pub returns-clause-row : goal.returns-clause-row
-returns-clause-row g c =
+returns-clause-row c =
     let P = posed c.args.prepared.now.problem in
-    let v = g.C.Candidates.vector c.args.candidate.now in
+    let v = c.args.vector.now in
     let verdict = subst (λ (r : Ready). c.in_ok-verdict.verdict ≡ verdict_of (posed r.problem) v) c.requires.tester c.in_ok-verdict.ensures.verdict in
     row_is P v c.in_ok-key.key c.in_ok-structure.structure c.in_ok-verdict.verdict verdict (c.in_ok-key.ensures ∙ c.requires.key)
     (c.in_ok-structure.ensures ∙ sym (structure_same P c.layout-layout.result.now v c.layout-layout.ensures.laid))

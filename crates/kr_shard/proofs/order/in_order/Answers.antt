@@ -1,6 +1,6 @@
 use Rattle.std.proofs.Common.{rules, ◌≡◌, ◌∙◌, ◌++◌, ◌∷◌, [], List, ap, arith, length, sym}
 use Rattle.std.proofs.lemmas.Grind.{common_steps}
-use Rattle.kr_shard_reading.specs.declared.shard.Shard.{Shard}
+use Rattle.kr_shard.specs.declared.shard.Shard.{Shard}
 use Rattle.kr_shard.specs.Merging.{numbered}
 use Rattle.kr_shard.specs.declared.order.Given.{Given}
 use Rattle.kr_shard.proofs.Orders.{onto, onto_end, onto_more, onto_none}

@@ -1,6 +1,6 @@
 use Rattle.std.proofs.Common.{◌≡◌, drop}
 use Rattle.kr_classes_table.specs.Arrays.{array_number, array_number_from}
-use Rattle.kr_classes_types.specs.Types.{type_at}
+use Rattle.kr_classes_names.specs.Types.{type_at}
 use Rattle.kr_space_names.specs.Collected.{types_shown}
 use Rattle.kr_space.proofs.array_domains.array_number.Given as goal
 

@@ -6,6 +6,6 @@ pub returns : goal.returns
 returns c =
     let basis = c.args.basis.now in
     ok_same c.new.result _ _
-    (layout_is (files_of basis.classes.now) basis.document.now c.args.mode c.root_number-root.result c.number_or_none.result c.in_ok-parameters.parameters c.args.domains c.args.values.now
-    c.requires.values c.root_number-root.ensures c.number_or_none.ensures c.in_ok-parameters.ensures c.requires.domains)
+    (layout_is (files_of basis.classes.now) basis.document.now c.args.mode c.args.root c.in_ok-parameters.parameters c.args.domains c.args.values.now
+    c.requires.values c.requires.root c.in_ok-parameters.ensures c.requires.domains)
     c.new.ensures

@@ -1,5 +1,5 @@
 use Rattle.std.proofs.Common.{◌∙◌}
-use Rattle.kr_classes_types.proofs.Growing.{extends_on}
+use Rattle.kr_classes_names.proofs.Growing.{extends_on}
 use Rattle.kr_mean.specs.Problem.{choices_in}
 use Rattle.kr_fin.specs.declared.document.ArrayBound.{ArrayBound}
 use Rattle.kr_space_meaning.specs.Bounds.{lengths_of}

@@ -1,5 +1,5 @@
 use Rattle.std.proofs.Common.{◌≡◌, fold, drop}
-use Rattle.kr_classes_types.specs.Types.{Extends}
+use Rattle.kr_classes_names.specs.Types.{Extends}
 use Rattle.kr_space_meaning.specs.Faults.{numbers_of_lengths}
 use Rattle.kr_space_meaning.specs.Order.{lesser}
 use Rattle.kr_space.specs.Bounded.{IsBounded, problem_in, setting_in}

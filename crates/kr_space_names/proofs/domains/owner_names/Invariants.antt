@@ -2,7 +2,7 @@ use Rattle.std.proofs.Common.{◌≡◌, fold, drop}
 use Rattle.std.specs.Prelude.{map}
 use Rattle.kr_ast.specs.Arena.{root}
 use Rattle.kr_classes_table.specs.Table.{headings_of}
-use Rattle.kr_classes_types.specs.Types.{Extends}
+use Rattle.kr_classes_names.specs.Types.{Extends}
 use Rattle.kr_space_meaning.specs.Order.{lesser}
 use Rattle.kr_space_meaning.specs.Faults.{owners_unknown}
 use Rattle.kr_space_names.proofs.domains.owner_names.Given as goal

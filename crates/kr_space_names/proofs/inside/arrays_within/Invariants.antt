@@ -1,7 +1,7 @@
 use Rattle.std.proofs.Common.{◌≡◌, ◌<◌, ◌++◌}
 use Rattle.std.specs.Prelude.{reverse}
 use Rattle.kr_classes_table.specs.Arrays.{arrays_in}
-use Rattle.kr_classes_types.specs.Types.{count, type_at}
+use Rattle.kr_classes_names.specs.Types.{count, type_at}
 use Rattle.kr_space_names.specs.Collected.{AreNumbers, depth, types_shown}
 use Rattle.kr_space_names.proofs.inside.arrays_within.Given as goal
 

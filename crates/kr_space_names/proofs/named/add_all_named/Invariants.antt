@@ -4,8 +4,8 @@ use Rattle.kr_ast.specs.Arena.{root, tree_in}
 use Rattle.kr_classes_table.specs.Arrays.{arrays_named}
 use Rattle.kr_classes_table.specs.Table.{headings_of}
 use Rattle.kr_ast.specs.Files.{file_at}
-use Rattle.kr_classes_types.specs.Numbers.{AreNodeTypes}
-use Rattle.kr_classes_types.specs.Types.{Extends}
+use Rattle.kr_classes_names.specs.Numbers.{AreNodeTypes}
+use Rattle.kr_classes_names.specs.Types.{Extends}
 use Rattle.kr_space_names.specs.Collected.{AreNumbers, IsClosed, collected, types_shown}
 use Rattle.kr_space_names.proofs.named.add_all_named.Given as goal
 

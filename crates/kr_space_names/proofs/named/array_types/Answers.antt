@@ -5,7 +5,7 @@ use Rattle.kr_classes_table.specs.Arrays.{arrays_named}
 use Rattle.kr_classes_table.specs.Nodes.{nodes}
 use Rattle.kr_classes_table.specs.Table.{headings_of}
 use Rattle.kr_ast.specs.Files.{no_file}
-use Rattle.kr_classes_types.proofs.Growing.{extends_itself, extends_on}
+use Rattle.kr_classes_names.proofs.Growing.{extends_itself, extends_on}
 use Rattle.kr_space_names.specs.Collected.{collected, types_shown}
 use Rattle.kr_space_names.proofs.Collecting.{file_next, node_types_kept, no_numbers}
 use Rattle.kr_space_names.proofs.Closed.{closed_none}

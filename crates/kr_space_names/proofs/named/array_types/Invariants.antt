@@ -4,8 +4,8 @@ use Rattle.kr_ast.specs.Arena.{root}
 use Rattle.kr_classes_table.specs.Arrays.{array_types_of, arrays_named}
 use Rattle.kr_classes_table.specs.Nodes.{nodes}
 use Rattle.kr_classes_table.specs.Table.{headings_of}
-use Rattle.kr_classes_types.specs.Numbers.{AreNodeTypes}
-use Rattle.kr_classes_types.specs.Types.{Extends}
+use Rattle.kr_classes_names.specs.Numbers.{AreNodeTypes}
+use Rattle.kr_classes_names.specs.Types.{Extends}
 use Rattle.kr_space_names.specs.Collected.{AreNumbers, IsClosed, collected, types_shown}
 use Rattle.kr_space_names.proofs.named.array_types.Given as goal
 

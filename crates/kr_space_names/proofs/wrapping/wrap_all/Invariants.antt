@@ -1,6 +1,6 @@
 use Rattle.std.proofs.Common.{◌≡◌, Option, length}
 use Rattle.kr_classes_table.specs.Types.{JavaType}
-use Rattle.kr_classes_types.specs.Types.{Extends}
+use Rattle.kr_classes_names.specs.Types.{Extends}
 use Rattle.kr_space_names.specs.Texts.{Stands, wrapped}
 use Rattle.kr_space_names.proofs.wrapping.wrap_all.Given as goal
 

@@ -1,7 +1,7 @@
 use Rattle.std.proofs.Common.{rules, map, take}
 use Rattle.kr_ast.specs.Arena.{root}
 use Rattle.kr_classes_table.specs.Table.{headings_of}
-use Rattle.kr_classes_types.proofs.Growing.{extends_on}
+use Rattle.kr_classes_names.proofs.Growing.{extends_on}
 use Rattle.kr_space_meaning.specs.Bounds.{bounded}
 use Rattle.kr_space_rules.proofs.Bounded.{bounds_kept, bounds_more}
 use Rattle.kr_space_rules.proofs.bounds.bounds_of.Goals as goal

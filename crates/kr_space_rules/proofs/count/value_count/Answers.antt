@@ -1,7 +1,7 @@
-use Rattle.std.proofs.Common.{◌≡◌, ◌+◌, ◌-◌, ◌^◌, ℕ, List, length, map, min, ap, sym, ◌∙◌, drop, arith}
+use Rattle.std.proofs.Common.{◌≡◌, ◌+◌, ◌-◌, ◌^◌, ℕ, List, length, map, min, ap, ◌∙◌, drop, arith}
 use Rattle.std.proofs.lemmas.List.{drop_all}
 use Rattle.kr_space_layout.specs.declared.item.DomainEntry.{DomainEntry}
-use Rattle.kr_space_layout.specs.Stretches.{all_choices, count_of, stretch_of}
+use Rattle.kr_space_layout.specs.Stretches.{all_choices, stretch_of}
 use Rattle.kr_space_rules.proofs.Numbers.{counted_more}
 use Rattle.kr_space_rules.proofs.count.value_count.Goals as goal
 

@@ -1,6 +1,6 @@
 use Rattle.std.proofs.Common.{map, ap, ◌∙◌}
 use Rattle.kr_ast.specs.Arena.{root}
-use Rattle.kr_classes_types.proofs.Growing.{extends_on}
+use Rattle.kr_classes_names.proofs.Growing.{extends_on}
 use Rattle.kr_space_meaning.specs.Bounds.{item_values, setting_of}
 use Rattle.kr_space_rules.specs.Widths.{width_shown}
 use Rattle.kr_space_rules.proofs.Bounded.{bounds_kept}

@@ -1,7 +1,7 @@
 use Rattle.std.proofs.Common.{◌≡◌, ◌++◌, map, drop}
 use Rattle.kr_ast.specs.Arena.{root}
 use Rattle.kr_space_layout.specs.Items.{domain_of}
-use Rattle.kr_classes_types.specs.Types.{Extends}
+use Rattle.kr_classes_names.specs.Types.{Extends}
 use Rattle.kr_space_meaning.specs.Bounds.{setting_of, values_with}
 use Rattle.kr_space_rules.specs.Entries.{AreBounds}
 use Rattle.kr_space_rules.specs.Widths.{width_shown}

@@ -1,5 +1,5 @@
 use Rattle.std.proofs.Common.{◌≡◌, fold, drop}
-use Rattle.kr_classes_types.specs.Types.{Extends}
+use Rattle.kr_classes_names.specs.Types.{Extends}
 use Rattle.kr_space_meaning.specs.Order.{lesser}
 use Rattle.kr_space_meaning.specs.Faults.{no_fields}
 use Rattle.kr_space_rules.specs.Classes.{AreTyped, table_of}

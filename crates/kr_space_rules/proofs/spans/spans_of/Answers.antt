@@ -1,4 +1,4 @@
-use Rattle.std.proofs.Common.{◌≡◌, ◌<◌, ◌+◌, ◌++◌, ℕ, List, [], ◌∷◌, length, get_or, All, map, ap, sym, subst, ◌∙◌, drop, take}
+use Rattle.std.proofs.Common.{◌≡◌, ◌<◌, ◌+◌, ◌++◌, ℕ, List, length, get_or, All, map, ap, sym, subst, ◌∙◌, drop, take}
 use Rattle.std.proofs.lemmas.List.{append_assoc, drop_more, map-append, take_all, take_more}
 use Rattle.std.proofs.lemmas.List.Elements.{All-push}
 use Rattle.kr_space_layout.specs.declared.item.DomainEntry.{DomainEntry}
@@ -6,7 +6,6 @@ use Rattle.kr_space_layout.specs.declared.stretch.Block.{Block}
 use Rattle.kr_space_layout.specs.declared.stretch.Stretch.{Stretch}
 use Rattle.kr_space_layout.specs.Stretches.{all_choices, choices_of, stretch_of}
 use Rattle.kr_space_rules.specs.Spans.{AreTold, covered, numbers_of}
-use Rattle.kr_space_rules.specs.declared.spans.Span.{Span}
 use Rattle.kr_space_rules.proofs.spans.spans_of.Goals as goal
 
 -- the values of one entry more

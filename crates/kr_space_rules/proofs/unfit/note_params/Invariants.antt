@@ -1,5 +1,5 @@
 use Rattle.std.proofs.Common.{◌≡◌, fold, drop}
-use Rattle.kr_classes_types.specs.Types.{Extends}
+use Rattle.kr_classes_names.specs.Types.{Extends}
 use Rattle.kr_space_meaning.specs.Order.{lesser}
 use Rattle.kr_space_meaning.specs.Faults.{params_unfit}
 use Rattle.kr_space_rules.specs.Classes.{AreTyped, table_of}
@@ -7,7 +7,7 @@ use Rattle.kr_space_rules.proofs.unfit.note_params.Given as goal
 
 abbrev pub invariant-loop-domain : goal.invariant-loop-domain
 invariant-loop-domain l = record {
-  noted : fold lesser l.initial.least (params_unfit (table_of l.classes) l.root l.domains) ≡ fold lesser l.least (params_unfit (table_of l.classes) l.root (drop l.domain-index l.domains));
+  noted : fold lesser l.initial.least (params_unfit (table_of l.classes) l.document l.root l.domains) ≡ fold lesser l.least (params_unfit (table_of l.classes) l.document l.root (drop l.domain-index l.domains));
   typed : AreTyped l.classes l.types;
   extends : Extends l.initial.types l.types;
 }

@@ -10,9 +10,9 @@ use Rattle.kr_step.proofs.seeking.come_to.Goals as goal
 pub loop-number-init : goal.loop-number-init
 loop-number-init g c =
     let S = g.C.Slots.space c.args.candidates.now in
-    let o = g.C.Candidates.order c.args.candidates.now in
-    let m = g.C.Candidates.ending c.args.candidates.now in
-    let w = g.C.Candidates.vector c.args.candidates.now in
+    let o = g.C.Candidate.order c.args.candidates.now in
+    let m = g.C.Candidate.ending c.args.candidates.now in
+    let w = g.C.Candidate.vector c.args.candidates.now in
     record {
       space = refl;
       order = refl;
@@ -25,41 +25,41 @@ loop-number-init g c =
 pub returns-in-Past-clause-stands : goal.returns-in-Past-clause-stands
 returns-in-Past-clause-stands g c =
     let S = g.C.Slots.space c.args.candidates.now in
-    let o = g.C.Candidates.order c.args.candidates.now in
+    let o = g.C.Candidate.order c.args.candidates.now in
     let T = g.C.Slots.space c.run.new.self in
-    let p = g.C.Candidates.order c.run.new.self in
+    let p = g.C.Candidate.order c.run.new.self in
     let inv = c.loop-number.invariant in
     let k : ℕ = c.loop-number.number-index in
     let number : ℕ = get_or c.args.after.now c.loop-number.number-index 0 in
     let cut = cut_here c.args.after.now c.loop-number.number-index c.loop-number.path.items c.loop-number-test.true inv.numbers in
     let leads = c.in_ok-follow.ensures.leads c.args.after.now (drop (c.loop-number.number-index + 1) c.args.after.now) cut in
-    leads_along S T o p c.args.after.now number c.in_ok-follow.field-0 Past (g.C.Candidates.vector c.follow.new.candidates) c.loop-number.path.items c.follow.new.path.items (c.run.ensures.space ∙ inv.space) (c.run.ensures.order ∙ inv.order) c.in-Past.is leads
+    leads_along S T o p c.args.after.now number c.in_ok-follow.field-0 Past (g.C.Candidate.vector c.follow.new.candidates) c.loop-number.path.items c.follow.new.path.items (c.run.ensures.space ∙ inv.space) (c.run.ensures.order ∙ inv.order) c.in-Past.is leads
 
 pub returns-in-Stuck-clause-stands : goal.returns-in-Stuck-clause-stands
 returns-in-Stuck-clause-stands g c =
     let S = g.C.Slots.space c.args.candidates.now in
-    let o = g.C.Candidates.order c.args.candidates.now in
+    let o = g.C.Candidate.order c.args.candidates.now in
     let T = g.C.Slots.space c.run.new.self in
-    let p = g.C.Candidates.order c.run.new.self in
+    let p = g.C.Candidate.order c.run.new.self in
     let inv = c.loop-number.invariant in
     let k : ℕ = c.loop-number.number-index in
     let number : ℕ = get_or c.args.after.now c.loop-number.number-index 0 in
     let cut = cut_here c.args.after.now c.loop-number.number-index c.loop-number.path.items c.loop-number-test.true inv.numbers in
     let leads = c.in_ok-follow.ensures.leads c.args.after.now (drop (c.loop-number.number-index + 1) c.args.after.now) cut in
-    leads_along S T o p c.args.after.now number c.in_ok-follow.field-0 Stuck (g.C.Candidates.vector c.follow.new.candidates) c.loop-number.path.items c.follow.new.path.items (c.run.ensures.space ∙ inv.space) (c.run.ensures.order ∙ inv.order) c.in-Stuck.is leads
+    leads_along S T o p c.args.after.now number c.in_ok-follow.field-0 Stuck (g.C.Candidate.vector c.follow.new.candidates) c.loop-number.path.items c.follow.new.path.items (c.run.ensures.space ∙ inv.space) (c.run.ensures.order ∙ inv.order) c.in-Stuck.is leads
 
 pub loop-number-preserved : goal.loop-number-preserved
 loop-number-preserved g c =
     let S = g.C.Slots.space c.args.candidates.now in
-    let o = g.C.Candidates.order c.args.candidates.now in
+    let o = g.C.Candidate.order c.args.candidates.now in
     let T = g.C.Slots.space c.run.new.self in
-    let p = g.C.Candidates.order c.run.new.self in
+    let p = g.C.Candidate.order c.run.new.self in
     let inv = c.loop-number.invariant in
     let k : ℕ = c.loop-number.number-index in
     let number : ℕ = get_or c.args.after.now c.loop-number.number-index 0 in
     let cut = cut_here c.args.after.now c.loop-number.number-index c.loop-number.path.items c.loop-number-test.true inv.numbers in
     let leads = c.in_ok-follow.ensures.leads c.args.after.now (drop (c.loop-number.number-index + 1) c.args.after.now) cut in
-    let on = leads_along S T o p c.args.after.now number c.in_ok-follow.field-0 On (g.C.Candidates.vector c.follow.new.candidates) c.loop-number.path.items c.follow.new.path.items (c.run.ensures.space ∙ inv.space) (c.run.ensures.order ∙ inv.order) c.in-On.is leads in
+    let on = leads_along S T o p c.args.after.now number c.in_ok-follow.field-0 On (g.C.Candidate.vector c.follow.new.candidates) c.loop-number.path.items c.follow.new.path.items (c.run.ensures.space ∙ inv.space) (c.run.ensures.order ∙ inv.order) c.in-On.is leads in
     let next : take (c.loop-number.number-index + 1) c.args.after.now ≡ take c.loop-number.number-index c.args.after.now ++ number ∷ [] = (take_at_read c.args.after.now c.loop-number.number-index 0 c.loop-number-test.true).1 in
     record {
       space = c.follow.ensures.space ∙ (c.run.ensures.space ∙ inv.space);

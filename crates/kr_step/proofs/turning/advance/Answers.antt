@@ -8,15 +8,15 @@ use Rattle.kr_step.proofs.turning.advance.Goals as goal
 pub returns-then-raise-clause-advanced : goal.returns-then-raise-clause-advanced
 returns-then-raise-clause-advanced g c = λ after stuck.
     let S = g.C.Slots.space c.args.candidates.now in
-    let o = g.C.Candidates.order c.args.candidates.now in
+    let o = g.C.Candidate.order c.args.candidates.now in
     let T = g.C.Slots.space c.loop-slot.candidates in
-    let p = g.C.Candidates.order c.loop-slot.candidates in
-    let v = g.C.Candidates.vector c.loop-slot.candidates in
+    let p = g.C.Candidate.order c.loop-slot.candidates in
+    let v = g.C.Candidate.vector c.loop-slot.candidates in
     let inv = c.loop-slot.invariant in
     let here : IsStuck S o after v (c.pop.new.self.items ++ (c.in-Some.slot, c.in-Some.index) ∷ []) = subst (IsStuck S o after v) c.in-Some.ensures.items (inv.stuck after stuck) in
     let there = stuck_along S T o p after v (c.pop.new.self.items ++ (c.in-Some.slot, c.in-Some.index) ∷ []) inv.space inv.order here in
-    let turned : Turned T p after true (g.C.Candidates.vector c.raise.new.candidates) c.raise.new.path.items = subst (λ (b : Bool). Turned T p after b (g.C.Candidates.vector c.raise.new.candidates) c.raise.new.path.items) c.if-raise.true (c.raise.ensures.turned after there) in
-    turned_along S T o p after true (g.C.Candidates.vector c.raise.new.candidates) c.raise.new.path.items inv.space inv.order turned
+    let turned : Turned T p after true (g.C.Candidate.vector c.raise.new.candidates) c.raise.new.path.items = subst (λ (b : Bool). Turned T p after b (g.C.Candidate.vector c.raise.new.candidates) c.raise.new.path.items) c.if-raise.true (c.raise.ensures.turned after there) in
+    turned_along S T o p after true (g.C.Candidate.vector c.raise.new.candidates) c.raise.new.path.items inv.space inv.order turned
 
 pub loop-slot-smaller : goal.loop-slot-smaller
 loop-slot-smaller g c =
@@ -26,18 +26,18 @@ loop-slot-smaller g c =
 pub loop-slot-preserved : goal.loop-slot-preserved
 loop-slot-preserved g c =
     let S = g.C.Slots.space c.args.candidates.now in
-    let o = g.C.Candidates.order c.args.candidates.now in
+    let o = g.C.Candidate.order c.args.candidates.now in
     let T = g.C.Slots.space c.loop-slot.candidates in
-    let p = g.C.Candidates.order c.loop-slot.candidates in
-    let v = g.C.Candidates.vector c.loop-slot.candidates in
+    let p = g.C.Candidate.order c.loop-slot.candidates in
+    let v = g.C.Candidate.vector c.loop-slot.candidates in
     let inv = c.loop-slot.invariant in
     let fewer = one_less c.args.path.now.items c.loop-slot.path.items inv.gone.0 c.pop.new.self.items (c.in-Some.slot, c.in-Some.index) inv.gone.1 c.in-Some.ensures.items in
     let gone : c.args.path.now.items ≡ c.raise.new.path.items ++ ((c.in-Some.slot, c.in-Some.index) ∷ [] ++ inv.gone.0) = fewer ∙ ap (λ (v : Vec (ℕ × ℕ) Global). v.items ++ ((c.in-Some.slot, c.in-Some.index) ∷ [] ++ inv.gone.0)) (sym (c.raise.ensures.kept c.if-raise.false)) in
-    let on : (after : List ℕ) → IsStuck S o after v c.loop-slot.path.items → IsStuck S o after (g.C.Candidates.vector c.raise.new.candidates) c.raise.new.path.items = λ after stuck.
+    let on : (after : List ℕ) → IsStuck S o after v c.loop-slot.path.items → IsStuck S o after (g.C.Candidate.vector c.raise.new.candidates) c.raise.new.path.items = λ after stuck.
     let here : IsStuck S o after v (c.pop.new.self.items ++ (c.in-Some.slot, c.in-Some.index) ∷ []) = subst (IsStuck S o after v) c.in-Some.ensures.items stuck in
     let there = stuck_along S T o p after v (c.pop.new.self.items ++ (c.in-Some.slot, c.in-Some.index) ∷ []) inv.space inv.order here in
-    let turned : Turned T p after false (g.C.Candidates.vector c.raise.new.candidates) c.raise.new.path.items = subst (λ (b : Bool). Turned T p after b (g.C.Candidates.vector c.raise.new.candidates) c.raise.new.path.items) c.if-raise.false (c.raise.ensures.turned after there) in
-    turned_along S T o p after false (g.C.Candidates.vector c.raise.new.candidates) c.raise.new.path.items inv.space inv.order turned in
+    let turned : Turned T p after false (g.C.Candidate.vector c.raise.new.candidates) c.raise.new.path.items = subst (λ (b : Bool). Turned T p after b (g.C.Candidate.vector c.raise.new.candidates) c.raise.new.path.items) c.if-raise.false (c.raise.ensures.turned after there) in
+    turned_along S T o p after false (g.C.Candidate.vector c.raise.new.candidates) c.raise.new.path.items inv.space inv.order turned in
     record {
       space = c.raise.ensures.space ∙ inv.space;
       order = c.raise.ensures.order ∙ inv.order;
@@ -50,9 +50,9 @@ loop-slot-preserved g c =
 pub returns-clause-advanced : goal.returns-clause-advanced
 returns-clause-advanced g c = λ after stuck.
     let S = g.C.Slots.space c.args.candidates.now in
-    let o = g.C.Candidates.order c.args.candidates.now in
-    let m = g.C.Candidates.ending c.args.candidates.now in
-    let v = g.C.Candidates.vector c.loop-slot.candidates in
+    let o = g.C.Candidate.order c.args.candidates.now in
+    let m = g.C.Candidate.ending c.args.candidates.now in
+    let v = g.C.Candidate.vector c.loop-slot.candidates in
     let empty : c.pop.new.self.items ≡ [] = c.in_default.ensures.rest ∙ ap (λ (n : ℕ). take (n - 1) c.loop-slot.path.items) c.in_default.ensures.cases.0 in
     let items : c.loop-slot.path.items ≡ c.pop.new.self.items = c.in_default.ensures.items ∙ append-nil c.pop.new.self.items in
     let here : IsStuck S o after v c.pop.new.self.items = subst (IsStuck S o after v) items (c.loop-slot.invariant.stuck after stuck) in

@@ -2,8 +2,8 @@ use Rattle.std.proofs.Common.{sym, ap, ◌∙◌, subst, List, length}
 use Rattle.kr_ast.specs.Arena.{Arena}
 use Rattle.kr_classes_table.specs.Rules.{least}
 use Rattle.kr_classes_members.specs.Shown.{table_in}
-use Rattle.kr_classes_types.proofs.Growing.{number_kept}
-use Rattle.kr_classes_roster.specs.Rosters.{IsRoster}
+use Rattle.kr_classes_names.proofs.Growing.{number_kept}
+use Rattle.kr_classes_members.specs.Rosters.{IsRoster}
 use Rattle.kr_types_judging.specs.Shown.{least_shown}
 use Rattle.kr_types_expressions.specs.Constructors.{AreSingle}
 use Rattle.kr_types.specs.Programs.{AreTypedFiles}

@@ -1,5 +1,5 @@
 use Rattle.std.proofs.Common.{sym, subst, ◌+◌, List}
-use Rattle.kr_classes_types.proofs.Growing.{extends_on, number_kept}
+use Rattle.kr_classes_names.proofs.Growing.{extends_on, number_kept}
 use Rattle.kr_types.specs.declared.program.TypedFile.{TypedFile}
 use Rattle.kr_types.specs.Programs.{AreTypedFiles}
 use Rattle.kr_types.proofs.Faults.{file_more}

@@ -1,5 +1,5 @@
-use Rattle.kr_classes_types.specs.Types.{Extends}
-use Rattle.kr_classes_types.specs.Numbers.{AreNodeTypes}
+use Rattle.kr_classes_names.specs.Types.{Extends}
+use Rattle.kr_classes_names.specs.Numbers.{AreNodeTypes}
 use Rattle.kr_types.specs.Programs.{AreTypedFiles}
 use Rattle.kr_types.proofs.files.typed_files.Given as goal
 

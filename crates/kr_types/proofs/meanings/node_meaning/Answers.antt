@@ -6,7 +6,7 @@ use Rattle.kr_ast.specs.declared.node.Node.TheVariants as nodes
 use Rattle.kr_classes_table.specs.Types.{JavaType}
 use Rattle.kr_classes_table.specs.Constants.{values_of}
 use Rattle.kr_classes_members.specs.Shown.{table_in}
-use Rattle.kr_classes_types.specs.Types.{type_at}
+use Rattle.kr_classes_names.specs.Types.{type_at}
 use Rattle.kr_types_meaning.specs.Scopes.{class_before, meant, method_meant, super_class}
 use Rattle.kr_types_resolving.specs.Meanings.{creation_meaning, field_behind, method_behind, method_meaning, method_of, name_meaning, object_class, super_meaning}
 use Rattle.kr_types_expressions.specs.Notes.{shown_notes}

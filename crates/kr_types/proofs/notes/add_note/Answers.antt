@@ -1,4 +1,4 @@
-use Rattle.kr_classes_types.proofs.Growing.{extends_itself}
+use Rattle.kr_classes_names.proofs.Growing.{extends_itself}
 use Rattle.kr_types_resolving.specs.declared.meaning.Meaning.TheVariants.{Nothing}
 use Rattle.kr_types.proofs.Meant.{kept_more}
 use Rattle.kr_types.proofs.notes.add_note.Goals as goal

@@ -1,6 +1,6 @@
 use Rattle.std.proofs.Common.{◌≡◌, ap, ◌∙◌, subst, length, arith}
 use Rattle.kr_ast.specs.Arena.{Arena, IsArena}
-use Rattle.kr_classes_types.proofs.Growing.{extends_itself, extends_on}
+use Rattle.kr_classes_names.proofs.Growing.{extends_itself, extends_on}
 use Rattle.kr_types.specs.Programs.{setting_in}
 use Rattle.kr_types.specs.Sites.{tree_there}
 use Rattle.kr_types.proofs.Passing.{judged_there, site_kept}

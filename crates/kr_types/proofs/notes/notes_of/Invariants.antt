@@ -1,5 +1,5 @@
 use Rattle.std.proofs.Common.{◌≡◌, length}
-use Rattle.kr_classes_types.specs.Types.{Extends}
+use Rattle.kr_classes_names.specs.Types.{Extends}
 use Rattle.kr_types.specs.Sites.{AreKept, IsSite}
 use Rattle.kr_types.proofs.notes.notes_of.Given as goal
 

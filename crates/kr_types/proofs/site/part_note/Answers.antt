@@ -1,13 +1,12 @@
 use Rattle.std.proofs.Common.{sym}
-use Rattle.kr_types_expressions.proofs.Notes.{shown_at}
-use Rattle.kr_types.proofs.Making.{rest_on}
+use Rattle.kr_types_expressions.proofs.Notes.{shown_at, below_weaker}
 use Rattle.kr_types.proofs.site.part_note.Goals as goal
 
 pub returns-clause-within : goal.returns-clause-within
 returns-clause-within c = c.requires.notes.within c.args.part _ c.at.ensures
 
 pub returns-clause-below : goal.returns-clause-below
-returns-clause-below c = rest_on c.args.part _ _ c.requires.part (c.requires.notes.below c.args.part _ c.at.ensures)
+returns-clause-below c = below_weaker c.args.part _ _ c.requires.part (c.requires.notes.below c.args.part _ c.at.ensures)
 
 pub returns-clause-linked : goal.returns-clause-linked
 returns-clause-linked c = c.requires.notes.linked c.args.part _ c.at.ensures

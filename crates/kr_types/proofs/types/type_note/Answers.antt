@@ -4,7 +4,7 @@ use Rattle.kr_classes_table.specs.Table.{applied}
 use Rattle.kr_types_meaning.specs.Rules as rules
 use Rattle.kr_types_meaning.specs.Scopes.{written}
 use Rattle.kr_types_meaning.specs.Noting as noting
-use Rattle.kr_classes_types.proofs.Growing.{extends_itself}
+use Rattle.kr_classes_names.proofs.Growing.{extends_itself}
 use Rattle.kr_types_expressions.specs.Notes.{shown_notes, typed_in}
 use Rattle.kr_types.specs.Sites.{scope_of, tree_there}
 use Rattle.kr_types.proofs.Making.{of_if, part_grown}

@@ -4,7 +4,7 @@ use Rattle.kr_classes_table.specs.Table.{Method, Table, method_named}
 use Rattle.kr_types_meaning.specs.Rules as rules
 use Rattle.kr_types_meaning.specs.Noting as noting
 use Rattle.kr_types_scopes.specs.Settings.{scope_in}
-use Rattle.kr_classes_types.specs.Types.{type_at}
+use Rattle.kr_classes_names.specs.Types.{type_at}
 use Rattle.kr_types_judging.specs.Shown.{note_shown}
 use Rattle.kr_types_expressions.specs.Notes.{typed_in}
 use Rattle.kr_types_expressions.specs.Parts.{with_list}

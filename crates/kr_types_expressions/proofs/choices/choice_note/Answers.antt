@@ -6,7 +6,7 @@ use Rattle.kr_types_meaning.specs.Rules as rules
 use Rattle.kr_types_meaning.specs.Typing as typing
 use Rattle.kr_types_meaning.specs.Noting.{concluded}
 use Rattle.kr_types_scopes.specs.Settings.{scope_in}
-use Rattle.kr_classes_types.specs.Types.{type_at}
+use Rattle.kr_classes_names.specs.Types.{type_at}
 use Rattle.kr_types_judging.specs.Shown.{known_shown, least_shown}
 use Rattle.kr_types_expressions.specs.Parts.{with_three}
 use Rattle.kr_types_expressions.proofs.Asking.{asks_three}

@@ -2,7 +2,7 @@ use Rattle.std.proofs.Common.{◌∙◌, sym, ap, ℕ}
 use Rattle.std.specs.Prelude.{Option, Some, option_map}
 use Rattle.kr_types_meaning.specs.Rules as rules
 use Rattle.kr_types_scopes.specs.Settings.{scope_in}
-use Rattle.kr_classes_types.specs.Types.{type_at}
+use Rattle.kr_classes_names.specs.Types.{type_at}
 use Rattle.kr_types_expressions.specs.Parts.{with_three}
 use Rattle.kr_types_expressions.proofs.choices.choice_verdict.Goals as goal
 

@@ -4,7 +4,7 @@ use Rattle.kr_classes_table.specs.Types.{JavaType}
 use Rattle.kr_types_meaning.specs.Rules as rules
 use Rattle.kr_types_scopes.specs.Settings.{Setting, scope_in}
 use Rattle.kr_types_scopes.specs.declared.within.Binding.{Binding}
-use Rattle.kr_classes_types.specs.Types.{type_at}
+use Rattle.kr_classes_names.specs.Types.{type_at}
 use Rattle.kr_types_judging.specs.Shown.{verdict_shown}
 use Rattle.kr_types_expressions.specs.Parts.{with_two}
 use Rattle.kr_types_expressions.proofs.constructors.array_creation_verdict.Goals as goal

@@ -1,5 +1,5 @@
 use Rattle.std.proofs.Common.{map}
-use Rattle.kr_classes_types.specs.Types.{type_at}
+use Rattle.kr_classes_names.specs.Types.{type_at}
 use Rattle.kr_types_expressions.proofs.Single.{fits}
 use Rattle.kr_types_expressions.proofs.creations.constructor_fits.Goals as goal
 

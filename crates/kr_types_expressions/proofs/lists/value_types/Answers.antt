@@ -4,7 +4,7 @@ use Rattle.std.proofs.lemmas.Option.{slice_get-get_or}
 use Rattle.kr_types_meaning.specs.Rules as rules
 use Rattle.kr_types_meaning.specs.Typing.{joined}
 use Rattle.std.proofs.lemmas.Grind.{common_steps}
-use Rattle.kr_classes_types.specs.Types.{count, type_at}
+use Rattle.kr_classes_names.specs.Types.{count, type_at}
 use Rattle.kr_types_judging.specs.declared.known.Typed.TheVariants as typed
 use Rattle.kr_types_judging.specs.declared.known.Known.{Known}
 use Rattle.kr_types_judging.specs.declared.known.Known.TheVariants as known
@@ -12,8 +12,9 @@ use Rattle.kr_types_judging.specs.declared.notes.Note.{Note}
 use Rattle.kr_types_judging.specs.Shown.{IsKnownWithin, known_shown}
 use Rattle.kr_types_expressions.specs.Notes.{typed_in, IsRestBelow}
 use Rattle.kr_types_expressions.specs.Parts.{values_in}
-use Rattle.kr_types_expressions.proofs.Gathering.{before, before_end, before_none, below_weaker, nothing_left, one_more, rest_below, rest_shown, rest_within}
+use Rattle.kr_types_expressions.proofs.Gathering.{before, before_end, before_none, nothing_left, one_more, rest_below, rest_shown, rest_within}
 use Rattle.kr_types_expressions.proofs.lists.value_types.Goals as goal
+use Rattle.kr_types_expressions.proofs.Notes.{below_weaker}
 
 pub loop-at-preserved : goal.loop-at-preserved
 loop-at-preserved c =

@@ -1,5 +1,5 @@
 use Rattle.std.proofs.Common.{◌≡◌, ◌<◌, length, map, All}
-use Rattle.kr_classes_types.specs.Types.{count, type_at}
+use Rattle.kr_classes_names.specs.Types.{count, type_at}
 use Rattle.kr_types_judging.specs.Shown.{IsKnownWithin, known_shown}
 use Rattle.kr_types_expressions.specs.Notes.{IsRestBelow, typed_in}
 use Rattle.kr_types_expressions.proofs.Gathering.{before, nodes_left}

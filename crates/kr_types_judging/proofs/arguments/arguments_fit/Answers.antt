@@ -2,7 +2,7 @@ use Rattle.std.proofs.Common.{◌≡◌, ◌∙◌, sym, ap, true, false, ◌&&�
 use Rattle.kr_ast.specs.Arena.{Arena, tree_in}
 use Rattle.kr_classes_table.specs.Table.{type_named}
 use Rattle.kr_classes_members.specs.Shown.{headings_in, table_in}
-use Rattle.kr_classes_types.specs.Types.{type_at}
+use Rattle.kr_classes_names.specs.Types.{type_at}
 use Rattle.kr_types_judging.specs.Shown.{goes_into}
 use Rattle.kr_types_judging.specs.Arguments.{arguments_go_into, listed_types}
 use Rattle.kr_types_judging.proofs.Walking.{one_more, none_left}

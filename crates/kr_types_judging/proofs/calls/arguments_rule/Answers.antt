@@ -5,7 +5,7 @@ use Rattle.kr_types_meaning.specs.Rules as rules
 use Rattle.kr_ast.specs.Files.{file_at}
 use Rattle.kr_types_scopes.specs.Settings.{scope_in}
 use Rattle.kr_classes_members.specs.Shown.{headings_in, method_shown}
-use Rattle.kr_classes_types.specs.Types.{type_at}
+use Rattle.kr_classes_names.specs.Types.{type_at}
 use Rattle.kr_types_judging.specs.Arguments.{arguments_go_into, listed_types}
 use Rattle.kr_types_judging.proofs.Walking.{asked}
 use Rattle.kr_types_judging.proofs.calls.arguments_rule.Goals as goal

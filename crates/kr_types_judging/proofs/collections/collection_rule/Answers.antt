@@ -1,7 +1,7 @@
 use Rattle.std.proofs.Common.{◌∙◌, sym, ap, map, arith}
 use Rattle.kr_types_meaning.specs.Rules.{collection_rule}
 use Rattle.kr_types_scopes.specs.Settings.{scope_in}
-use Rattle.kr_classes_types.specs.Types.{type_at}
+use Rattle.kr_classes_names.specs.Types.{type_at}
 use Rattle.kr_types_judging.proofs.Walking.{single}
 use Rattle.kr_types_judging.proofs.collections.collection_rule.Goals as goal
 

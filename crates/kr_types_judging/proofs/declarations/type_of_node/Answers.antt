@@ -1,8 +1,8 @@
 use Rattle.std.proofs.Common.{sym, subst, ℕ}
 use Rattle.std.specs.Prelude.{Option}
 use Rattle.kr_types_scopes.specs.Settings.{type_there}
-use Rattle.kr_classes_types.specs.Types.{IsTypeNumber}
-use Rattle.kr_classes_types.specs.Numbers.{named_type}
+use Rattle.kr_classes_names.specs.Types.{IsTypeNumber}
+use Rattle.kr_classes_names.specs.Numbers.{named_type}
 use Rattle.kr_types_judging.proofs.Tables.{type_of_tree}
 use Rattle.kr_types_judging.proofs.declarations.type_of_node.Goals as goal
 

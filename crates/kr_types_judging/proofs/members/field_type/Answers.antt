@@ -1,6 +1,6 @@
 use Rattle.std.proofs.Common.{sym, subst, ℕ}
-use Rattle.kr_classes_types.specs.Types.{IsTypeNumber}
-use Rattle.kr_classes_types.specs.Numbers.{named_type}
+use Rattle.kr_classes_names.specs.Types.{IsTypeNumber}
+use Rattle.kr_classes_names.specs.Numbers.{named_type}
 use Rattle.kr_types_judging.proofs.members.field_type.Goals as goal
 
 pub returns : goal.returns

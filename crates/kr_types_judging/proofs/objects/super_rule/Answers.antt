@@ -3,7 +3,7 @@ use Rattle.std.specs.Prelude.{Option, not}
 use Rattle.kr_classes_table.specs.Table.{Method}
 use Rattle.kr_types_meaning.specs.Rules as rules
 use Rattle.kr_types_scopes.specs.Settings.{scope_in}
-use Rattle.kr_classes_types.specs.Types.{type_at}
+use Rattle.kr_classes_names.specs.Types.{type_at}
 use Rattle.kr_types_judging.proofs.objects.super_rule.Goals as goal
 
 pub returns-clause-within : goal.returns-clause-within

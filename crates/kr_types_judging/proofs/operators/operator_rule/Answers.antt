@@ -1,5 +1,5 @@
 use Rattle.std.proofs.Common.{◌∙◌, ap}
-use Rattle.kr_classes_types.specs.Types.{type_at}
+use Rattle.kr_classes_names.specs.Types.{type_at}
 use Rattle.kr_types_meaning.specs.Rules.{kind_rule}
 use Rattle.kr_types_meaning.specs.declared.operators.OperatorKind.{OperatorKind}
 use Rattle.kr_types_scopes.specs.Settings.{scope_in}

@@ -1,7 +1,7 @@
 use Rattle.std.proofs.Common.{◌∙◌, sym, ap}
 use Rattle.kr_classes_table.specs.Table.{is_assignable}
 use Rattle.kr_classes_members.specs.Shown.{table_in}
-use Rattle.kr_classes_types.specs.Types.{type_at, type_of_form}
+use Rattle.kr_classes_names.specs.Types.{type_at, type_of_form}
 use Rattle.kr_types_judging.proofs.relations.is_assignable.Goals as goal
 
 pub returns-in-Set : goal.returns-in-Set

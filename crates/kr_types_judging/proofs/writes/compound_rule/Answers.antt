@@ -2,7 +2,7 @@ use Rattle.std.proofs.Common.{◌∙◌, ap}
 use Rattle.std.specs.Prelude.{not}
 use Rattle.kr_types_meaning.specs.Rules.{Judgement, ask, is_broken, written_rule}
 use Rattle.kr_types_scopes.specs.Settings.{scope_in}
-use Rattle.kr_classes_types.specs.Types.{type_at}
+use Rattle.kr_classes_names.specs.Types.{type_at}
 use Rattle.kr_types_judging.specs.Shown.{typed_shown}
 use Rattle.kr_types_judging.proofs.writes.compound_rule.Goals as goal
 

@@ -1,7 +1,7 @@
 use Rattle.std.proofs.Common.{sym, ap, ◌∙◌, subst, ℕ, ◌<◌, length, arith}
 use Rattle.std.specs.Prelude.{Option, IfSome, option_and_then, slice_get}
 use Rattle.kr_classes_members.specs.Shown.{table_in}
-use Rattle.kr_classes_roster.specs.Rosters.{all_methods}
+use Rattle.kr_classes_members.specs.Rosters.{all_methods}
 use Rattle.kr_types_resolving.specs.Meanings.{method_meaning}
 use Rattle.kr_types_resolving.proofs.Chosen.{method_there, static_said, virtual_said}
 use Rattle.kr_types_resolving.proofs.members.method_meaning.Goals as goal

@@ -5,7 +5,7 @@ use Rattle.kr_ast.specs.Arena.{Arena, root}
 use Rattle.kr_classes_table.specs.Table.{Field, headings_of, number_of, table_of}
 use Rattle.kr_types_meaning.specs.Scopes.{field_or_none}
 use Rattle.kr_classes_members.specs.Shown.{table_in}
-use Rattle.kr_classes_roster.specs.Rosters.{all_fields, field_numbered, no_field}
+use Rattle.kr_classes_members.specs.Rosters.{all_fields, field_numbered, no_field}
 use Rattle.kr_types_resolving.specs.Meanings.{class_meaning, field_meaning, name_meaning}
 use Rattle.kr_types_resolving.proofs.names.unbound_meaning.Goals as goal
 

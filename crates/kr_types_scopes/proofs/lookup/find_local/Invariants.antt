@@ -4,7 +4,7 @@ use Rattle.kr_classes_table.specs.Constants.{Known}
 use Rattle.kr_types_scopes.specs.Lookups.{meant_there}
 use Rattle.kr_types_scopes.proofs.lookup.find_local.Given as goal
 
--- what is left below decides
+-- the bindings below decide
 abbrev pub invariant-loop-at : goal.invariant-loop-at
 invariant-loop-at l = record {
   within : l.at ≤ length l.bindings.items;

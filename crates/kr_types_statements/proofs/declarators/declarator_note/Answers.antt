@@ -10,7 +10,7 @@ use Rattle.kr_types_scopes.specs.Scoped.{nowhere, scope_at}
 use Rattle.kr_types_scopes.specs.declared.within.Within.{Within}
 use Rattle.kr_ast.specs.Files.{file_at}
 use Rattle.kr_classes_members.specs.Shown.{table_in}
-use Rattle.kr_classes_types.specs.Types.{type_at}
+use Rattle.kr_classes_names.specs.Types.{type_at}
 use Rattle.kr_types_judging.specs.Shown.{known_shown, least_shown, verdict_shown}
 use Rattle.kr_types_statements.specs.Declared.{declares}
 use Rattle.kr_types_statements.specs.Maybe.{types_in, with_maybe}

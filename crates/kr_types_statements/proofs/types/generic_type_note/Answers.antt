@@ -6,7 +6,7 @@ use Rattle.kr_types_meaning.specs.Noting.{one}
 use Rattle.kr_types_scopes.specs.Settings.{setting}
 use Rattle.kr_ast.specs.Files.{file_at}
 use Rattle.kr_classes_members.specs.Shown.{table_in}
-use Rattle.kr_classes_types.specs.Types.{type_at}
+use Rattle.kr_classes_names.specs.Types.{type_at}
 use Rattle.kr_types_judging.specs.Shown.{note_shown}
 use Rattle.kr_types_expressions.proofs.Asking.{concludes_one}
 use Rattle.kr_types_statements.proofs.types.generic_type_note.Goals as goal

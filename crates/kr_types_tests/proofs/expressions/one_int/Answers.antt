@@ -1,4 +1,4 @@
-use Rattle.std.proofs.Common.{◌≡◌, ◌<◌, refl, sym, ap, ◌∙◌, subst, List, [], ◌∷◌, ◌++◌, arith}
+use Rattle.std.proofs.Common.{◌≡◌, refl, sym, ap, ◌∙◌, subst, List, [], ◌∷◌, ◌++◌, arith}
 use Rattle.kr_types_meaning.specs.Noting as noting
 use Rattle.kr_types_judging.specs.declared.notes.Note.{Note}
 use Rattle.kr_types_expressions.specs.Notes.{AreNotesWithin, typed_in}

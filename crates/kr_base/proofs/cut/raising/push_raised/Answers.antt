@@ -6,8 +6,8 @@ use Rattle.kr_base.proofs.cut.raising.push_raised.Goals as goal
 pub returns-then-number-eq4294967295 : goal.returns-then-number-eq4294967295
 returns-then-number-eq4294967295 c = keeps_last c.args.front.now.items c.push.new.self.items c.args.number c.args.bound.now c.if-number-eq4294967295.true c.in_ok-push.ensures.items
 
-pub returns-then-is_front_below : goal.returns-then-is_front_below
-returns-then-is_front_below c = raises c.args.front.now.items c.push-2.new.self.items c.args.number c.args.bound.now (search rules) c.ranges.number.fits c.in_ok-push-2.ensures.items (search rules)
+pub returns-then-is_above_key : goal.returns-then-is_above_key
+returns-then-is_above_key c = raises c.args.front.now.items c.push-2.new.self.items c.args.number c.args.bound.now (search rules) c.ranges.number.fits c.in_ok-push-2.ensures.items (search rules)
 
 pub returns : goal.returns
 returns c =

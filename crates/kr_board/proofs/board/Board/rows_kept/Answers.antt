@@ -2,7 +2,7 @@ use Rattle.std.proofs.Common.{◌≡◌, ◌∙◌, List, sym, ap, length}
 use Rattle.std.specs.List.{sum_by}
 use Rattle.kr_survey.specs.Joins.{joined, lists}
 use Rattle.kr_core.specs.declared.segment.Segment.{Segment}
-use Rattle.kr_core.specs.States.{capped}
+use Rattle.kr_base.specs.Causes.{capped}
 use Rattle.kr_board.specs.Held.{Held}
 use Rattle.kr_board.proofs.Draining.{total-count}
 use Rattle.kr_board.proofs.board.Board.rows_kept.Goals as goal

@@ -1,6 +1,6 @@
 use Rattle.std.proofs.Common.{◌≡◌, take}
 use Rattle.std.specs.List.{sum_by}
-use Rattle.kr_core.specs.States.{capped}
+use Rattle.kr_base.specs.Causes.{capped}
 use Rattle.kr_board.proofs.board.windows.counted_rows.Given as goal
 
 abbrev pub invariant-loop-segment : goal.invariant-loop-segment

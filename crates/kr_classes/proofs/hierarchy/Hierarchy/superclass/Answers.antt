@@ -1,5 +1,5 @@
 use Rattle.std.proofs.Common.{sym, length, arith}
-use Rattle.kr_classes.specs.Faults.{table_in}
+use Rattle.kr_classes_members.specs.Shown.{table_in}
 use Rattle.kr_classes.proofs.Fronts.{past_superclass}
 use Rattle.kr_classes.proofs.hierarchy.Hierarchy.superclass.Goals as goal
 

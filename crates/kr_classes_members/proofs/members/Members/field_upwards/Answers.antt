@@ -1,4 +1,4 @@
-use Rattle.std.proofs.Common.{◌≡◌, ◌∙◌, sym, ◌<◌, ◌+◌, ◌-◌, true, false, bytes_eq, arith}
+use Rattle.std.proofs.Common.{◌≡◌, ◌∙◌, sym, ◌<◌, ◌-◌, true, false, bytes_eq}
 use Rattle.std.specs.Prelude.{is_some}
 use Rattle.kr_classes_table.specs.Table as table
 use Rattle.kr_classes_table.specs.Table.{line_within, own_fields}

@@ -1,4 +1,4 @@
-use Rattle.std.proofs.Common.{sym, ap, ◌∙◌, List, ℕ, map, bytes_eq}
+use Rattle.std.proofs.Common.{sym, ap, ◌∙◌, List, map, bytes_eq}
 use Rattle.std.specs.List.{position_from}
 use Rattle.kr_classes_names.proofs.Walks.{map_map}
 use Rattle.kr_classes_table.specs.Table as table

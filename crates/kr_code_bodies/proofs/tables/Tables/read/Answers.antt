@@ -1,5 +1,5 @@
 use Rattle.std.proofs.Common.{map}
-use Rattle.kr_classes_types.specs.Types.{type_at}
+use Rattle.kr_classes_names.specs.Types.{type_at}
 use Rattle.kr_code.specs.Tables.{row_items}
 use Rattle.kr_code_bodies.proofs.Names.{length_alone}
 use Rattle.kr_code_bodies.proofs.tables.Tables.read.Goals as goal
@@ -14,5 +14,5 @@ returns c =
       spots = c.in_ok-spots.ensures;
       dispatch = c.in_ok-dispatch.ensures;
       instances = c.in_ok-instances.ensures files arrays c.requires.members;
-      array_instances = c.in_ok-array_instances.ensures files;
+      array_types = c.in_ok-array_types.ensures files;
     }

@@ -1,5 +1,5 @@
 use Rattle.std.proofs.Common.{ap, ◌∙◌, ◌++◌, ℕ, Vec, Global}
-use Rattle.kr_classes_types.proofs.Apart.{apart, same_bytes, stored_bytes}
+use Rattle.kr_classes_names.proofs.Apart.{apart, same_bytes, stored_bytes}
 use Rattle.kr_code_lowering.proofs.names.Names.insert.Goals as goal
 
 pub invariant_of-self-then-number-ge4294967295 : goal.invariant_of-self-then-number-ge4294967295

@@ -6,7 +6,7 @@ use Rattle.kr_space_layout.specs.Numbers.{HasNumber}
 use Rattle.kr_space_layout.proofs.Numbers.{are_blocks, before_more, before_all}
 use Rattle.kr_space_layout.proofs.layout.Layout.numbered.Goals as goal
 
--- the object of a block that so many objects stand before
+-- the object of a block that so many objects precede
 there : (b : Bounds) (d number : ℕ) (x : Block) → d < length b.domains → x.domain ≡ d → x.count ≡ (domain_at (bare b) d).count → x.first ≡ objects_before d b.domains → objects_before d b.domains ≤ number → number - x.first < x.count → HasNumber (bare b) number (record { domain = x.domain; number = number - x.first })
 there b d number x inside domain count first from within =
     subst (λ (e : ℕ). HasNumber (bare b) number (record { domain = e; number = number - x.first })) (sym domain)

@@ -3,7 +3,7 @@ use Rattle.std.specs.Prelude.{Option, Some, IfSome, option_map}
 use Rattle.std.proofs.lemmas.Option.{get_or_from_slice_get}
 use Rattle.kr_classes_table.specs.Table as table
 use Rattle.kr_classes_members.specs.Shown.{IsMethod, method_shown, table_in}
-use Rattle.kr_classes_roster.specs.Rosters.{all_methods, method_numbered, no_method}
+use Rattle.kr_classes_members.specs.Rosters.{all_methods, method_numbered, no_method}
 use Rattle.kr_types_resolving.proofs.Chosen.{method_there}
 use Rattle.kr_types_resolving.proofs.Rostered.{method_got}
 use Rattle.kr_types.proofs.site.Site.method_at.Goals as goal

@@ -1,0 +1,9 @@
+pub mod WorkedWords
+pub mod Constructs
+pub mod Listings
+pub mod Examples
+pub mod Tests
+pub mod Renamings
+pub mod Premises
+pub mod WorkedShards
+pub mod WorkedReports

@@ -1,0 +1,9 @@
+// Premises, met by small problems.
+ghost use Rattle.korat_rows.specs.Premises.{Premises};
+
+/// Small problems meet the premises of the laws on listings, one with subclasses, one with an array, one with collections and a test
+/// among them; and for each kind of node that touches a candidate there is one that isn't pure.
+#[tactic(auto, using(crate::proofs::Premises::premises))]
+pub fn worked_premises()
+    ensures { Premises }
+{}

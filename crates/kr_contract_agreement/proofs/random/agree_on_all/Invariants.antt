@@ -1,5 +1,0 @@
-use Rattle.std.proofs.Common.{◌≡◌}
-use Rattle.kr_contract_agreement.proofs.random.agree_on_all.Given as goal
-
-abbrev pub invariant-candidates : goal.invariant-candidates
-invariant-candidates l = l.tester ≡ l.prepared

@@ -1,9 +1,0 @@
-use Rattle.std.proofs.Common.{◌≡◌, false, take}
-use Rattle.kr_base.specs.declared.span.Bound.TheVariants.{At}
-use Rattle.kr_base.specs.Bounds.{less}
-use Rattle.kr_deque_joining.specs.Spans.{Adjoins}
-use Rattle.kr_deque_joining.specs.Joined.{spans_of}
-use Rattle.kr_deque_joining.proofs.joining.check_from.Given as goal
-
-abbrev pub invariant-loop-piece : goal.invariant-loop-piece
-invariant-loop-piece g l = Adjoins (At l.asked.after) (spans_of (take l.piece-index l.pieces)) l.at × (less l.asked.upto l.at ≡ false)

@@ -1,5 +1,0 @@
-pub mod Spans
-pub mod Breaks
-pub mod Listings
-pub mod Joined
-pub mod Checking

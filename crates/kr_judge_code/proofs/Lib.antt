@@ -1,0 +1,10 @@
+pub mod Stated
+pub mod Parted
+pub mod Walked
+pub mod Added
+pub mod RepOk
+pub mod Joined
+pub mod Tabled
+pub mod Conditions
+pub mod Whole
+pub mod Found

@@ -1,0 +1,58 @@
+// The nodes of what has to hold.
+ghost use Rattle.std.specs.Prelude.{◌≡◌, ◌<◌, ◌++◌, IfOk, length, map};
+ghost use Rattle.kr_mean.specs.Runs.{conditions, requires_of, tested_method};
+ghost use Rattle.kr_classes_members.specs.Rosters.{all_methods, method_numbered};
+ghost use Rattle.kr_code_members.specs.Nodes.{AreMemberNodes, table};
+ghost use Rattle.kr_space_problem.specs.Posed.{IsPosed, posed};
+ghost use Rattle.kr_code_lowering.specs.Calls.{IsFound};
+ghost use Rattle.kr_code_lowering.specs.Origins.{Final, numbering_of};
+ghost use Rattle.kr_judge_code.specs.Compiled.{call_nodes};
+
+use crate::add_required;
+use kr_base::NoMemory;
+use kr_classes_table::MethodId;
+use kr_code_lowering::Site;
+use kr_code_members::MemberNodes;
+use kr_space_problem::Problem;
+use std::alloc::Global;
+
+/// Adds the preconditions of the method of a number.
+fn add_preconditions(
+    problem: &Problem,
+    members: &MemberNodes,
+    method: MethodId,
+    conditions: &mut Vec<u32>,
+) -> Result<(), NoMemory>
+    requires posed { IsPosed problem.now }
+    requires members { AreMemberNodes problem.now.program members.now }
+    requires method { method < length (all_methods (table problem.now.program)) }
+    ensures { (final : Final) → IfOk result (λ none. map (numbering_of problem.now.program final).origin conditions.new.items ≡ map (numbering_of problem.now.program final).origin conditions.old.items ++ requires_of (posed problem.now).program (method_numbered (table problem.now.program) method)) }
+{
+    let program = &problem.program;
+    let declared = members.methods[method as usize];
+    let lines = Site::of(program, declared.file, declared.contracts);
+    add_required(program, lines, conditions)
+}
+
+/// The nodes of the conditions, where the call of the root's `repOk` is the first one after those of the files.
+pub(crate) fn conditions(
+    alloc: Global,
+    problem: &Problem,
+    members: &MemberNodes,
+    tested: Option<MethodId>,
+) -> Result<Vec<u32>, NoMemory>
+    requires posed { IsPosed problem.now }
+    requires members { AreMemberNodes problem.now.program members.now }
+    requires tested { IsFound problem.now.program tested (tested_method (posed problem.now) (posed problem.now).mode) }
+    ensures { (final : Final) → final.nodes ≡ call_nodes problem.now → IfOk result (λ nodes. map (numbering_of problem.now.program final).origin nodes.items ≡ conditions (posed problem.now)) }
+{
+    let mut conditions = Vec::new(alloc);
+    conditions.push(problem.program.nodes())?;
+    match tested {
+        None => Ok(conditions),
+        Some(method) => {
+            add_preconditions(problem, members, method, &mut conditions)?;
+            Ok(conditions)
+        }
+    }
+}

@@ -1,4 +1,0 @@
-pub mod Stated
-pub mod Parted
-pub mod Walked
-pub mod Added

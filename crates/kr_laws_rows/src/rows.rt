@@ -1,9 +1,0 @@
-// Premises, met by small problems.
-ghost use Rattle.kr_laws_rows.specs.Premises.{Premises};
-
-/// Small problems meet what the laws on listings ask, one with subclasses, one with an array, one with collections and a test
-/// among them; and for each kind of node that touches a candidate there is one that isn't pure.
-#[tactic(auto, using(crate::proofs::Premises::premises))]
-pub fn worked_premises()
-    ensures { Premises }
-{}

@@ -1,6 +1,0 @@
-pub mod Words
-pub mod Constructs
-pub mod Listings
-pub mod Examples
-pub mod Tests
-pub mod Renamings

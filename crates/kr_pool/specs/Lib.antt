@@ -1,0 +1,5 @@
+pub mod WholeLogs
+pub mod Handing
+pub mod Sharing
+pub mod Collecting
+pub mod Owning

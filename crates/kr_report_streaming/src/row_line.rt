@@ -1,0 +1,42 @@
+// A row as it is written.
+ghost use Rattle.std.specs.Prelude.{◌≡◌};
+
+use kr_base::Cut;
+use std::marker::Model;
+
+/// A text. Contracts see its bytes.
+#[derive(Drop)]
+pub struct Text {
+    bytes: Vec<u8>,
+}
+
+impl Model for Text {
+    ghost use Rattle.std.specs.Prelude.{List, ℕ};
+
+    ghost Value = { List ℕ };
+
+    ghost view = { λ t. t.bytes.items };
+}
+
+impl Text {
+    /// These bytes. It takes no memory.
+    pub fn new(bytes: Vec<u8>) -> Self
+        ensures { result ≡ bytes.items }
+    {
+        Text { bytes }
+    }
+
+    pub fn as_slice(&self) -> &[u8]
+        ensures { result.now ≡ self.now }
+    {
+        self.bytes.as_slice()
+    }
+}
+
+/// A row as it is written: its key, its line, and whether its verdict is failing.
+#[derive(Drop)]
+pub struct RowLine {
+    pub key: Cut,
+    pub text: Text,
+    pub failing: bool,
+}

@@ -1,0 +1,5 @@
+use Rattle.kr_run_lookahead.proofs.Goes.{value_passes}
+use Rattle.kr_run_lookahead.proofs.lookahead.pass_value.Goals as goal
+
+pub returns-in-Some-clause-passes : goal.returns-in-Some-clause-passes
+returns-in-Some-clause-passes c = λ d fs i. value_passes c.args.code.now d c.args.world.now c.args.frame.now fs c.args.given c.in-Some.found c.in-Some.ensures i

@@ -1,0 +1,7 @@
+// What holds of the listings that files of shards come to.
+ghost use Rattle.kr_shard.specs.Files.{OneMerge};
+
+/// Files of shards have at most one answer.
+pub fn one_merge()
+    ensures { OneMerge }
+{}

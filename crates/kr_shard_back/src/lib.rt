@@ -1,6 +1,0 @@
-//! What `shard` writes of a listing is read back.
-#![tactic(auto)]
-
-mod laws;
-
-pub use laws::back_law;

@@ -1,4 +1,0 @@
-pub mod Numbers
-pub mod Lines
-pub mod Keys
-pub mod Entries

@@ -1,5 +1,0 @@
-use Rattle.kr_shard_files.proofs.Joined.{one_merge}
-use Rattle.kr_shard_files.proofs.laws.one_merge.Goals as goal
-
-pub returns : goal.returns
-returns c = one_merge

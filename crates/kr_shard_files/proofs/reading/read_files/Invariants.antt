@@ -1,7 +1,0 @@
-use Rattle.std.proofs.Common.{◌≡◌, take}
-use Rattle.kr_shard_files.specs.Found.{AreShards, IsLater}
-use Rattle.kr_shard_files.proofs.reading.read_files.Given as goal
-
-abbrev pub invariant-loop-number : goal.invariant-loop-number
-invariant-loop-number g l = AreShards (g.F.Files.held l.fn.files) (take l.number l.names) l.shards.items
-    × IsLater g.F.Files.held g.F.Files.faults l.fn.files l.files × (g.F.Files.faults l.files ≡ g.F.Files.faults l.fn.files)

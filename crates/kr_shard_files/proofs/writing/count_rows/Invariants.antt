@@ -1,8 +1,0 @@
-use Rattle.std.proofs.Common.{◌≡◌, take}
-use Rattle.std.specs.List.{sum_by}
-use Rattle.kr_report.specs.Texts.{capped}
-use Rattle.kr_shard_files.specs.Found.{count_in}
-use Rattle.kr_shard_files.proofs.writing.count_rows.Given as goal
-
-abbrev pub invariant-loop-at : goal.invariant-loop-at
-invariant-loop-at l = l.count ≡ capped (sum_by count_in (take l.at l.rows))

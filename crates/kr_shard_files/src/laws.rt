@@ -1,7 +1,0 @@
-// What holds of the listings that files of shards come to.
-ghost use Rattle.kr_shard_files.specs.Files.{OneMerge};
-
-/// Files of shards have at most one answer.
-pub fn one_merge()
-    ensures { OneMerge }
-{}

@@ -1,0 +1,12 @@
+// What holds of the shards of every problem.
+ghost use Rattle.kr_shard_laws.specs.Problems.{AcceptedShardsLaw, ListingLaw};
+
+/// All entries of a problem that is accepted for a listing are those of a listing.
+pub fn listing_law()
+    ensures { ListingLaw }
+{}
+
+/// What `shard` writes of spans of such a problem that adjoin is put together, in any order, to what `list` writes of the whole.
+pub fn accepted_shards_law()
+    ensures { AcceptedShardsLaw }
+{}

@@ -1,3 +1,0 @@
-pub mod Sorted
-pub mod Parts
-pub mod Law

@@ -1,6 +1,0 @@
-pub mod Names
-pub mod Types
-pub mod Fields
-pub mod Counts
-pub mod Sizes
-pub mod Accepted

@@ -1,3 +1,0 @@
-pub mod Texts
-pub mod Readings
-pub mod Fronts

@@ -1,5 +1,0 @@
-pub mod Rows
-pub mod Lines
-pub mod Shards
-pub mod Texts
-pub mod Stages

@@ -1,5 +1,0 @@
-use Rattle.kr_survey_mapped.proofs.Mapping.{alike}
-use Rattle.kr_survey_mapped.proofs.laws.mapped_law.Goals as goal
-
-pub returns : goal.returns
-returns g c f es = alike f es

@@ -1,4 +1,0 @@
-pub mod Conversions
-pub mod Laws
-pub mod Shown
-pub mod Worked
