@@ -1,12 +1,12 @@
 #!/usr/bin/env bash
-# Tests of tools/Adapt.java: its words, each thing that it rewrites, what it names that it can't do, what it warns of, and
+# Tests of tools/adapt: its words, each thing that it rewrites, what it names that it can't do, what it warns of, and
 # the classes below classes/, which go through it, `korat list` and, where it is there, `Replay --all`. Of those REFUSED
 # names the ones that are refused. KORAT names the program; without it, or without java, what needs them is not tried.
 set -u
 tests=$(cd "$(dirname "$(readlink -f "$0")")" && pwd)
 top=$(cd "$tests/../.." && pwd)
 korat=${KORAT:-$top/crates/korat/out/korat}
-REFUSED="interval-list lru-cache open-addressing-set"
+REFUSED="lru-cache open-addressing-set"
 work=$(mktemp -d) || exit 1
 trap 'rm -rf "$work"' EXIT
 passed=0 failed=0 untried=0
@@ -37,12 +37,10 @@ if ! command -v javac >/dev/null; then
     finish
 fi
 
-# Compiled once, so that a call takes a second.
-javac -nowarn -d "$work/adapt" "$top/tools/Adapt.java" 2>"$work/err"
-count $? "Adapt doesn't compile: $(head -n 1 "$work/err")"
-cp "$top/tools/Replay.java" "$work" 2>/dev/null && javac -nowarn -d "$work/replay" "$work/Replay.java" 2>/dev/null
+# The first call compiles the tools.
+"$top/tools/adapt" >/dev/null 2>&1
 adapt() {
-    java -XX:TieredStopAtLevel=1 -XX:+UseSerialGC -cp "$work/adapt" Adapt "$@" >"$work/out" 2>"$work/err"
+    "$top/tools/adapt" "$@" >"$work/out" 2>"$work/err"
 }
 
 # ---- words
@@ -75,13 +73,17 @@ wrong 1 fin.toml Wrong.java -o adapted
 adapt fin.toml Cell.java -o adapted
 [ $? = 0 ] && cmp -s Cell.java adapted/Cell.java && cmp -s fin.toml adapted/fin.toml && [ ! -s out ] && [ ! -s err ]
 count $? "a class of the subset isn't left as it is"
-[ "$(find adapted -type f | wc -l)" = 2 ] && [ "$(find . -newer fin.toml -type f ! -path './adapted/*' ! -path './replay/*' | grep -cvE 'out|err|Wrong.java')" = 0 ]
+[ "$(find adapted -type f | wc -l)" = 2 ] && [ "$(find . -newer fin.toml -type f ! -path './adapted/*' | grep -cvE 'out|err|Wrong.java')" = 0 ]
 count $? "something is written beside the folder"
 rm -r adapted
 
 # An example with methods under test is left with one of them at a time: with each it lists and tests as it did. Any other is
 # left as it is.
 for folder in "$top"/examples/*/; do
+    if grep -q '^version = 2' "$folder/fin.toml"; then
+        wrong 1 "$folder/fin.toml" "$folder"/*.java -o adapted
+        continue
+    fi
     ended=0
     adapted=0
     for tested in "$folder"/test.*; do
@@ -224,6 +226,19 @@ adapt params.toml Cell.java -o adapted
 count $? "a method that isn't kept leaves its contract or its parameters"
 rm -r adapted
 
+printf 'class Cell {\n    int v;\n\n    void put(int x) {\n        if (x < 0) throw new IllegalArgumentException();\n        v = x;\n    }\n\n    boolean repOk() {\n        return v >= 0;\n    }\n}\n' >Cell.java
+adapt --method put params.toml Cell.java -o adapted
+[ $? = 0 ] && grep -q '^Cell.java:5:[0-9]*: warning: .*trap ArithmeticException.*IllegalArgumentException' out
+count $? "a throw of the method under test isn't warned of: $(head -n 1 out err)"
+rm -r adapted
+if [ -x "$korat" ]; then
+    sed 's/Cell.v/Cell.w/' fin.toml >other.toml
+    adapt other.toml Cell.java -o adapted
+    [ $? = 1 ] && [ "$(wc -l <err)" = 1 ] && grep -q "^korat doesn't accept what was written: .*S" err
+    count $? "what korat doesn't accept isn't said: $(head -n 1 err)"
+    rm -r adapted other.toml
+fi
+
 # ---- warnings
 
 # Adapts a class of these members and looks for a warning: WHAT MEMBERS [FIELDS OF THE FINITIZATION]
@@ -256,7 +271,7 @@ refuses() {
 }
 refuses 1 'long big = 3; boolean repOk() { return v < big; }'
 refuses 4 'String name; Object any; double part; boolean repOk() { return name == null && any == null && part == 0.0; }'
-refuses 2 'boolean repOk() { Runnable r = () -> { }; return r != null; }'
+refuses 1 'boolean repOk() { return Math.addExact(v, 1) > 1; }'
 refuses 1 'boolean repOk() { try { return 1 / v > 0; } finally { check(); } } void check() { }'
 refuses 1 'boolean repOk() { v = 1; return true; }'
 refuses 1 'boolean repOk() { return new Cell().v == v; }'
@@ -265,7 +280,7 @@ refuses 1 'static class A { int a; A() { } A(int a) { } } static class B extends
 refuses 1 'static class A { } static class B extends A { public boolean equals(Object o) { return true; } public int hashCode() { return 0; } } boolean repOk() { HashSet<A> s = new HashSet<>(); s.add(new A()); s.add(new B()); return s.size() == 2; }'
 refuses 1 'List<Cell> others; boolean repOk() { return others.isEmpty(); }'
 refuses 1 'static int counter; boolean repOk() { return counter == v; }'
-refuses 1 'class Inner { int get() { return v; } } Inner inner; boolean repOk() { return inner.get() == 0; }'
+refuses 1 'enum E { A { int n() { return 1; } }; abstract int n(); } boolean repOk() { return E.A.n() == v; }'
 
 # ---- the classes
 
@@ -291,11 +306,10 @@ for folder in "$tests"/classes/*/; do
     "$korat" list "$name/fin.toml" "$name"/*.java >rows
     [ $? = 0 ] && [ "$(wc -l <rows)" -gt 1 ]
     count $? "$name isn't listed: $(tail -n 1 rows)"
-    [ -d replay ] || { untried=$((untried + 1)); continue; }
-    java -cp replay Replay --all "$name/fin.toml" "$folder"/*.java <rows >out 2>err
+    "$top/tools/replay" --all "$name/fin.toml" "$folder"/*.java <rows >out 2>err
     [ $? = 0 ] && [ "$(cat out)" = "agree $(($(wc -l <rows) - 1))" ]
     count $? "$name differs from the JVM: $(cat out err | head -n 1)"
 done
-[ "$adapted" = 23 ]
+[ "$adapted" = 24 ]
 count $? "only $adapted classes are adapted"
 finish

@@ -38,7 +38,8 @@ refuse() {
 }
 
 # Makes a program `numbers` that lists without a class: numbers of DIGITS digits (five), none higher than the one before it,
-# from 6 down; they are valid where DIVISOR (seven) divides their sum. It sleeps at each candidate behind SLOW.
+# from 6 down; they are valid where DIVISOR (seven) divides their sum. It sleeps at each candidate behind SLOW. With --trace it
+# reports each 20 candidates.
 make_numbers() {
     cat >numbers <<'MOCK'
 #!/usr/bin/env bash
@@ -59,6 +60,7 @@ exec awk -v words="$*" -v slow="${SLOW:-1000000}" -v digits="${DIGITS:-5}" -v di
         }
         if (from != "" && compare(key, from) <= 0) return
         if (++tried > slow) system("sleep 20")
+        if (trace && tried % 20 == 0) log_ = log_ "\nreport 0 0 " key " 0 20"
         if (sum % divisor != 0) return
         if (valid == limit) { print "more " last; exit }
         print key " N#0{}"
@@ -69,12 +71,14 @@ exec awk -v words="$*" -v slow="${SLOW:-1000000}" -v digits="${DIGITS:-5}" -v di
         limit = -1
         count = split(words, word, " ")
         for (at = 1; at <= count && word[at] != "--"; at += 2) {
+            if (word[at] == "--trace") { trace = 1; at-- }
             if (word[at] == "--from") from = word[at + 1]
             if (word[at] == "--to") to = word[at + 1]
             if (word[at] == "--limit") limit = word[at + 1]
         }
         below("0", 6, 0, 0)
         print "valid " valid + 0 " tried " tried + 0
+        if (trace) print "take 0 0" log_ "\nreport 0 0 end 0 " tried % 20
     }'
 MOCK
     chmod +x numbers

@@ -28,6 +28,12 @@ draw "an array of arrays of sets" '0.0 HashSet<E>[][]#0[HashSet<E>[]#1] HashSet<
     '"HashSet<E>[][]#0" [label="{HashSet\<E\>[][]#0|{<e0>}}"];' '"HashSet<E>[]#1" [label="{HashSet\<E\>[]#1}"];' \
     '"HashSet<E>[][]#0":e0 -> "HashSet<E>[]#1";'
 
+draw "a row of a test" '0.1 pass C#0{v=1}' '"C#0" [label="{C#0|v\ =\ 1}"];'
+draw "a row of a test with arguments" '0.1 ensures 2 (x=1,y=C#0) C#0{v=1}' '"C#0" [label="{C#0|v\ =\ 1}"];'
+grep -q 'label="0.1 ensures 2 (x=1,y=C#0)"; labelloc' out
+count $? "the title of a row of a test: $(sed -n 2p out)"
+draw "a row of a test that traps" '0.1 check-trap NullPointerException N#0{next=null}' '"N#0" [label="{N#0}"];'
+
 # ---- which rows
 
 printf '0.1 C#0{v=1}\n0.10 C#0{v=10}\n0.2 C#0{v=2}\n' >rows
@@ -38,7 +44,7 @@ given=rows run 0 "one row" "$tools/draw" 0.10
 [ "$(grep '^digraph' out)" = 'digraph "0.10" {' ] && grep -q 'label="0.10"' out
 count $? "one row: $(cat out)"
 given=rows refuse 1 "a key that isn't there" "$tools/draw" 0.3
-for line in 'valid 3 tried 4' 'more 0.2' 'spent 0.3' 'out of memory'; do
+for line in 'valid 3 tried 4' 'valid 3 failing 1 tried 4' 'more 0.2' 'spent 0.3' 'out of memory'; do
     { cat rows && echo "$line"; } >report
     given=report run 0 "a report" "$tools/draw"
     [ "$(grep -c '^digraph' out)" = 3 ] && [ ! -s err ]

@@ -82,7 +82,7 @@ feature 'class A { private class B { } }' '1:19: P1' 'an inner or a local class'
 feature 'class A { int[] a = new int[] {1, 2}; }' '1:29: P1' 'an array with its elements'
 feature 'class A { int[] a = {1, 2}; }' '1:21: P1' 'an array with its elements'
 feature 'class A { int[][] a = new int[2][2]; }' '1:33: P1' 'an array of arrays'
-feature 'class A { int a[]; }' '1:16: P1' 'brackets behind a name'
+feature 'class A { int a[]; }' '1:16: P1' 'brackets after a name'
 feature 'class A { static { } }' '1:18: P1' 'an initializer of a class'
 feature 'class A { int x; { x = 1; } }' '1:18: P1' 'an initializer block'
 feature 'class A { void m() { A a = new A() { }; } }' '1:36: P1' 'an anonymous class'
@@ -92,7 +92,7 @@ feature 'import java.io.File; class A { }' '1:13: P1' 'an import from elsewhere'
 feature 'import java.util.function.Function; class A { }' '1:26: P1' 'an import from a package below'
 feature '@FunctionalInterface class A { }' '1:1: P1' 'an annotation'
 feature 'class A { @Deprecated int x; }' '1:12: P1' 'an annotation'
-feature 'class A { boolean m(A a) { return a instanceof A b; } }' '1:50: P1' 'a name behind `instanceof`'
+feature 'class A { boolean m(A a) { return a instanceof A b; } }' '1:50: P1' 'a name after `instanceof`'
 feature 'class A { int m() { return 1.5; } }' '1:30: P1' 'a floating number'
 feature 'class A { int m(); }' '1:18: P1' 'a method without a body'
 feature 'record A(int x) { }' '1:1: P1' 'a record'
@@ -101,7 +101,7 @@ feature 'class A { void m() { if (true) {' '1:33: P1' 'a bracket that is never c
 feature 'class A { int int v; }' '1:15: P1' 'no source goes on with `int` here'
 feature '\xef\xbb\xbfclass A { }' '1:1: L2' 'a mark that editors put before a text'
 feature 'class A { int\xc2\xa0x; }' '1:14: L2' 'a character that came from a page'
-feature 'class A { void m() { x("a"); } }' '1:24: L2' 'a text'
+feature 'class A { void m() { x("a"); } }' '1:24: L2' 'a string'
 feature "class A { int c = 'a'; }" '1:19: L2' 'a character; in its place: its number'
 feature 'class A { } # x' '1:13: L2' 'in its place: `//`'
 feature 'class A { }\x1a' '1:12: L2' 'an end mark'
@@ -118,6 +118,22 @@ feature 'class A { //@ invariant x;\n' '1:11: L6' 'another line of the Java Mode
 feature 'class A { //@ hello\n' '1:11: L6' 'a comment that looks like a contract'
 feature 'class A { //@ requires x\n' '1:11: L6' "a contract line that doesn't end with"
 feature 'class A { //@ requires /* a */ x;\n' '1:11: L6' 'a contract line with a comment in it'
+
+feature 'class A { boolean repOk() { return true; }\n//@ ensures true ==> false;\nvoid m() { } }' '2:20: P1' '`!a || b`'
+feature 'class A { boolean repOk() { return true; }\n//@ ensures true <==> false;\nvoid m() { } }' '2:20: P1' '(a) == (b)'
+feature 'class A { boolean repOk() { return true; }\n//@ ensures (\\forall int i; true);\nvoid m() { } }' '2:14: L2' 'a quantifier'
+feature 'class A { Boolean repOk() { return true; } }' '1:11: T1' 'in its place: `boolean`'
+feature 'class A { boolean repOk() { return Math.max(1, 2) == 2; } }' '1:36: T3' '`a > b ? a : b`'
+feature 'class A { boolean repOk() { int x = 1 // one\n\nreturn true; }\n}' '3:1: P1' 'the `;` is missing at the end of line 1 | class A { boolean repOk() { int x = 1 // one'
+feature 'class A { int x\n  boolean repOk() { return true; }\n}' '2:3: P1' 'the `;` is missing at the end of line 1'
+feature 'class A { boolean repOk() {\n  return true\n  }\n}' '3:3: P1' 'the `;` is missing at the end of line 2 |   return true'
+
+# What the reader did is said first, and the tool that rewrites it.
+printf 'class A<T> { }' >A.java
+"$explain" 'A.java:1:8: P1' >../out
+[ "$(sed -n 3p ../out)" = 'this looks like a generic class; in its place: a class without parameters: in place of each the actual class, or `int`' ] &&
+    sed -n 4p ../out | grep -qF 'tools/adapt FIN A.java -o FOLDER'
+count $? "what the reader did isn't said first: $(tr '\n' '~' <../out)"
 
 # Each keyword that the language doesn't use has a row.
 unused=$(sed -n '/^and knows, but doesn.t use,/,/^None/p' "$top/docs/LANGUAGE.md" | grep '^    ')
@@ -228,6 +244,18 @@ sed -i 's/repOK/repOk/' List.java
 document 's/^\[fields\]/[fields]\n"List.size" = [0]/' 'S9 fields.List.size' '`Base.size` is a field'
 document 's/^\[fields\]/[fields]\n"Node.valu" = [0]/' 'S9 fields.Node.valu' 'the nearest is `Node.value`'
 document 's/^\[fields\]/[params]\n"insert.valeu" = [0]\n[fields]/' 'S9 params.insert.valeu' 'the nearest is `insert.value`'
+document 's/"Node.value" = .*/"Node.value" = { from = 0, to = 1 }/' 'F3 fields.Node.value' 'a domain is in brackets: "Node.value" = [{ from = 0, to = 1 }]'
+document 's/"Node.value" = .*/"Node.value" = 3 # three/' 'F3 fields.Node.value' '"Node.value" = [3]'
+document 's/"Node.value"/"List.Node.value"/' 'F3 fields.List.Node.value' 'its own name alone: "Node.value"'
+document 's/^Node = 2/"List.Node" = 2/' 'S1 objects.List.Node' 'its own name alone: `Node`'
+document 's/^Node = 2/List.Node = 2/' 'F1 toml' 'its own name alone: `Node = 2`'
+document 's/"List.head" = .*/"List.head" = ["null", "List.Node"]/' 'S1 fields.List.head' 'its own name alone: `Node`'
+document 's/"Node.value" = .*/"Node.value" = ["1", "2"]/' 'S1 fields.Node.value' '`1` is a number, which is written without quotes'
+document 's/"List.head" = .*/"List.head" = ["Null", "Node"]/' 'S1 fields.List.head' 'null is written `"null"`'
+document 's/"List.head" = .*/"List.head" = [null, "Node"]/' 'F1 toml' 'null is written `"null"`'
+document 's/^\[objects\]/objects = 100/;s/^List = 1//;s/^Node = 2//' 'F3 objects' '`objects` is a table'
+document 's/^fuel = .*/objects = 100/' 'F1 toml' '`objects` is a table'
+document 's/^fuel = .*//' 'F5 fuel' 'fuel = 100000'
 told 'f.toml: S1 root' 'with the words of the call behind --'
 told 'none.toml: S1 root' "none.toml can't be read here"
 printf 'root = "\xff"\n' >bytes.toml
@@ -253,6 +281,8 @@ words '`LIST` is no command; the nearest is `list`' LIST fin.toml A.java
 words '`--help` is no command' --help
 words 'no finitization, and no source' list
 words 'no source behind the finitization' list fin.toml
+words 'no source: a method' test fin.toml A.java
+words 'no method, and no source' test fin.toml
 words 'no source behind the finitization' list --limit 3 fin.toml
 words '`--limt` is no option of list; the nearest is `--limit`' list --limt 3 fin.toml A.java
 words '`--limit` is no option of check' check fin.toml A.java --limit 1
@@ -359,11 +389,14 @@ wrong 'fin.toml: S0 root'
 
 # ---- the launcher
 
+printf 'class Cells { Cells next; boolean repOk() { return true; } }' >Cells.java
+printf 'root = "Cells"\nfuel = 9\nobjects.Cells = 1\nfields."Cells.next" = ["Cells"]\n' >cells.toml
+
 # A checkout whose program says what the test wants.
 mkdir -p ../checkout/crates/korat/{src,specs,proofs,out} ../checkout/tools
 cp "$top/korat" ../checkout/
 cp -r "$top/docs" ../checkout/
-cp "$explain" ../checkout/tools/
+cp -r "$explain" "$top/tools/explaining" ../checkout/tools/
 : >../checkout/crates.txt
 : >../checkout/crates/korat/src/main.rt
 printf '#!/bin/sh\nprintf "%%b" "$SAID" || exit 7\nexit "$ENDED"\n' >../checkout/crates/korat/out/korat
@@ -388,6 +421,8 @@ launched 4 'good.toml: S7 root\n' 'S7: ' check good.toml List.java
 launched 6 'read fault Lst.java\n' 'the nearest is `List.java`' check good.toml Lst.java
 launched 5 '0.0 Cell#0{v=0}\nspent 0.1\n' "wasn't tried" list cell.toml
 launched 0 'valid 0 tried 3\n' 'every run may have trapped' list cell.toml Cell.java
+launched 1 '0.1 repOk Cell#0{v=1}\nvalid 1 failing 1 tried 1\n' "1 of the rows aren't a" test cell.toml repOk Cell.java
+launched 0 '0.1 pass Cell#0{v=1}\nvalid 1 failing 0 tried 1\n' 'has no "null"' test cells.toml repOk Cells.java
 launched 0 '0.1 Cell#0{v=1}\nmore 0.1\n' '--from 0.1 goes on' list cell.toml Cell.java
 ENDED=8 SAID='' KORAT_EXPLAIN=1 ../checkout/korat list cell.toml Cell.java >../out 2>../err
 [ $? = 8 ] && [ ! -s ../out ] && [ ! -s ../err ]
@@ -402,6 +437,12 @@ printf 'before\n' >../kept
 ENDED=3 SAID='A.java:1:1: P2\n' KORAT_EXPLAIN=1 ../checkout/korat check fin.toml A.java >>../kept 2>/dev/null
 [ "$(cat ../kept)" = $'before\nA.java:1:1: P2' ]
 count $? "the launcher doesn't append to a file"
+
+printf 'class C { boolean repOk() { return true; }\n  /*@ requires true;\n    @ ensures this != null; @*/\n  void m() { } }\n' >C.java
+printf 'root = "C"\nfuel = 9\nobjects.C = 1\n' >c.toml
+says 'valid 1 failing 0 tried 1' test c.toml m C.java
+told 'valid 1 failing 0 tried 1' '`//@ ensures this != null;`' -- test c.toml m C.java
+told 'ok classes 1 slots 1' 'C.java:2: a comment' -- check c.toml C.java
 
 # ---- nothing is left
 

@@ -65,8 +65,8 @@ no_command() {
 no_commands() {
     no_command
     no_command -h
-    no_command --help
-    no_command --version
+    no_command --help list
+    no_command --version --help
     no_command -V
     no_command help
     no_command ""
@@ -84,12 +84,50 @@ no_commands() {
 no_commands
 [ ! -e checkout/crates/korat/out ]
 count $? "a build for words that are no command"
-"$launched" --help >/dev/full 2>err </dev/null
-[ $? = 7 ] && [ ! -s err ]
-count $? "words that are no command, on a full device: $(cat err)"
-"$launched" --help >&- 2>err </dev/null
-[ $? = 7 ] && [ ! -s err ]
-count $? "words that are no command, on a closed output: $(cat err)"
+for word in -h --help --version; do
+    "$launched" $word >/dev/full 2>err </dev/null
+    [ $? = 7 ] && [ ! -s err ]
+    count $? "$word on a full device: $(cat err)"
+    "$launched" $word >&- 2>err </dev/null
+    [ $? = 7 ] && [ ! -s err ]
+    count $? "$word on a closed output: $(cat err)"
+done
+
+# ---- the launcher's own words
+
+PATH=$work/without_rt run 0 "help" "$launched" --help
+[ "$(head -n 6 out)" = "$synopsis" ] && [ "$(grep -cE '^  (list|test|check|demo|shard|merge) +[a-z]' out)" = 6 ] && [ ! -s err ]
+count $? "help: $(cat out err)"
+PATH=$work/without_rt run 0 "the version" "$launched" --version
+[ "$(cat out)" = $'korat unknown\nprogram: none yet' ] && [ ! -s err ]
+count $? "the version: $(cat out err)"
+[ ! -e checkout/crates/korat/out ]
+count $? "a build for the launcher's own words"
+run 0 "completions of bash" "$tools/completions" bash
+. ./out
+COMP_WORDS=(korat sh) COMP_CWORD=1
+_korat
+[ "${COMPREPLY[*]}" = shard ]
+count $? "a command's completion: ${COMPREPLY[*]}"
+COMP_WORDS=(korat shard --w) COMP_CWORD=2
+_korat
+[ "${COMPREPLY[*]}" = --workers ]
+count $? "an option's completion: ${COMPREPLY[*]}"
+COMP_WORDS=(korat list --pool d) COMP_CWORD=3
+_korat
+[ "${COMPREPLY[*]}" = deque ]
+count $? "a pool's completion: ${COMPREPLY[*]}"
+run 0 "completions of zsh" "$tools/completions" zsh
+[ "$(head -n 1 out)" = "#compdef korat" ] && grep -qF "'merge:joins such files'" out
+count $? "completions of zsh: $(cat out)"
+if command -v zsh >/dev/null; then
+    zsh -n out
+    count $? "completions of zsh: $(zsh -n out 2>&1)"
+fi
+refuse 2 "completions of no shell" "$tools/completions"
+refuse 2 "completions of another shell" "$tools/completions" fish
+[ "$(sed -n 's/^\\fBkorat \([a-z]*\)\\fR /korat \1 /p' "$top/docs/korat.1" | sed 's/^\(korat \)/\1/')" = "$(sed 's/^usage: //; s/^ *//' <<<"$synopsis")" ]
+count $? "the synopsis isn't that of docs/korat.1"
 
 # ---- builds
 
@@ -142,42 +180,28 @@ count $? "a build that fails: $(cat out err)"
 
 # ---- tools/unproved
 
-# An `rt try` that runs the program in a folder of its own, with copies of the files that it is given.
-cat >with_rt/rt <<'FAKE'
+# A build of a program that does what the one under test does, or fails.
+cat >checkout/tools/unproved-build <<'FAKE'
 #!/usr/bin/env bash
-[ "$1" = try ] || exit 99
-shift
-folder=$(mktemp -d)
-trap 'rm -rf "$folder"' EXIT
-while [ "$1" != -- ]; do
-    if [ "$1" = --data ]; then
-        name=${2%%=*}
-        case $name in /* | *..* | program | stdin | stdout | stderr) echo "no such name: $name" >&2; exit 2 ;; esac
-        mkdir -p "$folder/$(dirname "$name")"
-        cp "${2#*=}" "$folder/$name"
-    fi
-    shift 2
-done
-shift
-# As `rt try` does, which runs in the crate's folder.
-for word in "$@"; do
-    [ "${word:0:1}" = / ] || [ ! -f "$word" ] || cp --parents "$word" "$folder"
-done
-cd "$folder"
-"$KORAT" "$@"
-status=$?
-echo "run=ended status=$status runners=1 proved=no" >&2
-exit "$status"
+[ -z "${FAILS-}" ] || { echo broken; exit 1; }
+echo built >>"$BUILDS"
+printf '#!/usr/bin/env bash\nexec "%s" "$@"\n' "$KORAT" >"$2"
+chmod +x "$2"
 FAKE
+chmod +x checkout/tools/unproved-build
+export BUILDS=$work/builds
+: >"$BUILDS"
 
-# Says what the program says, in the folder `here`: as_program WORD..
+# Says what the program says, and that nothing of it is proved, in the folder `here`: as_program WORD..
 as_program() {
     local status
     (cd here && "$KORAT" "$@") >wanted 2>/dev/null </dev/null
     status=$?
     (cd here && exec "$work/checkout/tools/unproved" "$@") >out 2>err </dev/null
-    [ $? = "$status" ] && cmp -s wanted out && [ "$(cat err)" = "unproved: nothing of the program is proved in this run" ]
+    [ $? = "$status" ] && cmp -s wanted out && [ "$(tail -n 1 err)" = "unproved: nothing of this program is proved" ]
     count $? "unproved $*: $(cat out err)"
+    [ "$(wc -l <"$BUILDS")" = "$built" ]
+    count $? "unproved $*: $(wc -l <"$BUILDS") builds, and not $built"
 }
 
 mkdir -p here/below checkout/crates/korat/data
@@ -187,33 +211,70 @@ cp here/Cell.java here/stdin
 cp here/Cell.java "here/a=b.java"
 printf 'class A { #' >here/A.java
 cp here/fin.toml here/Cell.java checkout/crates/korat/data/
-find checkout -type f | sort >files
 if [ -x "$KORAT" ]; then
+    built=1
     as_program list fin.toml Cell.java
+    grep -q '^unproved: the program is built once, without a proof' err
+    count $? "a first call without a proof: $(cat err)"
     as_program list --limit 1 ./fin.toml below/Cell.java
+    [ "$(wc -l <err)" = 1 ]
+    count $? "a second call without a proof: $(cat err)"
     as_program list "$work/here/fin.toml" "$work/here/Cell.java"
-    as_program list --from=0.1 ../here/fin.toml below/../Cell.java
     as_program list fin.toml stdin
-    as_program list fin.toml a=b.java
     as_program check fin.toml "$work/here/A.java"
-    as_program check ../here/A.java Cell.java
-    as_program list "$work/none.toml" Cell.java
     as_program list fin.toml ../none.java
-    as_program list data/fin.toml data/Cell.java
-    as_program list fin.toml below
-    as_program list fin.toml ""
     as_program list
     as_program demo 3
+    echo >>checkout/crates/low/src/tests.rt
+    as_program demo 3
+    echo '// more' >>checkout/crates/low/src/lib.rt
+    built=2
+    as_program demo 3
+    KORAT_UNPROVED=1 run 0 "the launcher without a proof" "$launched" demo 3
+    [ "$(cat out err)" = $'nodes 3 valid 5\nkorat: nothing of this program is proved' ]
+    count $? "the launcher without a proof: $(cat out err)"
+    run 0 "where the program is" checkout/tools/unproved --program
+    [ -x "$(cat out)" ] && [[ $(cat out) == */checkout/crates/korat/out/unproved/*/korat ]]
+    count $? "where the program is: $(cat out)"
 else
-    echo "83 not tried: there is no program"
+    echo "30 not tried: there is no program"
 fi
-find checkout -type f | sort | cmp -s - files
-count $? "tools/unproved leaves files"
-refuse 2 "a try without words" checkout/tools/unproved
-printf '#!/bin/sh\necho broken >&2\nexit 2\n' >with_rt/rt
-run 70 "a try without an answer" checkout/tools/unproved demo 3
-[ ! -s out ] && grep -qx broken err
-count $? "a try without an answer: $(cat err)"
-PATH=$work/without_rt run 70 "no rt for a try" checkout/tools/unproved demo 3
+refuse 2 "a program without a proof, without words" checkout/tools/unproved
+echo '// still more' >>checkout/crates/low/src/lib.rt
+FAILS=1 run 70 "a build without a proof that fails" checkout/tools/unproved demo 3
+[ ! -s out ] && grep -qx broken err && [ "$(tail -n 1 err)" = "unproved: the build failed" ]
+count $? "a build without a proof that fails: $(cat err)"
+ls checkout/crates/korat/out/unproved | grep -q '^new\.'
+[ $? = 1 ]
+count $? "a build that failed leaves a folder"
+
+# ---- tools/install
+
+refuse 2 "an installation without a folder" "$tools/install"
+refuse 2 "an installation with an option" "$tools/install" --prefix
+: >file
+refuse 2 "an installation into a file" "$tools/install" file
+if [ -x "$KORAT" ]; then
+    mkdir jdk && for name in $(ls without_rt) rm cp mv ln chmod dirname basename sort head tr grep git; do
+        ln -sf "$(PATH=$path command -v "$name")" "jdk/$name"
+    done
+    PATH=$work/jdk run 0 "an installation" "$tools/install" prefix
+    run 0 "an installed program" prefix/bin/korat demo 3
+    [ "$(cat out err)" = $'nodes 3 valid 5\nkorat: nothing of this program is proved' ]
+    count $? "an installed program: $(cat out err)"
+    run 0 "an installed program's help" prefix/bin/korat --help
+    run 3 "an installed program's refusal" env KORAT_EXPLAIN=1 prefix/bin/korat check here/fin.toml here/A.java
+    grep -q '^P1: \|^L2: ' err
+    count $? "an installed program's refusal: $(cat err)"
+    "$KORAT" list here/fin.toml here/Cell.java >report
+    given=report run 0 "an installed tool" prefix/bin/korat-draw
+    cmp -s prefix/share/man/man1/korat.1 "$top/docs/korat.1" && [ -s prefix/share/zsh/site-functions/_korat ]
+    count $? "an installed page"
+    PATH=$work/jdk run 0 "an installation once more" "$tools/install" prefix
+    mkdir -p other/lib/korat
+    run 70 "an installation over something else" "$tools/install" other
+else
+    echo "12 not tried: there is no program"
+fi
 
 finish

@@ -1,5 +1,5 @@
 #!/usr/bin/env bash
-# Tries tools/Replay.java: the examples' listings, wrong rows, values of other types than the subset has, tests of JUnit, and wrong
+# Tries tools/replay: the examples' listings, wrong rows, values of other types than the subset has, tests of JUnit, and wrong
 # words. All of it needs Java; where there is none, it says how many tries weren't made.
 set -u
 top=$(cd "$(dirname "$(readlink -f "$0")")/../.." && pwd)
@@ -14,7 +14,7 @@ failed=0
 untried=0
 java=yes
 command -v java >/dev/null && command -v javac >/dev/null || java=""
-[ -z "$java" ] || javac -nowarn -proc:none -d ../classes "$top/tools/Replay.java" || java=""
+[ -z "$java" ] || "$top/tools/replay" >/dev/null 2>&1
 
 count() {
     if [ "$1" = 0 ]; then
@@ -25,9 +25,9 @@ count() {
     fi
 }
 
-# Runs the tool, compiled once: its output in `../out`, what it says in `../err`.
+# Runs the tool: its output in `../out`, what it says in `../err`.
 replay() {
-    java -Xshare:auto -XX:TieredStopAtLevel=1 -cp ../classes Replay "$@" >../out 2>../err
+    "$top/tools/replay" "$@" >../out 2>../err
 }
 
 # The rows on standard input, with these words, have to give this status and exactly these lines: rows STATUS LINES WORD..
@@ -62,21 +62,17 @@ refused() {
 
 for folder in "$top"/examples/*/; do
     cp "$folder"/fin.toml "$folder"/*.java .
-    rows 0 "agree $(($(wc -l <"$folder/expected") - 1))" --all fin.toml ./*.java <"$folder/expected"
+    if grep -q '^version = 2' fin.toml; then
+        refused 'version 2: Replay reads version 1 alone' --all fin.toml ./*.java <"$folder/expected"
+    else
+        rows 0 "agree $(($(wc -l <"$folder/expected") - 1))" --all fin.toml ./*.java <"$folder/expected"
+    fi
     rm ./*.java
 done
 for name in cell sorted-list heap-array two-stack-queue; do
     folder="$top/examples/$name"
     rows 0 "agree $(($(wc -l <"$folder/expected") - 1))" --plain --all "$folder/fin.toml" "$folder"/*.java <"$folder/expected"
 done
-if [ -n "$java" ]; then
-    java "$top/tools/Replay.java" "$top/examples/cell/fin.toml" "$top/examples/cell/Cell.java" <"$top/examples/cell/expected" >../out 2>../err
-    [ $? = 0 ] && [ "$(cat ../out)" = "agree 2" ] && [ ! -s ../err ]
-    count $? "the tool as a source: $(cat ../out ../err)"
-else
-    untried=$((untried + 1))
-fi
-
 # ---- rows that differ
 
 list="$top/examples/sorted-list"
@@ -126,6 +122,39 @@ printf '0.4 Cell#0{v=4}\nvalid 1 tried 5\n' >listing
 rows 1 'undecided Cell#0{v=1}: repOk takes more than 1000 steps
 undecided Cell#0{v=2}: repOk takes more than 1000 steps
 agree 1 differ 2' --all cell.toml Cell.java <listing
+
+# ---- what adapt writes for null among numbers, for outer objects, and records
+
+cat >Cell.java <<'END'
+class Cell {
+    Integer w;
+    In in;
+    Pair pair;
+    class In { boolean ok() { return w == null; } }
+    record Pair(int x, Integer y) { }
+    boolean repOk() { return in.ok() && pair.equals(new Pair(1, null)); }
+}
+END
+cat >cell.toml <<'END'
+# In what Replay reads, null is -2147483648.
+root = "Cell"
+fuel = 1000
+[objects]
+Cell = 1
+In = 1
+Pair = 1
+[fields]
+"Cell.w" = [-2147483648, 1]
+"Cell.in" = ["In"]
+"Cell.pair" = ["null", "Pair"]
+"In.outer" = ["Cell"]
+"Pair.x" = [0, 1]
+"Pair.y" = [-2147483648, 1]
+END
+rows 0 'agree 1' --all cell.toml Cell.java <<'END'
+0.0.0.0.1.1.0 Cell#0{w=-2147483648,in=In#0,pair=Pair#0} In#0{outer=Cell#0} Pair#0{x=1,y=-2147483648}
+valid 1 tried 5
+END
 
 # ---- classes as their authors write them
 

@@ -1,0 +1,350 @@
+package meaning;
+
+import java.util.ArrayList;
+import java.util.List;
+import java.util.Random;
+
+/** A class made at random: fields, locals of every kind that Adapt knows, collections, enums, boxes, arrays, loops, methods. */
+final class RandomClass {
+    private static final List<String> TYPES = List.of("int", "boolean", "Integer", "Boolean", "E", "byte", "char", "short");
+    private final long seed;
+    private final Random random;
+    /** Locals and fields that are seen, by their types; those of the innermost block are last. */
+    private final List<String[]> variables = new ArrayList<>();
+    private final List<String> methods = new ArrayList<>();
+    /** Collections that a loop goes through, which it may not change. */
+    private final List<String> open = new ArrayList<>();
+    private int names;
+    private int depth;
+    private int loops;
+
+    RandomClass(long seed) {
+        this.seed = seed;
+        random = new Random(seed * 7919 + 17);
+    }
+
+    Case made() {
+        StringBuilder fields = new StringBuilder();
+        StringBuilder bounds = new StringBuilder();
+        field(fields, bounds, "int", "w", "[0, 1, 5]");
+        if (random.nextBoolean()) field(fields, bounds, "Integer", "x", random.nextBoolean() ? "[\"null\", 1, 2]" : "[1, 2]");
+        if (random.nextBoolean()) field(fields, bounds, "E", "e", random.nextBoolean() ? "[\"null\", \"E\"]" : "[\"A\", \"C\"]");
+        if (random.nextInt(3) == 0) field(fields, bounds, "Boolean", "t", random.nextBoolean() ? "[\"null\", true, false]" : "[true, false]");
+        if (random.nextInt(3) == 0) field(fields, bounds, "Cell", "o", "[\"null\", \"Cell\"]");
+        if (random.nextInt(3) == 0) {
+            field(fields, bounds, "Integer[]", "b", "[\"Integer[]\"]");
+            bounds.append("arrays.\"Integer[]\" = { count = 1, lengths = [2] }\nfields.\"Integer[].*\" = [\"null\", 1]\n");
+        }
+        variables.add(new String[] {"int", "v"});
+        StringBuilder helpers = new StringBuilder();
+        for (int i = random.nextInt(3); i > 0; i--) helpers.append(method());
+        String text = "enum E { A, B, C }\n" + fields + helpers + "boolean repOk() " + body("boolean") + "\n";
+        return Case.of("random-" + seed, "any", "", null, bounds.toString(), text);
+    }
+
+    private void field(StringBuilder fields, StringBuilder bounds, String type, String name, String domain) {
+        fields.append(type).append(" ").append(name).append(";\n");
+        bounds.append("fields.\"Cell.").append(name).append("\" = ").append(domain).append("\n");
+        variables.add(new String[] {type, name});
+    }
+
+    private String method() {
+        String type = pick(List.of("int", "Integer", "E", "boolean", "Boolean"));
+        int before = variables.size();
+        String a = "p" + names++;
+        String b = "p" + names++;
+        variables.add(new String[] {"Integer", a});
+        variables.add(new String[] {"E", b});
+        String text = type + " m" + methods.size() + "(Integer " + a + ", E " + b + ") " + body(type) + "\n";
+        while (variables.size() > before) variables.remove(variables.size() - 1);
+        methods.add(type + " m" + methods.size());
+        return text;
+    }
+
+    private String body(String type) {
+        int before = variables.size();
+        StringBuilder text = new StringBuilder("{\n");
+        for (int i = 3 + random.nextInt(5); i > 0; i--) text.append(declaration());
+        for (int i = 2 + random.nextInt(5); i > 0; i--) text.append(statement(3, type));
+        text.append("return ").append(of(type, 3)).append(";\n}");
+        while (variables.size() > before) variables.remove(variables.size() - 1);
+        return text.toString();
+    }
+
+    // ---- statements
+
+    private String declaration() {
+        String name = "x" + names++;
+        String type;
+        String value;
+        switch (random.nextInt(4)) {
+            case 0 -> {
+                type = pick(List.of("List<Integer>", "Set<Integer>", "Deque<Integer>", "Map<Integer, Integer>", "Map<Integer, E>", "List<E>", "List<Boolean>"));
+                value = "new " + switch (type.substring(0, type.indexOf('<'))) {
+                    case "List" -> pick(List.of("ArrayList", "LinkedList"));
+                    case "Set" -> pick(List.of("LinkedHashSet", "TreeSet"));
+                    case "Deque" -> pick(List.of("ArrayDeque", "LinkedList"));
+                    default -> pick(List.of("LinkedHashMap", "TreeMap"));
+                } + "<>()";
+            }
+            case 1 -> {
+                type = pick(List.of("int[]", "E[]", "boolean[]", "byte[]"));
+                String element = type.substring(0, type.length() - 2);
+                value = random.nextBoolean() ? "new " + element + "[3]" : "{ " + of(element, 1) + ", " + of(element, 1) + " }";
+            }
+            default -> {
+                type = pick(TYPES);
+                value = of(type, 2);
+            }
+        }
+        variables.add(new String[] {type, name});
+        return type + " " + name + " = " + value + ";\n";
+    }
+
+    private String block(int deep, String result) {
+        int before = variables.size();
+        StringBuilder text = new StringBuilder("{ ");
+        for (int i = 1 + random.nextInt(2); i > 0; i--) text.append(random.nextInt(4) == 0 ? declaration() : statement(deep - 1, result));
+        while (variables.size() > before) variables.remove(variables.size() - 1);
+        return text.append("}").toString();
+    }
+
+    private String statement(int deep, String result) {
+        switch (random.nextInt(deep <= 0 ? 7 : 13)) {
+            case 0: case 1: return assignment();
+            case 2: case 3: return change();
+            case 4: return "if (" + of("boolean", 2) + ") " + (random.nextInt(4) == 0 ? "return " + of(result, 2) + ";\n" : assignment());
+            case 5: return random.nextInt(4) == 0 ? "assert " + of("boolean", 2) + ";\n" : assignment();
+            case 6: return loops > 0 && random.nextBoolean() ? "if (" + of("boolean", 1) + ") " + pick(List.of("break", "continue")) + ";\n" : assignment();
+            case 7: return "if (" + of("boolean", 2) + ") " + block(deep, result) + (random.nextBoolean() ? " else " + block(deep, result) : "") + "\n";
+            case 8: return counted(deep, result);
+            case 9: case 10: return over(deep, result);
+            case 11: return chosen(deep, result);
+            default: return random.nextInt(3) == 0 ? "if (" + of("boolean", 2) + ") throw new IllegalStateException();\n" : over(deep, result);
+        }
+    }
+
+    private String assignment() {
+        String[] one = variable(TYPES);
+        if (one == null || isField(one[1])) return ";\n";
+        String small = "byte|char|short|int";
+        if (one[0].matches(small) && random.nextInt(3) == 0)
+                return one[1] + pick(List.of(" += ", " -= ", " *= ", " &= ", " |= ", " ^= ", " <<= ", " >>= ", " >>>= ", " /= ")) + of("int", 1) + ";\n";
+        if (one[0].matches(small + "|Integer") && random.nextInt(4) == 0) return one[1] + pick(List.of("++", "--")) + ";\n";
+        return one[1] + " = " + of(one[0], 2) + ";\n";
+    }
+
+    private static boolean isField(String name) {
+        return name.matches("[a-w]|o|t|x|e|b");
+    }
+
+    private String change() {
+        String[] one = variable(List.of("List<Integer>", "Set<Integer>", "Deque<Integer>", "Map<Integer, Integer>", "Map<Integer, E>", "List<E>", "List<Boolean>",
+                "int[]", "E[]", "boolean[]", "byte[]"));
+        if (one == null || open.contains(one[1])) return assignment();
+        String name = one[1];
+        switch (one[0]) {
+            case "List<Integer>": return name + pick(List.of(".add(" + box() + ")", ".remove(" + of("int", 1) + ")", ".add(0, " + of("int", 1) + ")",
+                    ".remove(Integer.valueOf(" + of("int", 1) + "))", ".set(" + of("int", 1) + ", " + of("int", 1) + ")", ".clear()")) + ";\n";
+            case "List<E>": return name + ".add(" + of("E", 1) + ");\n";
+            case "List<Boolean>": return name + ".add(" + of("Boolean", 1) + ");\n";
+            case "Set<Integer>": return name + pick(List.of(".add(" + box() + ")", ".remove(" + of("int", 1) + ")")) + ";\n";
+            case "Deque<Integer>": return name + pick(List.of(".push(" + box() + ")", ".addLast(" + of("int", 1) + ")", ".poll()", ".pollLast()", ".pop()")) + ";\n";
+            case "Map<Integer, Integer>": return name + pick(List.of(".put(" + of("int", 1) + ", " + box() + ")", ".remove(" + of("int", 1) + ")",
+                    ".putIfAbsent(" + of("int", 1) + ", " + of("int", 1) + ")")) + ";\n";
+            case "Map<Integer, E>": return name + ".put(" + of("int", 1) + ", " + of("E", 1) + ");\n";
+            default:
+                String element = one[0].substring(0, one[0].length() - 2);
+                return name + "[" + index() + "] = " + of(element, 1) + ";\n";
+        }
+    }
+
+    private String counted(int deep, String result) {
+        String name = "i" + names++;
+        variables.add(new String[] {"int", name});
+        loops++;
+        String text = "for (int " + name + " = 0, k" + names + " = 0; " + name + " < 3 && k" + names + "++ < 4; " + name + "++) ";
+        names++;
+        text += block(deep, result) + "\n";
+        loops--;
+        variables.removeIf(one -> one[1].equals(name));
+        return text;
+    }
+
+    private String over(int deep, String result) {
+        String[] one = variable(List.of("List<Integer>", "Set<Integer>", "Deque<Integer>", "Map<Integer, Integer>", "List<E>", "int[]", "E[]", "byte[]"));
+        if (one == null) return counted(deep, result);
+        String name = "y" + names++;
+        String element = one[0].startsWith("Map") ? "Integer" : one[0].contains("<") ? one[0].substring(one[0].indexOf('<') + 1, one[0].length() - 1)
+                : one[0].substring(0, one[0].length() - 2);
+        if (element.equals("Integer") && random.nextInt(3) == 0) element = "int";
+        open.add(one[1]);
+        variables.add(new String[] {element, name});
+        loops++;
+        String what = one[0].startsWith("Map") ? one[1] + pick(List.of(".keySet()", ".values()")) : one[1];
+        String text = "for (" + element + " " + name + " : " + what + ") " + block(deep, result) + "\n";
+        loops--;
+        variables.removeIf(two -> two[1].equals(name));
+        open.remove(one[1]);
+        return text;
+    }
+
+    private String chosen(int deep, String result) {
+        boolean constants = random.nextBoolean();
+        int kept = loops;
+        loops = 0;
+        StringBuilder text = new StringBuilder("switch (" + (constants ? variable("E", () -> "E.B") : number(2)) + ") {\n");
+        for (int i = 0; i < 2; i++) text.append("case ").append(constants ? i == 0 ? "B" : "A" : String.valueOf(i + 1)).append(": ")
+                .append(block(deep - 1, result)).append(random.nextInt(3) > 0 ? " break;\n" : "\n");
+        if (random.nextBoolean()) text.append("default: ").append(block(deep - 1, result)).append("\n");
+        loops = kept;
+        return text.append("}\n").toString();
+    }
+
+    // ---- expressions
+
+    private String of(String type, int deep) {
+        switch (type) {
+            case "int": return number(deep);
+            case "boolean": return truth(deep);
+            case "Integer": return boxed(deep);
+            case "Boolean": return random.nextInt(4) == 0 ? "null" : variable(type, () -> "Boolean.valueOf(" + truth(deep - 1) + ")");
+            case "E": return constant(deep);
+            case "byte": case "short": case "char":
+                return random.nextInt(3) == 0 ? variable(type, () -> "(" + type + ") " + random.nextInt(200)) : "(" + type + ") (" + number(deep - 1) + ")";
+            default: return "null";
+        }
+    }
+
+    private String box() {
+        return random.nextInt(3) == 0 ? boxed(1) : number(1);
+    }
+
+    private String number(int deep) {
+        if (deep <= 0) return random.nextInt(3) == 0 ? String.valueOf(random.nextInt(5)) : variable("int", () -> "v");
+        switch (random.nextInt(20)) {
+            case 0: case 1: case 2: return "(" + number(deep - 1) + pick(List.of(" + ", " - ", " * ", " & ", " | ", " ^ ", " << ", " >> ", " >>> ")) + number(deep - 1) + ")";
+            case 3: return "(" + number(deep - 1) + pick(List.of(" / ", " % ")) + number(deep - 1) + ")";
+            case 4: return "(0 + (" + truth(deep - 1) + " ? " + number(deep - 1) + " : " + box() + "))";
+            case 5: return "Math." + pick(List.of("max", "min")) + "(" + number(deep - 1) + ", " + number(deep - 1) + ")";
+            case 6: return "Math.abs(" + number(deep - 1) + ")";
+            case 7: return "(0 + " + variable("Integer", () -> "v") + ")";
+            case 8: return collection("List<Integer>", ".size()", ".indexOf(" + number(0) + ")");
+            case 9: return "(0 + " + collection("List<Integer>", ".get(" + index() + ")") + ")";
+            case 10: return "(0 + " + collection("Map<Integer, Integer>", ".getOrDefault(" + number(0) + ", 1)", ".size()") + ")";
+            case 11: return variable("E", () -> "E.B") + pick(List.of(".ordinal()", ".compareTo(E.B)"));
+            case 12: return collection("int[]", "[" + index() + "]", ".length");
+            case 13: return "(0 + " + variable("byte", () -> variable("char", () -> "v")) + ")";
+            case 14: return call("int", deep);
+            case 15: return "-(" + number(deep - 1) + ")";
+            case 16: return stepped();
+            case 17: return "Integer." + pick(List.of("compare", "sum", "max")) + "(" + number(deep - 1) + ", " + number(deep - 1) + ")";
+            case 18: return "(0 + (" + pick(List.of("byte", "short", "char")) + ") (" + number(deep - 1) + "))";
+            default: return "(" + number(deep - 1) + ")";
+        }
+    }
+
+    private String stepped() {
+        String[] one = variable(List.of("int"));
+        if (one == null || isField(one[1]) || one[1].startsWith("i")) return "v";
+        return pick(List.of(one[1] + "++", "++" + one[1], one[1] + "--", "(" + one[1] + " = " + number(1) + ")", "(" + one[1] + " += " + number(0) + ")"));
+    }
+
+    private String index() {
+        return random.nextInt(4) == 0 ? number(1) : String.valueOf(random.nextInt(3));
+    }
+
+    private String truth(int deep) {
+        if (deep <= 0) return random.nextInt(3) == 0 ? pick(List.of("true", "false")) : variable("boolean", () -> "v > 1");
+        switch (random.nextInt(14)) {
+            case 0: case 1: return "(" + number(deep - 1) + pick(List.of(" < ", " <= ", " > ", " >= ", " == ", " != ")) + number(deep - 1) + ")";
+            case 2: return "(" + truth(deep - 1) + pick(List.of(" && ", " || ", " & ", " | ", " ^ ", " == ", " != ")) + truth(deep - 1) + ")";
+            case 3: return "!(" + truth(deep - 1) + ")";
+            case 4: return "(" + boxed(deep - 1) + pick(List.of(" == ", " != ")) + "null)";
+            case 5: return "(" + constant(deep - 1) + pick(List.of(" == ", " != ")) + constant(deep - 1) + ")";
+            case 6: return "Objects.equals(" + boxed(deep - 1) + ", " + boxed(deep - 1) + ")";
+            case 7: return collectionTruth();
+            case 8: return variable("Boolean", () -> truth(deep - 1));
+            case 9: return call("boolean", deep);
+            case 10: return "Objects.equals(" + constant(deep - 1) + ", " + constant(deep - 1) + ")";
+            case 11: return variable("Integer", () -> "Integer.valueOf(v)") + ".equals(" + number(deep - 1) + ")";
+            case 12: return "(" + truth(deep - 1) + " ? " + truth(deep - 1) + " : " + truth(deep - 1) + ")";
+            default: return "(o0() == null)".replace("o0()", variable("Cell", () -> "this"));
+        }
+    }
+
+    private String collectionTruth() {
+        String[] one = variable(List.of("List<Integer>", "Set<Integer>", "Deque<Integer>", "Map<Integer, Integer>", "List<E>"));
+        if (one == null) return "true";
+        String name = one[1];
+        switch (one[0]) {
+            case "Map<Integer, Integer>": return name + ".containsKey(" + number(1) + ")";
+            case "List<E>": return name + ".contains(" + constant(1) + ")";
+            case "Set<Integer>": return open.contains(name) ? name + ".isEmpty()" : name + pick(List.of(".add(", ".contains(", ".remove(")) + number(1) + ")";
+            default: return pick(List.of(name + ".contains(" + box() + ")", name + ".isEmpty()"));
+        }
+    }
+
+    private String boxed(int deep) {
+        switch (random.nextInt(8)) {
+            case 0: return "null";
+            case 1: return "Integer.valueOf(" + number(deep - 1) + ")";
+            case 2: return orNull(collection("Map<Integer, Integer>", ".get(" + number(0) + ")"));
+            case 3: return orNull(collection("Deque<Integer>", ".peek()", ".peekLast()"));
+            case 4: return orNull(collection("List<Integer>", ".get(" + index() + ")"));
+            case 5: return deep <= 0 ? variable("Integer", () -> "null") : orNull(call("Integer", deep));
+            case 6: return "(" + truth(deep - 1) + " ? " + variable("Integer", () -> "null") + " : null)";
+            default: return variable("Integer", () -> "null");
+        }
+    }
+
+    private static String orNull(String text) {
+        return text.equals("v") ? "null" : text;
+    }
+
+    private String constant(int deep) {
+        switch (random.nextInt(9)) {
+            case 0: return "null";
+            case 1: case 2: return "E." + pick(List.of("A", "B", "C"));
+            case 3: return "E.values()[" + index() + "]";
+            case 4: return collection("E[]", "[" + index() + "]").replaceAll("^v$", "E.A");
+            case 5: return collection("Map<Integer, E>", ".get(" + number(0) + ")").replaceAll("^v$", "E.B");
+            case 6: return deep <= 0 ? "E.C" : "(" + truth(deep - 1) + " ? " + constant(deep - 1).replaceAll("^null$", "E.C") + " : " + constant(deep - 1) + ")";
+            case 7: return deep <= 0 ? "E.C" : call("E", deep).replaceAll("^v$", "E.A");
+            default: return variable("E", () -> "E.A");
+        }
+    }
+
+    private String call(String type, int deep) {
+        List<String> fitting = methods.stream().filter(one -> one.startsWith(type + " ")).toList();
+        if (fitting.isEmpty() || depth > 1) return type.equals("boolean") ? "(v == 2)" : "v";
+        depth++;
+        String text = pick(fitting).substring(type.length() + 1) + "(" + box() + ", " + constant(deep - 1) + ")";
+        depth--;
+        return text;
+    }
+
+    private String collection(String type, String... uses) {
+        String[] one = variable(List.of(type));
+        return one == null ? "v" : one[1] + pick(List.of(uses));
+    }
+
+    private String[] variable(List<String> types) {
+        List<String[]> fitting = variables.stream().filter(one -> types.contains(one[0])).toList();
+        return fitting.isEmpty() ? null : fitting.get(random.nextInt(fitting.size()));
+    }
+
+    private String variable(String type) {
+        String[] one = variable(List.of(type));
+        return one == null ? null : one[1];
+    }
+
+    private String variable(String type, java.util.function.Supplier<String> other) {
+        String name = variable(type);
+        return name == null ? other.get() : name;
+    }
+
+    private String pick(List<String> from) {
+        return from.get(random.nextInt(from.size()));
+    }
+}
