@@ -5,7 +5,7 @@
 #     bench/merge.sh [RUNS [FILES [WIDTH]]]      how many runs each figure is the best of, 5 where it isn't said; how many files, 64;
 #                                                rows of four numbers below so much, 24
 #
-# `sort -m` looks at no key, no span and no count; it stands here for what reading, comparing and writing so many lines costs.
+# `sort -m` looks at no key, no span and no count; it shows here the cost of reading, comparing and writing so many lines.
 # It needs bash 5, awk and the program (run ./korat once, or KORAT names another one). Peak memory needs GNU time as
 # /usr/bin/time.
 files=${2:-64}

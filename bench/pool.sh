@@ -3,14 +3,14 @@
 # prints for each number of workers the least wall time and the least processor time of some runs, and their ratios to one
 # worker's; and to those of as many runs by one worker at once, since a processor is slower where its neighbours work, too: of each
 # the least. And of a run with --trace: how many entries were scanned and taken in, how many drains there were, how many looks,
-# how many rests were laid out for others, how many events the log has, and whether the listing's bytes are one worker's. Then
-# the same over deques (--pool deque), whose times stand beside those of the board with as many workers; and
+# how many rests were split off for others, how many events the log has, and whether the listing's bytes are one worker's. Then
+# the same over deques (--pool deque), whose times are beside those of the board with as many workers; and
 # the same times for the trees of the demo, and the peak memory. First it says how many processors the machine has, and how
 # many of them were free in the second before. It judges nothing and never fails.
 #
 # Entries scanned are the sum over the lines `report`, drains the lines `drain`. A look is a take that found nothing left, or a
-# part that a full board gave back, which is reported again. A rest laid out is a line `steal`. An event is a hold of the lock,
-# but that a rest laid out is two more in its report's.
+# part that a full board gave back, which is reported again. A rest that is split off is a line `steal`. An event is a hold of the lock,
+# but that a rest that is split off is two more in its report's.
 #
 # It needs bash 5 and the program (run ./korat once, or KORAT names another one). Peak memory needs GNU time as /usr/bin/time;
 # where it isn't there, the script says so in place of the figure.
@@ -70,7 +70,7 @@ times_beside() {
     echo "$((10#${wall/./})) $(((10#${user/./} + 10#${system/./}) / count))"
 }
 
-# The least times for each number of workers, in turns: of a command, its words in front and behind. `least_wall` and
+# The least times for each number of workers, in turns: of a command, its words before and after. `least_wall` and
 # `least_used` have them by the number of workers, `beside_wall` and `beside_used` those of one worker beside as many others as
 # there are processors for.
 declare -A least_wall least_used beside_wall beside_used
@@ -99,7 +99,7 @@ say_times() {
         "$(ratio "${least_used[$1]}" "${beside_used[$1]}")" "$1"
 }
 
-# What the log says of a run: entries scanned, drains, looks, rests laid out, events.
+# What the log says of a run: entries scanned, drains, looks, rests split off, events.
 read_trace() {
     awk '
         /^(take|giveup|steal|report|look|drain|stop) / { events++ }
@@ -125,7 +125,7 @@ figures() {
             "$program" list --workers "$count" "${window[@]}" --trace "$@" >"$work/traced"
             read -r scanned drains looks laid_out events < <(read_trace "$work/traced")
             say_times "$count"
-            echo "; entries $scanned, drains $drains, looks $looks, rests laid out $laid_out, events $events ($((events * 1000 / (least_wall[$count] + 1))) a second), $same"
+            echo "; entries $scanned, drains $drains, looks $looks, rests split off $laid_out, events $events ($((events * 1000 / (least_wall[$count] + 1))) a second), $same"
         done
     fi
     [ "${POOL-}" = board ] || deque_figures "$@"

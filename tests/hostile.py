@@ -5,17 +5,22 @@
 
     equal      every folder of examples/, listed and its methods tested: the same bytes and status, however it is shared
     cases      every call in tests/cases, shared in five ways at random
+    domains    two to four object domains of one class at random, against all renamings that keep each domain
     limits     from, to and limit at random: inside segments, at a window's end, at the last row and beside it
     mutated    finitizations of examples/ with characters or lines changed at random
     cut        a source cut at each byte, one that never ends, a long one, and a spent entry at many places of a listing
     pipes      a reader that leaves after some rows: 7, and a front of the bytes
     full       a disk that is full after so many bytes: 7, and exactly so many bytes; it mounts a tmpfs, so it needs root
     memory     an address space of 22 sizes: the whole; or 8, rows from the first one on, and `out of memory`
+    stack      a stack of 64 KB and more: the whole
+    size       a file that may grow by so many blocks only: 7, and exactly so many bytes
+    signals    reads and writes that a signal interrupts, by strace: 64 times each, and the whole; once more, and 6 or 7
+    waiting    a pipe that doesn't block and has no room: 7, and a front of the bytes
 
 KORAT names the program; SEED another start of what is at random. A call that takes two minutes is one that hangs. The last
 line is `N passed, M failed`, and the status is 0 where none failed. It proves nothing, and no gate runs it.
 """
-import glob, os, random, re, resource, shutil, subprocess, sys, tempfile
+import fcntl, glob, itertools, os, random, re, resource, shutil, signal, subprocess, sys, tempfile
 
 TOP = os.path.dirname(os.path.dirname(os.path.abspath(__file__)))
 KORAT = os.path.abspath(os.environ.get("KORAT", os.path.join(TOP, "crates/korat/out/korat")))
@@ -88,8 +93,69 @@ def cases():
             count(got == wanted, f"case {os.path.basename(folder[:-1])}, {way}: {got[0]}, and not {wanted[0]}")
 
 
+def listed_by_renaming(counts, root, items):
+    """The listing of all nodes with one field, by its definition: of each candidate the least renamed one."""
+    objects = [(name, number) for name in sorted(counts, key=str.encode) for number in range(counts[name])]
+    values = [value for item in items for value in ([None] if item == "null" else [(item, number) for number in range(counts[item])])]
+    index = {value: at for at, value in enumerate(values)}
+    ways = [itertools.permutations(range(counts[name])) for name in counts]
+    renamings = [{(name, number): (name, way[number]) for name, way in zip(counts, both) for number in range(counts[name])}
+                 for both in itertools.product(*ways)]
+
+    def walked(this, field):
+        seen, key, at = [this], [this[1]], 0
+        while at < len(seen):
+            key.append(index[field[seen[at]]])
+            if field[seen[at]] is not None and field[seen[at]] not in seen:
+                seen.append(field[seen[at]])
+            at += 1
+        return tuple(key), seen
+
+    def shown(value):
+        return "null" if value is None else f"{value[0]}#{value[1]}"
+
+    rows = {}
+    for number in range(counts[root]):
+        for chosen in itertools.product(values, repeat=len(objects)):
+            field, best = dict(zip(objects, chosen)), None
+            for renaming in renamings:
+                renamed = {renaming[o]: v and renaming[v] for o, v in field.items()}
+                key, seen = walked(renaming[root, number], renamed)
+                if best is None or key < best[0]:
+                    best = key, " ".join(f"{shown(o)}{{next={shown(renamed[o])}}}" for o in seen)
+            rows[best[0]] = best[1]
+    lines = [".".join(map(str, key)) + " " + rows[key] + "\n" for key in sorted(rows)]
+    return "".join(lines) + f"valid {len(rows)} tried {len(rows)}\n"
+
+
+def domains():
+    folder = tempfile.mkdtemp()
+    with open(folder + "/N.java", "w") as file:
+        file.write("class N { N next; boolean repOk() { return true; } }\n")
+    for _ in range(60):
+        names = CHANCE.sample(["A", "B", "Rest", "_x", "int", "größe", "数", "N", "Null", "$"], CHANCE.randint(2, 4))
+        while True:
+            counts = {name: CHANCE.choice([0, 1, 1, 2, 2]) for name in names}
+            if sum(counts.values()) <= 4 and any(counts.values()):
+                break
+        root = CHANCE.choice([name for name in names if counts[name]])
+        items = CHANCE.sample(names, CHANCE.randint(1, len(names))) + ["null"] * CHANCE.randint(0, 1)
+        CHANCE.shuffle(items)
+        if not any(item == "null" or counts[item] for item in items):
+            continue
+        lines = [f'"{name}" = {{ class = "N", count = {counts[name]} }}\n' for name in names]
+        CHANCE.shuffle(lines)
+        with open(folder + "/fin.toml", "w") as file:
+            named = ", ".join(f'"{item}"' for item in items)
+            file.write(f'version = 2\nroot = "{root}"\nfuel = 1000\n[objects]\n' + "".join(lines) + f'[fields]\n"N.next" = [{named}]\n')
+        one = compare(["list", "fin.toml", "N.java"], folder, CHANCE.sample(WAYS, 2), "domains")
+        wanted = listed_by_renaming({name: n for name, n in counts.items()}, root, items)
+        count(one == (0, wanted.encode(), b""), f"domains: {counts} {root} {items}: {one[1][:80]}")
+    shutil.rmtree(folder)
+
+
 def some_span(keys):
-    """Words that ask for a part: keys of rows, keys behind one, a key's front; and a limit."""
+    """Words that ask for a part: keys of rows, keys after one, a key's front; and a limit."""
     words, rows = [], len(keys)
     if CHANCE.random() < 0.6:
         key = CHANCE.choice(keys)
@@ -221,7 +287,7 @@ def full():
 
 
 def is_whole_or_told(status, out, whole):
-    """Whether a listing ended well, or told want of memory behind its first rows, or before it had a line."""
+    """Whether a listing ended well, or reported out of memory after its first rows, or before it had a line."""
     if status != 8:
         return status == 0 and out.startswith(whole)
     rows, wanted = out.split(b"\n")[:-1], whole.split(b"\n")[:-2]
@@ -247,7 +313,73 @@ def memory():
             print(f"memory {' '.join(way)}:", ", ".join(f"{status} {times} times" for status, times in sorted(ends.items(), key=str)))
 
 
-PARTS = {part.__name__: part for part in (equal, cases, limits, mutated, cut, pipes, full, memory)}
+def stack():
+    with tempfile.TemporaryDirectory() as work:
+        whole = trees(work, 8)
+        for size in (64, 96, 128, 256, 1024):
+            def small(size=size):
+                resource.setrlimit(resource.RLIMIT_STACK, (size * 1024, size * 1024))
+
+            for way in [[], *CHANCE.sample(WAYS, 4)]:
+                status, out, error = run(["list", *way, "trees.toml", "Tree.java"], work, preexec_fn=small)
+                count((status, out, error) == (0, whole, b""), f"a stack of {size} KB, {way}: {status}, {len(out)} bytes, {error[:80]}")
+
+
+def size():
+    with tempfile.TemporaryDirectory() as work:
+        whole = trees(work, 8)
+        for most in (0, 1, 512, 4096, 65536, 100000):
+            def limited(most=most):
+                signal.signal(signal.SIGXFSZ, signal.SIG_IGN)
+                resource.setrlimit(resource.RLIMIT_FSIZE, (most, most))
+
+            for way in [[], *CHANCE.sample(WAYS, 6)]:
+                with open(work + "/out", "wb") as out:
+                    status, _, error = run(["list", *way, "trees.toml", "Tree.java"], work, stdout=out, preexec_fn=limited, restore_signals=False)
+                written = open(work + "/out", "rb").read()
+                good = status == 7 and whole.startswith(written) and len(written) == min(most, len(whole)) and error == b""
+                count(good, f"a file of at most {most} bytes, {way}: {status}, {len(written)} bytes")
+
+
+def interrupted(filters, words, work):
+    """Status and output of a call under strace with these words."""
+    ended = subprocess.run(["strace", "-f", "-o", "/dev/null", *filters, KORAT, *words], cwd=work, stdin=subprocess.DEVNULL, stdout=subprocess.PIPE, stderr=subprocess.PIPE, timeout=SECONDS)
+    return ended.returncode, ended.stdout
+
+
+def signals():
+    if not shutil.which("strace"):
+        print("signals aren't tried: there is no strace")
+        return
+    with tempfile.TemporaryDirectory() as work:
+        whole = trees(work, 6)
+        words = ["list", "trees.toml", "Tree.java"]
+        if interrupted([], ["demo", "3"], work)[0] != 0:
+            print("signals aren't tried: strace can't trace here")
+            return
+        for call, file, status in (("write", [], 7), ("read", ["-P", "trees.toml"], 6), ("read", ["-P", "Tree.java"], 6)):
+            for times in (1, 2, 63, 64, 65, 10000):
+                got = interrupted([*file, "-e", f"inject={call}:error=EINTR:when=1..{times}"], words, work)
+                wanted = (0, whole) if times < 65 else (status, got[1])
+                good = got == wanted and (times < 65 or not got[1].startswith(whole[:8]))
+                count(good, f"{times} interruptions of {call} {file}: {got[0]}, {len(got[1])} bytes")
+
+
+def waiting():
+    with tempfile.TemporaryDirectory() as work:
+        whole = trees(work, 8)
+        for way in [[], *CHANCE.sample(WAYS, 8)]:
+            reader, writer = os.pipe()
+            fcntl.fcntl(writer, fcntl.F_SETFL, fcntl.fcntl(writer, fcntl.F_GETFL) | os.O_NONBLOCK)
+            fcntl.fcntl(writer, fcntl.F_SETPIPE_SZ, 4096)
+            status, _, error = run(["list", *way, "trees.toml", "Tree.java"], work, stdout=writer)
+            os.close(writer)
+            front = os.read(reader, 1 << 20)
+            os.close(reader)
+            count(status == 7 and whole.startswith(front) and error == b"", f"a full pipe that doesn't block, {way}: {status}, {len(front)} bytes")
+
+
+PARTS = {part.__name__: part for part in (equal, cases, domains, limits, mutated, cut, pipes, full, memory, stack, size, signals, waiting)}
 
 if __name__ == "__main__":
     asked = sys.argv[1:] or list(PARTS)
