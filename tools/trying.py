@@ -11,6 +11,20 @@ from subset import Program
 HERE = os.path.dirname(os.path.realpath(__file__))
 
 
+def root_class(text):
+    """The class of the root: in version 1 the root's name, in version 2 the class of the object domain that has it."""
+    root = re.search(r"(?m)^\s*root\s*=\s*[\"']([^\"']+)[\"']", text)
+    root = root.group(1) if root else ""
+    if not re.search(r"(?m)^\s*version\s*=\s*2\b", text):
+        return root
+    key = f"[\"']?{re.escape(root)}[\"']?"
+    inline = re.search(rf"(?m)^\s*(?:objects\s*\.\s*)?{key}\s*=\s*\{{[^}}\n]*\bclass\s*=\s*[\"']([^\"']+)[\"']", text)
+    table = re.search(rf"(?m)^\s*\[\s*objects\s*\.\s*{key}\s*\][^\[]*?^\s*class\s*=\s*[\"']([^\"']+)[\"']", text)
+    dotted = re.search(rf"(?m)^\s*(?:objects\s*\.\s*)?{key}\s*\.\s*class\s*=\s*[\"']([^\"']+)[\"']", text)
+    found = inline or table or dotted
+    return found.group(1) if found else root
+
+
 class Trial:
     """Files that the program accepts, in a folder of their own: the class as it is, or adapted."""
 
@@ -42,8 +56,7 @@ class Trial:
         self.take()
         self.program = Program(self.files)
         with open(self.fin, encoding="utf-8") as file:
-            root = re.search(r"(?m)^\s*root\s*=\s*[\"']([^\"']+)[\"']", file.read())
-        self.root = root.group(1) if root else ""
+            self.root = root_class(file.read())
 
     def take(self):
         """Sets `files` to the sources in the subset, and `fin` to their finitization."""

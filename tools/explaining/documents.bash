@@ -54,7 +54,14 @@ explain_tables() {
 # A value of the wrong kind: a domain without brackets, a key with too few dots or too many.
 explain_kind() {
     local item=$1 key=${1#*.} value
-    case $item in fields.* | params.*) ;; *) return 0 ;; esac
+    case $item in
+    fields.* | params.*) ;;
+    objects.*)
+        explain_domain "$key" "$(values_at "$item" | head -n 1)"
+        return
+        ;;
+    *) return 0 ;;
+    esac
     case $key in
     *.*.*)
         value=${key%.*}
@@ -75,11 +82,24 @@ explain_kind() {
     esac
 }
 
+# A line of `[objects]` that is of the other version, or whose name no object domain may have.
+explain_domain() {
+    local name=$1 value=$2
+    if ! is_second; then
+        echo "in version 1 a class has a number of objects: $name = 1; a table with a class needs a line \`version = 2\` before the first table"
+    elif [[ $value =~ ^[0-9]+$ ]]; then
+        echo "in version 2 an object domain has a class: $name = { class = \"$name\", count = $value }"
+    else
+        echo "an object domain is named by an identifier other than null"
+    fi
+}
+
 # A key that isn't there: a line to begin with.
 explain_absent() {
     case $1 in
     fuel) echo "for example, before the first table: fuel = 100000" ;;
     root) echo "for example, before the first table: root = \"$(names_of class | head -n 1 | grep . || echo List)\"" ;;
+    objects.*) echo "for example, in [objects]: ${1#*.} = { class = \"$(names_of class | head -n 1 | grep . || echo Node)\", count = 1 }" ;;
     arrays.*) echo "for example, in [arrays]: \"${1#*.}\" = { count = 1, lengths = [{ from = 0, to = 3 }] }" ;;
     fields.* | params.*) echo "for example, in [${1%%.*}]: \"${1#*.}\" = [{ from = 0, to = 2 }]" ;;
     esac

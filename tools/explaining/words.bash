@@ -87,7 +87,7 @@ explain_usage() {
         *)
             files=$((files + 1))
             [ -z "$between" ] || wrong "\`$between\` stands between two sources: options stand before FIN, behind it, or at the end"
-            case $form in *FIN*) ;; *) [ "$files" -gt 1 ] || check_value N "$word" "" ;; esac
+            case $form in *FIN* | *FILE*) ;; *) [ "$files" -gt 1 ] || check_value N "$word" "" ;; esac
             ;;
         esac
     done
@@ -109,6 +109,10 @@ explain_count() {
         [ "$1" -ge 2 ] || wrong "no method, and no source behind it"
         [ "$1" -ge 3 ] || wrong "no source: a method's name is the word behind the finitization, and the sources follow it"
         [ "$1" -le 18 ] || wrong "$(($1 - 2)) sources, and at most 16 are taken"
+        ;;
+    *FILE..)
+        [ "$1" -ge 1 ] || wrong "no file"
+        [ "$1" -le 64 ] || wrong "$1 files, and at most 64 are taken"
         ;;
     *FIN*)
         [ "$1" -ge 1 ] || wrong "no finitization, and no source"

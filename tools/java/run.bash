@@ -3,7 +3,7 @@
 java_sources=$(cd "$(dirname "$(readlink -f "${BASH_SOURCE[0]}")")" && pwd)
 
 # What keeps a short run short.
-java_options=(-XX:TieredStopAtLevel=1 -XX:+UseSerialGC -Xshare:auto -Xlog:cds=off -Xlog:class+path=off)
+java_options=(-XX:TieredStopAtLevel=1 -XX:+UseSerialGC -Xshare:auto -Xlog:disable)
 
 # Finds the folder of the compiled classes, `classes`; compiles them where there is none.
 find_classes() {

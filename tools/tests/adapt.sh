@@ -80,10 +80,6 @@ rm -r adapted
 # An example with methods under test is left with one of them at a time: with each it lists and tests as it did. Any other is
 # left as it is.
 for folder in "$top"/examples/*/; do
-    if grep -q '^version = 2' "$folder/fin.toml"; then
-        wrong 1 "$folder/fin.toml" "$folder"/*.java -o adapted
-        continue
-    fi
     ended=0
     adapted=0
     for tested in "$folder"/test.*; do
@@ -231,6 +227,17 @@ adapt --method put params.toml Cell.java -o adapted
 [ $? = 0 ] && grep -q '^Cell.java:5:[0-9]*: warning: .*trap ArithmeticException.*IllegalArgumentException' out
 count $? "a throw of the method under test isn't warned of: $(head -n 1 out err)"
 rm -r adapted
+# A contract is the method's own code: it is adapted with it, and refused where it is no Java.
+printf 'class Cell {\n    int v;\n\n    //@ requires x > 0;\n    /** Sets it. */\n    //@ ensures Math.max(\\old(v), x) >= v; // and no more\n    int put(int x) { v = x; return x; }\n\n    boolean repOk() {\n        return v >= 0;\n    }\n}\n' >Cell.java
+adapt --method put params.toml Cell.java -o adapted
+[ $? = 0 ] && grep -qF '//@ requires x > 0;' adapted/Cell.java && grep -qF '//@ ensures Cell.max(\old(v), x) >= v; // and no more' adapted/Cell.java && ! grep -q 'korat' adapted/Cell.java
+count $? "a contract isn't adapted: $(grep -n '//@\|put' adapted/Cell.java) $(head -n 1 err)"
+rm -rf adapted
+sed 's/Math.max/missing/' Cell.java >Other.java && mv Other.java Cell.java
+adapt --method put params.toml Cell.java -o adapted
+[ $? = 1 ] && grep -qE '^(adapt|Adapt): Cell.java:7:[0-9]+: the contract of put: javac says: cannot find symbol' err && [ ! -e adapted ]
+count $? "a contract that is no Java: $(cat err)"
+printf 'class Cell {\n    int v;\n\n    boolean repOk() {\n        return v >= 0;\n    }\n}\n' >Cell.java
 if [ -x "$korat" ]; then
     sed 's/Cell.v/Cell.w/' fin.toml >other.toml
     adapt other.toml Cell.java -o adapted

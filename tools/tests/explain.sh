@@ -256,6 +256,11 @@ document 's/"List.head" = .*/"List.head" = [null, "Node"]/' 'F1 toml' 'null is w
 document 's/^\[objects\]/objects = 100/;s/^List = 1//;s/^Node = 2//' 'F3 objects' '`objects` is a table'
 document 's/^fuel = .*/objects = 100/' 'F1 toml' '`objects` is a table'
 document 's/^fuel = .*//' 'F5 fuel' 'fuel = 100000'
+document 's/^Node = 2/Node = { class = "Node", count = 2 }/' 'F3 objects.Node' 'in version 1 a class has a number of objects: Node = 1'
+document 's/^fuel/version = 2\nfuel/' 'F3 objects.List' 'in version 2 an object domain has a class: List = { class = "List", count = 1 }'
+second='s/^fuel/version = 2\nfuel/;s/^List = 1/List = { class = "List", count = 1 }/'
+document "$second"';s/^Node = 2/"1x" = { class = "Node", count = 2 }/' 'F3 objects.1x' 'named by an identifier'
+document "$second"';s/^Node = 2/Node = { count = 2 }/' 'F5 objects.Node' 'in [objects]: Node = { class = '
 told 'f.toml: S1 root' 'with the words of the call behind --'
 told 'none.toml: S1 root' "none.toml can't be read here"
 printf 'root = "\xff"\n' >bytes.toml

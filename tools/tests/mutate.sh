@@ -103,4 +103,37 @@ run 1 "mutants of an example" "$tools/mutate" --method insertBehind "$example/fi
 [ "$(grep -c 'nobody noticed' out)" = 1 ] && grep -q 'SortedList.java:54: `<` became `<=`' out
 count $? "mutants of an example: $(cat out)"
 
+# A finitization of version 2: the root is an object domain.
+sentinel=$top/examples/sentinel-list
+run 0 "mutants with a finitization of version 2" "$tools/mutate" --method removeFirst "$sentinel/fin.toml" "$sentinel/SentinelList.java"
+grep -qxE 'mutants [1-9][0-9]* noticed [1-9][0-9]* of 3 passing rows' out
+count $? "mutants with a finitization of version 2: $(cat out)"
+run 0 "branches with a finitization of version 2" "$tools/cover" "$sentinel/fin.toml" "$sentinel/SentinelList.java"
+
+# What is kept: a source for each mutant, and the answers.
+run 1 "mutants that are kept" "$tools/mutate" --method grow --keep kept fin.toml Cell.java
+[ "mutants $(wc -l <kept/answers) noticed $(grep -c '^[0-9]* noticed ' kept/answers)" = "$(sed -nE '$s/ of .*//p' out)" ] &&
+    [ "$(ls kept/*/Cell.java | wc -l)" = "$(wc -l <kept/answers)" ]
+count $? "mutants that are kept: $(head -n 3 kept/answers)"
+refuse 2 "a folder that can't be made" "$tools/mutate" --method grow --keep fin.toml/kept fin.toml Cell.java
+refuse 2 "--keep without a folder" "$tools/mutate" fin.toml Cell.java --method grow --keep
+
+# The mutants of each example's methods on a Java virtual machine, on all structures that the test lists: what is noticed is the same.
+if command -v javac >/dev/null; then
+    . "$tools/java/run.bash"
+    tool=mutate
+    find_classes && javac -nowarn -proc:none -cp "$classes/tools.jar" -d made "$tools"/tests/mutants/*.java 2>err
+    count $? "the mutants' runner isn't compiled: $(head -n 1 err)"
+    for report in "$top"/examples/*/test.*; do
+        example=$(dirname "$report") method=${report##*.}
+        rm -rf kept
+        "$tools/mutate" --method "$method" --keep kept "$example/fin.toml" "$example"/*.java >out 2>err
+        java "${java_options[@]}" -cp "$classes/tools.jar:made" replay.MutantsOnJvm "$example/fin.toml" "$method" "$report" kept "$example"/*.java >here 2>err
+        [ $? = 0 ] && [ "$(tail -n 1 here)" = "same $(wc -l <kept/answers) differ 0 uncompiled 0" ] && [ -s kept/answers ]
+        count $? "mutants of $method of $(basename "$example") on a virtual machine: $(tail -n 3 here err)"
+    done
+else
+    echo "7 not tried: there is no JDK"
+fi
+
 finish

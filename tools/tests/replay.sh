@@ -62,11 +62,7 @@ refused() {
 
 for folder in "$top"/examples/*/; do
     cp "$folder"/fin.toml "$folder"/*.java .
-    if grep -q '^version = 2' fin.toml; then
-        refused 'version 2: Replay reads version 1 alone' --all fin.toml ./*.java <"$folder/expected"
-    else
-        rows 0 "agree $(($(wc -l <"$folder/expected") - 1))" --all fin.toml ./*.java <"$folder/expected"
-    fi
+    rows 0 "agree $(($(wc -l <"$folder/expected") - 1))" --all fin.toml ./*.java <"$folder/expected"
     rm ./*.java
 done
 for name in cell sorted-list heap-array two-stack-queue; do

@@ -10,7 +10,7 @@ public record Adapted(Map<String, String> sources, String finitization, Notes no
     public static Adapted of(String name, String text, Map<String, String> sources, String method) throws Fault {
         Finitization fin = Finitization.read(name, text);
         Notes notes = new Notes();
-        Program program = Program.compile(sources);
+        Program program = Program.compile(method == null ? sources : Clauses.inserted(sources, fin.root(), method));
         Kinds kinds = new Kinds(program, fin, notes);
         Reach reach = new Reach(program, kinds, fin, notes);
         reach.from(method);

@@ -30,7 +30,8 @@ final class Bounds {
     String adapted(Finitization document) {
         fin = document;
         String none = kinds.hasNone() ? "# In what Replay reads, null is " + Kinds.NONE + ".\n" : "";
-        StringBuilder text = new StringBuilder(none + "root = \"" + fin.root() + "\"\nfuel = " + fin.fuel() + "\n");
+        String version = fin.written().second() ? "version = 2\n" : "";
+        StringBuilder text = new StringBuilder(none + version + "root = \"" + fin.written().root() + "\"\nfuel = " + fin.fuel() + "\n");
         table(text, "objects", objects());
         table(text, "arrays", arrays());
         table(text, "fields", fields());
@@ -47,9 +48,10 @@ final class Bounds {
 
     private Map<String, String> objects() {
         Map<String, String> result = new LinkedHashMap<>();
-        fin.objects().forEach((name, count) -> {
-            TypeElement type = program.classes.get(name);
-            if (type == null || type.getKind() != ElementKind.ENUM) result.put(name, String.valueOf(count));
+        fin.written().domains().forEach((name, domain) -> {
+            TypeElement type = program.classes.get(domain.type());
+            if (type != null && type.getKind() == ElementKind.ENUM) return;
+            result.put(name, fin.written().second() ? "{ class = \"" + domain.type() + "\", count = " + domain.count() + " }" : String.valueOf(domain.count()));
         });
         return result;
     }
@@ -86,7 +88,7 @@ final class Bounds {
 
     private Map<String, String> fields() {
         Map<String, String> result = new LinkedHashMap<>();
-        fin.fields().forEach((key, items) -> {
+        fin.written().fields().forEach((key, items) -> {
             VariableElement field = kinds.field(key);
             if (key.endsWith("[].*")) {
                 String name = key.substring(0, key.length() - 2);
@@ -116,11 +118,18 @@ final class Bounds {
             TypeElement type = program.classes.get(name);
             if (type == null || count == 0 || !outers.has(type)) return;
             String around = Outers.enclosing(type).getSimpleName().toString();
-            result.put(name + "." + outers.name(), "[\"" + around + "\"]");
+            result.put(name + "." + outers.name(), "[\"" + domainOf(around) + "\"]");
             notes.changed(fin.name(), "objects of " + name + " got a field `" + outers.name() + "`, which is the " + around + " around them");
             if (fin.objects().getOrDefault(around, 0L) != 1)
                     notes.refuse(fin.name(), "objects of the inner class " + name + ", and not one " + around + " alone", "count one " + around);
         });
+    }
+
+    /** The object domain that has the objects of a class. */
+    private String domainOf(String type) {
+        return fin.written().domains().entrySet().stream()
+                .filter(entry -> entry.getValue().type().equals(type) && entry.getValue().count() > 0)
+                .map(Map.Entry::getKey).findFirst().orElse(type);
     }
 
     /** A final field whose value the compiler writes where it is read. */
@@ -147,7 +156,7 @@ final class Bounds {
 
     private Map<String, String> params() {
         Map<String, String> result = new LinkedHashMap<>();
-        fin.params().forEach((key, items) -> {
+        fin.written().params().forEach((key, items) -> {
             if (reach.tested != null && key.startsWith(reach.tested.getSimpleName() + "."))
                     result.put(key, ofParameter(key, items));
             else notes.changed(fin.name(), "dropped params." + key + ", of a method that isn't kept");
@@ -175,7 +184,7 @@ final class Bounds {
             if (isEnum && "null".equals(item)) texts.add("-1");
             else if (Kinds.isStored(kind) && "null".equals(item)) texts.add(String.valueOf(Kinds.NONE));
             else if (kind.equals("~boolean") && item instanceof Boolean truth) texts.add(truth ? "1" : "0");
-            else if (isEnum && item.equals(type.getSimpleName().toString())) for (int i =
+            else if (isEnum && item instanceof String name && fin.written().classOf(name).equals(type.getSimpleName().toString())) for (int i =
                     0; i < constants.size(); i++) texts.add(String.valueOf(i));
             else if (isEnum && constants.contains(item)) texts.add(String.valueOf(constants.indexOf(item)));
             else texts.add(text(item));

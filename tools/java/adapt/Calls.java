@@ -240,7 +240,7 @@ final class Calls {
         String call = method.getSimpleName() + "/" + method.getParameters().size();
         boolean byIndex = !method.getParameters().isEmpty() && method.getParameters().get(0).asType().getKind() == TypeKind.INT;
         String name = stack && call.matches("pop/0|peek/0|push/1")
-                ? Map.of("pop/0", "removeLast", "peek/0", "getLast", "push/1", "add").get(call) : onList(call, byIndex);
+                ? Map.of("pop/0", "popOfStack", "peek/0", "topOfStack", "push/1", "add").get(call) : onList(call, byIndex);
         if (name == null) return null;
         boolean all = name.matches("addAll|containsAll");
         if (name.matches("contains|indexOf|lastIndexOf|search|remove") && isForeign(tree, element)) return foreign(tree);
@@ -309,7 +309,8 @@ final class Calls {
             case "isEmpty": return "(" + value + (constant ? " < 0)" : " == null)");
             case "get": case "orElseThrow":
                 if (!tree.getArguments().isEmpty()) return null;
-                return Kinds.isBox(kind) ? value + ".value" : present(tree, value, kind);
+                String there = Kinds.isEnum(kind) ? library.presentConstant() : library.method("present@", rewriter.type(tree, kind), "");
+                return there + "(" + value + ")" + (Kinds.isBox(kind) ? ".value" : "");
             case "orElse": return library.method(constant ? "orElseConstant" : "orElse@", constant ? "" : rewriter.type(tree, kind), "") + "(" + value + ", " + argument(tree, 0, kind) + ")";
             default: return null;
         }

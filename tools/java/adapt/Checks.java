@@ -69,7 +69,7 @@ final class Checks {
         }
         writes.forEach(this::refuseChangedKey);
         refuseTwoArrayTypes();
-        if (reach.tested != null) warnOfThrows(reach.tested, new HashSet<>());
+        if (reach.tested != null) new Exceptions(program, kinds, reach, notes).warn();
     }
 
     private void refuse(Tree tree, String what, String rewrite) {
@@ -270,41 +270,5 @@ final class Checks {
                         + ", whose arrays can't be told apart", "make the elements of one of them objects of a class of your own");
             }
         }
-    }
-
-    // ---- exceptions of a method under test
-
-    private void warnOfThrows(ExecutableElement from, Set<Element> seen) {
-        MethodTree tree = program.trees.getTree(from);
-        if (!seen.add(from) || tree == null || tree.getBody() == null) return;
-        new TreeScanner<Void, Void>() {
-            @Override
-            public Void visitThrow(ThrowTree thrown, Void nothing) {
-                notes.warn(program.place(thrown), "korat's verdict is `trap ArithmeticException` where Java throws " + program.type(thrown.getExpression()));
-                return null;
-            }
-
-            @Override
-            public Void visitAssert(AssertTree test, Void nothing) {
-                notes.warn(program.place(test), "korat's verdict is `trap ArithmeticException` where Java throws an AssertionError");
-                return super.visitAssert(test, nothing);
-            }
-
-            @Override
-            public Void visitMethodInvocation(MethodInvocationTree call, Void nothing) {
-                follow(program.element(call));
-                return super.visitMethodInvocation(call, nothing);
-            }
-
-            @Override
-            public Void visitNewClass(NewClassTree call, Void nothing) {
-                follow(program.element(call));
-                return super.visitNewClass(call, nothing);
-            }
-
-            private void follow(Element called) {
-                if (called instanceof ExecutableElement one && program.isOwn(called) && !called.equals(reach.predicate)) warnOfThrows(one, seen);
-            }
-        }.scan(tree.getBody(), null);
     }
 }

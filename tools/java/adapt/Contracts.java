@@ -1,22 +1,26 @@
 package adapt;
 
+import com.sun.source.tree.ClassTree;
 import com.sun.source.tree.MethodTree;
-import java.util.ArrayList;
-import java.util.Collections;
-import java.util.List;
-import java.util.stream.Collectors;
+import com.sun.source.tree.Tree;
 import javax.lang.model.element.ExecutableElement;
 
 /** The contract lines in front of a method. */
 final class Contracts {
     private Contracts() {}
 
+    /** What is between a method and the member before it. */
+    static String gap(Program program, MethodTree method) {
+        ClassTree type = (ClassTree) program.parent(method);
+        int from = program.start(type);
+        for (Tree member : type.getMembers()) {
+            if (program.end(member) <= program.start(method)) from = Math.max(from, program.end(member));
+        }
+        return program.source(method).text().substring(from, program.start(method));
+    }
+
     static String before(Program program, ExecutableElement method) {
-        MethodTree tree = program.trees.getTree(method);
-        String text = program.source(tree).text().substring(0, program.start(tree));
-        List<String> lines = new ArrayList<>(text.lines().toList());
-        Collections.reverse(lines);
-        return lines.stream().takeWhile(line -> line.isBlank() || line.strip().startsWith("//"))
-                .filter(line -> line.contains("//@")).collect(Collectors.joining("\n"));
+        return gap(program, program.trees.getTree(method)).lines().filter(line -> line.contains("//@"))
+                .collect(java.util.stream.Collectors.joining("\n"));
     }
 }

@@ -41,11 +41,13 @@ final class Library {
             Map.entry("isLetter", "static boolean $(int c) { return c >= 97 && c <= 122 || c >= 65 && c <= 90; }"),
             Map.entry("fill@", "static void $(#[] array, # item) { for (int i = 0; i < array.length; i++) array[i] = item; }"),
             Map.entry("fillRange@", "static void $(#[] array, int from, int to, # item) { if (from > to) from = 1 / 0; if (from < 0 || to > array.length) array[-1] = item; for (int i = from; i < to; i++) array[i] = item; }"),
-            Map.entry("copyOf@", "static #[] $(#[] from, int start, int end) { if (start < 0 || start > from.length || start > end) end = 1 / 0; #[] made = new #[end - start]; for (int i = start; i < end && i < from.length; i++) made[i - start] = from[i]; return made; }"),
-            Map.entry("arrayCopy@", "static void $(#[] from, int start, #[] to, int at, int count) { if (start < 0 || at < 0 || count < 0 || start + count > from.length || at + count > to.length) count = 1 / 0; if (from == to && start < at) { for (int i = count - 1; i >= 0; i--) to[at + i] = from[start + i]; } else { for (int i = 0; i < count; i++) to[at + i] = from[start + i]; } }"),
+            Map.entry("copyOf@", "static #[] $(#[] from, int start, int end) { BoxedInt[] none = new BoxedInt[0]; if (start > end && start > 0) end = 1 / 0; if (start < 0 || start > from.length) end = none[0].value; #[] made = new #[end - start]; for (int i = start; i < end && i < from.length; i++) made[i - start] = from[i]; return made; }"),
+            Map.entry("arrayCopy@", "static void $(#[] from, int start, #[] to, int at, int count) { BoxedInt[] none = new BoxedInt[0]; if (start < 0 || at < 0 || count < 0 || start + count > from.length || at + count > to.length) count = none[0].value; if (from == to && start < at) { for (int i = count - 1; i >= 0; i--) to[at + i] = from[start + i]; } else { for (int i = 0; i < count; i++) to[at + i] = from[start + i]; } }"),
             Map.entry("sort@", "static void $(#[] array) { for (int i = 1; i < array.length; i++) { for (int j = i; j > 0 && array[j - 1] > array[j]; j--) { # item = array[j]; array[j] = array[j - 1]; array[j - 1] = item; } } }"),
             Map.entry("boxed", "static BoxedInt $(int number) { return number == -2147483648 ? null : new BoxedInt(number); }"),
             Map.entry("boxedTruth", "static BoxedBoolean $(int number) { return number < 0 ? null : new BoxedBoolean(number == 1); }"),
+            Map.entry("newBoxedInt", "static BoxedInt $(int number) { return new BoxedInt(number); }"),
+            Map.entry("newBoxedBoolean", "static BoxedBoolean $(boolean truth) { return new BoxedBoolean(truth); }"),
             Map.entry("numberOf", "static int $(BoxedInt box) { return box == null ? -2147483648 : box.value == -2147483648 ? 1 / 0 : box.value; }"),
             Map.entry("numberOfTruth", "static int $(BoxedBoolean box) { return box == null ? -2147483648 : box.value ? 1 : 0; }"),
             Map.entry("holdSame", "static boolean $(BoxedInt a, BoxedInt b) { return a == null || b == null ? a == b : a.value == b.value; }"),
@@ -54,19 +56,20 @@ final class Library {
             Map.entry("isBoxOfTruth", "static boolean $(boolean truth, BoxedBoolean box) { return box != null && truth == box.value; }"),
             Map.entry("numbers", "static int[] $(int length) { int[] made = new int[length]; for (int i = 0; i < length; i++) made[i] = -2147483648; return made; }"),
             Map.entry("constants", "static int[] $(int length) { int[] made = new int[length]; for (int i = 0; i < length; i++) made[i] = -1; return made; }"),
-            Map.entry("ordinal", "static int $(int constant) { return constant < 0 ? 1 / 0 : constant; }"),
-            Map.entry("constantAt", "static int $(int index, int count) { return index < 0 || index >= count ? 1 / 0 : index; }"),
+            Map.entry("ordinal", "static int $(int constant) { int[] none = null; return constant < 0 ? none.length : constant; }"),
+            Map.entry("constantAt", "static int $(int index, int count) { BoxedInt[] none = new BoxedInt[0]; return index < 0 || index >= count ? none[0].value : index; }"),
             Map.entry("difference", "static int $(int a, int b) { return a - b; }"),
             Map.entry("noNegative", "static int $(int capacity) { return capacity < 0 ? 1 / 0 : capacity; }"),
             Map.entry("hashOfBox", "static int $(BoxedInt box) { return box == null ? 0 : box.value; }"),
             Map.entry("orElse@", "static # $(# a, # b) { return a == null ? b : a; }"),
             Map.entry("orElseConstant", "static int $(int a, int b) { return a < 0 ? b : a; }"),
-            Map.entry("areThere@", "static boolean $(# a, # b) { return a == null || b == null ? 1 / 0 == 0 : true; }"),
-            Map.entry("isSame@", "static boolean $(# a, # b) { return a == null ? 1 / 0 == 0 : a == b; }"),
+            Map.entry("areThere@", "static boolean $(# a, # b) { int[] none = null; return a == null || b == null ? none.length == 0 : true; }"),
+            Map.entry("isSame@", "static boolean $(# a, # b) { int[] none = null; return a == null ? none.length == 0 : a == b; }"),
             Map.entry("isAbsent@", "static boolean $(# item) { return false; }"),
             Map.entry("areEqual@", "static boolean $(# a, # b) { return =; }"),
             Map.entry("hashOf@", "static int $(# a) { return a == null ? 0 : a.hash(); }"),
-            Map.entry("nonNull@", "static # $(# a) { return a == null && 1 / 0 == 0 ? null : a; }"));
+            Map.entry("present@", "static # $(# a) { return a == null && new LinkedList<#>().removeFirst() == a ? null : a; }"),
+            Map.entry("nonNull@", "static # $(# a) { int[] none = null; return a == null && none.length == 0 ? null : a; }"));
 
     /** Stands where the added methods will. */
     static final String PLACE = "\0";
@@ -113,6 +116,7 @@ final class Library {
             for (int i = 2; !taken.add(name); i++) name = wanted + i;
             names.put(wanted, name);
             methods.put(wanted, text.replace("$", name));
+            if (text.contains(Kinds.BOX)) box(Kinds.BOX);
         }
         return Program.outermost(host).getSimpleName() + "." + name;
     }
@@ -141,9 +145,15 @@ final class Library {
     String copyTo(String array, String element) {
         return add("copyTo" + array,
                 "static " + array + " $(" + element
-                + "[] from, int start, int end) { if (start < 0 || start > from.length || start > end) end = 1 / 0; "
+                + "[] from, int start, int end) { BoxedInt[] none = new BoxedInt[0]; if (start > end && start > 0) end = 1 / 0; if (start < 0 || start > from.length) end = none[0].value; "
                 + array + " made = new " + array
                         + "(end - start); for (int i = start; i < end && i < from.length; i++) made.set(i - start, from[i]); return made; }");
+    }
+
+    /** A method that gives a constant that has to be there. */
+    String presentConstant() {
+        String type = Program.outermost(host).getSimpleName().toString();
+        return add("presentConstant", "static int $(int a) { return a < 0 && new LinkedList<" + type + ">().removeFirst() == null ? a : a; }");
     }
 
     String methods() {

@@ -150,10 +150,7 @@ final class Reach {
     }
 
     private void reachTested(TypeElement root, String name) {
-        for (Element member : program.elements.getAllMembers(root)) {
-            if (member instanceof ExecutableElement method && member.getSimpleName().contentEquals(name)
-                    && program.isOwn(member)) tested = method;
-        }
+        tested = Clauses.tested(program, root, name);
         if (tested == null) {
             notes.refuse(fin.name(), fin.root() + " has no method " + name, "name one that it has");
             return;

@@ -225,6 +225,7 @@ final class Rewriter {
             String made = member(group);
             String gap = source.text().substring(at, from);
             boolean contract = reach.tested != null && group.get(0) == program.trees.getTree(reach.tested);
+            if (contract) gap = statements.clauses.contract(gap);
             text.append(made == null ? emptied(gap, keptBefore) : keptBefore ? contract ? gap : gap(gap)
                     : behindDropped(gap, contract));
             text.append(padded(made == null ? "" : made, source.text().substring(from, to)));

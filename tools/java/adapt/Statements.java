@@ -56,6 +56,7 @@ final class Statements extends SimpleTreeVisitor<String, Void> {
     private final Map<String, Label> labels = new HashMap<>();
 
     private final List<String> declared = new ArrayList<>();
+    final Clauses clauses = new Clauses();
 
     private record Label(StatementTree loop, String leave, String next) {}
 
@@ -359,6 +360,11 @@ final class Statements extends SimpleTreeVisitor<String, Void> {
 
     @Override
     public String visitIf(IfTree tree, Void nothing) {
+        if (Clauses.isBlock(program, tree)) {
+            int before = declared.size();
+            clauses.take(tree, rewriter, expressions, program, library);
+            return declared.size() == before ? "" : rewriter.refused(tree, "a contract that needs a variable", "write a method of the class that it calls");
+        }
         return rewriter.composed(tree, condition(tree.getCondition()));
     }
 

@@ -21,12 +21,14 @@ final class Templates {
             }
             """;
     static final String LIST = """
-            // A list; what Java answers by an exception ends in a trap.
+            // A list; what Java answers by an exception ends in a trap: of the same kind, or ArithmeticException.
             class $L {
                 $C first;
                 int size;
 
-                $C cell(int index) { $C cell = index < 0 ? null : first; for (int i = 0; i < index; i++) cell = cell.next; return cell; }
+                $C missing() { return new LinkedList<$C>().removeFirst(); }
+                boolean isRefused() { $C none = null; return none.next == none; }
+                $C cell(int index) { if (index < 0 || index >= size) index = 1 / 0; $C cell = first; for (int i = 0; i < index; i++) cell = cell.next; return cell; }
                 boolean add($X item) { if (size == 0) first = new $C(item, null); else cell(size - 1).next = new $C(item, null); size++; return true; }
                 void addFirst($X item) { first = new $C(item, first); size++; }
                 void insert(int index, $X item) { if (index == 0) addFirst(item); else { $C before = cell(index - 1); before.next = new $C(item, before.next); size++; } }
@@ -40,11 +42,13 @@ final class Templates {
                 boolean containsAll($L items) { for ($C cell = items.first; cell != null; cell = cell.next) if (!contains(cell.item)) return false; return true; }
                 $X get(int index) { return cell(index).item; }
                 $X set(int index, $X item) { $C cell = cell(index); $X before = cell.item; cell.item = item; return before; }
-                $X getFirst() { return first.item; }
-                $X getLast() { return cell(size - 1).item; }
-                $X removeFirst() { $X item = first.item; first = first.next; size--; return item; }
-                $X removeAt(int index) { if (index == 0) return removeFirst(); $C before = cell(index - 1); $X item = before.next.item; before.next = before.next.next; size--; return item; }
-                $X removeLast() { return removeAt(size - 1); }
+                $X getFirst() { return (size == 0 ? missing() : first).item; }
+                $X getLast() { return (size == 0 ? missing() : cell(size - 1)).item; }
+                $X removeFirst() { $X item = getFirst(); first = first.next; size--; return item; }
+                $X removeAt(int index) { $X item = cell(index).item; if (index == 0) return removeFirst(); $C before = cell(index - 1); before.next = before.next.next; size--; return item; }
+                $X removeLast() { return size == 0 ? removeFirst() : removeAt(size - 1); }
+                $X topOfStack() { return cell(size - 1).item; }
+                $X popOfStack() { return removeAt(size - 1); }
                 boolean remove($X item) { int index = indexOf(item); if (index < 0) return false; removeAt(index); return true; }
                 $P peekFirst() { return size == 0 ? $0 : $Ofirst.item); }
                 $P peekLast() { return size == 0 ? $0 : $OgetLast()); }
@@ -64,7 +68,7 @@ final class Templates {
 
                 $I($C cell) { this.cell = cell; }
                 boolean hasNext() { return cell != null; }
-                $X next() { $X item = cell.item; cell = cell.next; return item; }
+                $X next() { if (cell == null) cell = new LinkedList<$C>().removeFirst(); $X item = cell.item; cell = cell.next; return item; }
             }
             """;
     static final String SET = """
@@ -72,7 +76,7 @@ final class Templates {
             class $N extends $L {
             $F
                 boolean add($X item) { return !contains(item) && super.add(item); }
-                $N distinct($X item) { if ($A || !add(item)) size = 1 / 0; return this; }
+                $N distinct($X item) { if ($A && isRefused() || !add(item)) size = 1 / 0; return this; }
                 $N sized(int capacity) { if (capacity < 0) size = 1 / 0; return this; }
                 $N with($X item) { add(item); return this; }
                 $N withAll($L items) { addAll(items); return this; }
@@ -92,8 +96,8 @@ final class Templates {
     static final String DEQUE = """
             // A deque without null.
             class $N extends $L {
-                boolean add($X item) { return $A ? 1 / 0 == 0 : super.add(item); }
-                void addFirst($X item) { if ($A && 1 / 0 == 0) return; super.addFirst(item); }
+                boolean add($X item) { return $A ? isRefused() : super.add(item); }
+                void addFirst($X item) { if ($A && isRefused()) return; super.addFirst(item); }
                 $N sized(int capacity) { if (capacity < 0) size = 1 / 0; return this; }
                 $N with($X item) { add(item); return this; }
                 $N withAll($L items) { addAll(items); return this; }
@@ -102,8 +106,8 @@ final class Templates {
     static final String SORTED = """
             // A set in ascending order.
             class $N extends $B {
-                boolean add($X item) { int index = $A ? 1 / 0 : 0; for ($C after = first; after != null && $D; after = after.next) index++; if (contains(item)) return false; insert(index, item); return true; }
-                int indexOf($X item) { int index = $A ? 1 / 0 : 0; for ($C after = first; after != null; after = after.next) { if ($S) return index; index++; } return -1; }
+                boolean add($X item) { int index = $A && isRefused() ? 1 : 0; for ($C after = first; after != null && $D; after = after.next) index++; if (contains(item)) return false; insert(index, item); return true; }
+                int indexOf($X item) { int index = $A && isRefused() ? 1 : 0; for ($C after = first; after != null; after = after.next) { if ($S) return index; index++; } return -1; }
                 $N sized(int capacity) { if (capacity < 0) size = 1 / 0; return this; }
                 $N with($X item) { add(item); return this; }
                 $N withAll($L items) { addAll(items); return this; }
@@ -143,10 +147,12 @@ final class Templates {
     static final String SORTED_MAP = """
             // A map in the order of its keys.
             class $M extends $N {
-                $Q find($K key) { if ($A && 1 / 0 == 0) return null; for ($Q pair = first; pair != null; pair = pair.next) if ($S) return pair; return null; }
+                boolean isRefused() { $Q none = null; return none.next == none; }
+                $Q missing() { return new LinkedList<$Q>().removeFirst(); }
+                $Q find($K key) { if ($A && isRefused()) return null; for ($Q pair = first; pair != null; pair = pair.next) if ($S) return pair; return null; }
                 void append($K key, $V value) { $Q last = null; for ($Q pair = first; pair != null && $D; pair = pair.next) last = pair; if (last == null) first = new $Q(key, value, first); else last.next = new $Q(key, value, last.next); }
-                $K firstKey() { return first.key; }
-                $K lastKey() { $Q last = first; while (last.next != null) last = last.next; return last.key; }
+                $K firstKey() { return (first == null ? missing() : first).key; }
+                $K lastKey() { $Q last = first == null ? missing() : first; while (last.next != null) last = last.next; return last.key; }
             }
             """;
     static final String SUM = """
@@ -168,8 +174,9 @@ final class Templates {
                 int length;
                 $C first;
 
-                $N(int length) { this.length = length < 0 ? 1 / 0 : length; }
-                $C slot(int index) { if (index < 0 || index >= length) return null; for ($C slot = first; slot != null; slot = slot.next) if (slot.index == index) return slot; first = new $C(index, first); return first; }
+                $N(int length) { this.length = length < 0 ? new $C[length].length : length; }
+                int outside() { $C[] none = new $C[0]; return none[0].index; }
+                $C slot(int index) { if (index < 0 || index >= length) index = outside(); for ($C slot = first; slot != null; slot = slot.next) if (slot.index == index) return slot; first = new $C(index, first); return first; }
                 $X get(int index) { return slot(index).item; }
                 $X set(int index, $X item) { slot(index).item = item; return item; }
                 $N with(int index, $X item) { set(index, item); return this; }

@@ -63,7 +63,12 @@ final class First {
     private void add(TypeElement type) {
         boolean enumerated = type.getKind() == ElementKind.ENUM;
         boolean whole = type.getKind() != ElementKind.INTERFACE && !type.getModifiers().contains(Modifier.ABSTRACT);
-        if (whole && !enumerated) candidates.add(type);
+        if (!whole || enumerated || !candidates.add(type) || type.getKind() != ElementKind.RECORD) return;
+        // Adapt keeps all components of a record.
+        for (VariableElement field : ElementFilter.fieldsIn(type.getEnclosedElements())) {
+            boolean component = !field.getModifiers().contains(Modifier.STATIC) && !reached.fields.contains(field);
+            if (component && !open.contains(field)) open.add(field);
+        }
     }
 
     /** Gives the read fields of candidates their domains, which adds candidates. */

@@ -6,6 +6,7 @@
 package replay;
 
 import java.io.IOException;
+import java.io.InputStream;
 import java.io.PrintStream;
 import java.nio.charset.StandardCharsets;
 import java.nio.file.Path;
@@ -28,7 +29,7 @@ public final class After {
         System.setOut(System.err);
         int status = 2;
         try {
-            status = run(words, out);
+            status = run(words, System.in, out);
         } catch (Fault fault) {
             System.err.println("after: " + fault.getMessage());
         } catch (IOException fault) {
@@ -38,7 +39,7 @@ public final class After {
         System.exit(status);
     }
 
-    private static int run(String[] words, PrintStream out) throws Fault, IOException {
+    public static int run(String[] words, InputStream report, PrintStream out) throws Fault, IOException {
         if (words.length < 3 || words[0].startsWith("-")) {
             throw new Fault(USAGE);
         }
@@ -47,10 +48,10 @@ public final class After {
         for (String word : List.of(words).subList(2, words.length)) {
             files.add(Path.of(word));
         }
-        Contract contract = new Contract(files, bounds.root, words[1]);
+        Contract contract = new Contract(files, bounds.classOf(bounds.root), words[1]);
         Model model = new Model(compiled(contract), bounds);
         Called called = new Called(model, contract, bounds.fuel);
-        List<TestRow> rows = TestRow.read(System.in);
+        List<TestRow> rows = TestRow.read(report);
         TestRow.leaveOutersOut(model, rows);
         Map<String, Set<String>> shown = new HashMap<>();
         for (TestRow row : rows) {
@@ -59,7 +60,7 @@ public final class After {
         return show(rows, called, contract, shown, out);
     }
 
-    private static Sources compiled(Contract contract) throws Fault, IOException {
+    static Sources compiled(Contract contract) throws Fault, IOException {
         Path folder = java.nio.file.Files.createTempDirectory("after");
         List<Path> files = new ArrayList<>();
         try {
@@ -126,7 +127,7 @@ public final class After {
 
     /** Whether two verdicts say the same. An exception that the subset doesn't have is another one there. */
     private static boolean agrees(String row, String here) {
-        boolean traps = row.startsWith("trap ") && here.startsWith("trap ");
+        boolean traps = row.startsWith("trap ") && here.startsWith("trap ") || row.startsWith("check-trap ") && here.startsWith("check-trap ");
         boolean foreign = row.endsWith("ArithmeticException") || row.endsWith("NoReturn") || row.endsWith("ArrayTooLong");
         return row.equals(here) || traps && foreign;
     }

@@ -34,7 +34,7 @@ final class Builder {
     }
 
     private Object empty(Name name, int size) throws Fault {
-        return name.isArray() ? Array.newInstance(model.component(name.type()), size) : model.made(name.type());
+        return name.isArray() ? Array.newInstance(model.component(name.type()), size) : model.made(name);
     }
 
     private void fill(Name name, Object holder, String key, Object value, Map<Name, Object> objects) throws Fault {
@@ -45,7 +45,7 @@ final class Builder {
         if (name.isArray()) {
             Array.set(holder, Integer.parseInt(key), model.converted(model.component(name.type()), known, name.type() + ".*"));
         } else {
-            Field field = model.field(name.type(), key);
+            Field field = model.field(name, key);
             model.set(field, holder, model.converted(field.getType(), known, name.type() + "." + key));
         }
     }

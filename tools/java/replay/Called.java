@@ -63,7 +63,7 @@ final class Called {
         } catch (InvocationTargetException ended) {
             thrown = ended.getCause();
             String kind = thrown.getClass().getSimpleName();
-            return kind.equals("Spent") ? "spent" : (partOf() == Contract.CALL ? "trap " : "check-trap ") + kind;
+            return kind.matches("Spent|StackOverflowError") ? "spent" : (partOf() == Contract.CALL ? "trap " : "check-trap ") + kind;
         } catch (IllegalAccessException closed) {
             throw new Fault("the method can't be called");
         }
@@ -83,7 +83,7 @@ final class Called {
         for (Map.Entry<Name, Map<String, Object>> entry : structure.objects().entrySet()) {
             Name name = entry.getKey();
             int size = entry.getValue().size();
-            Object made = name.isArray() ? Array.newInstance(model.component(name.type()), size) : model.made(name.type());
+            Object made = name.isArray() ? Array.newInstance(model.component(name.type()), size) : model.made(name);
             objects.put(name, made);
             names.put(made, name);
         }
@@ -102,7 +102,7 @@ final class Called {
         if (holder.isArray()) {
             Array.set(objects.get(holder), Integer.parseInt(key), model.converted(model.component(holder.type()), known, place));
         } else {
-            Field field = model.field(holder.type(), key);
+            Field field = model.field(holder, key);
             model.set(field, objects.get(holder), model.converted(field.getType(), known, place));
         }
     }
@@ -167,7 +167,7 @@ final class Called {
             return slots;
         }
         Set<String> wanted = shown.get(name.type());
-        for (Map.Entry<String, Field> field : model.fields(name.type()).entrySet()) {
+        for (Map.Entry<String, Field> field : model.fields(object.getClass().getSimpleName()).entrySet()) {
             try {
                 if (wanted == null || wanted.contains(field.getKey())) {
                     slots.put(field.getKey(), field.getValue().get(object));

@@ -23,7 +23,7 @@ final class Contract {
     static final int CALL = 1;
     static final int PREDICATE = 2;
     static final int CLAUSES = 3;
-    private static final Pattern LINE = Pattern.compile("//@\\s*(requires|ensures)\\s+(.*?);\\s*$");
+    private static final Pattern LINE = Pattern.compile("//@\\s*(requires|ensures)\\b(.*?);(?=\\s*(?://|$))");
     final List<String> ensures = new ArrayList<>();
     final List<String> parameters = new ArrayList<>();
     final Map<Path, String> texts = new LinkedHashMap<>();
@@ -61,10 +61,10 @@ final class Contract {
         List<String> before = text.substring(0, start).lines().toList();
         for (int at = before.size() - 1; at >= 0; at--) {
             String line = before.get(at).strip();
-            Matcher clause = LINE.matcher(line);
-            if (clause.find() && clause.group(1).equals("ensures")) {
-                ensures.add(0, clause.group(2).strip());
-            } else if (!line.isEmpty() && !line.startsWith("//") && !line.startsWith("*") && !line.startsWith("/*") && !line.startsWith("@")) {
+            List<String> clauses = LINE.matcher(line).results().filter(clause -> clause.group(1).equals("ensures"))
+                    .map(clause -> clause.group(2).strip()).toList();
+            ensures.addAll(0, clauses);
+            if (clauses.isEmpty() && !line.isEmpty() && !line.startsWith("//") && !line.startsWith("*") && !line.startsWith("/*") && !line.startsWith("@")) {
                 return;
             }
         }

@@ -80,11 +80,11 @@ final class ContractTests {
     ContractTests(Model model, Finitization bounds, Order order) throws Fault {
         this.model = model;
         this.name = order.call.replaceAll("\\(.*", "");
-        this.contract = new Contract(order.sources, bounds.root, name);
+        this.contract = new Contract(order.sources, bounds.classOf(bounds.root), name);
         this.tests = new Tests(model, name);
         try {
             this.program = Program.of(contract.texts);
-            TypeElement root = program.classes.get(bounds.root);
+            TypeElement root = program.classes.get(bounds.classOf(bounds.root));
             this.run = program.method(root, Contract.RUN);
             this.result = program.method(root, name).getReturnType();
         } catch (sources.Fault fault) {

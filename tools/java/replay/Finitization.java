@@ -15,7 +15,9 @@ final class Finitization {
     private final Path file;
     String root;
     long fuel;
+    /** How many objects each object domain has; in version 1 its name is its class's. */
     final Map<String, Integer> objects = new LinkedHashMap<>();
+    private final Map<String, String> classes = new LinkedHashMap<>();
     final Map<String, Bound> arrays = new LinkedHashMap<>();
     final Map<String, List<Item>> fields = new LinkedHashMap<>();
 
@@ -28,13 +30,11 @@ final class Finitization {
         String text = Files.textOf(file);
         bounds.hasNone = text.startsWith("# In what Replay reads, null is " + NONE);
         Map<String, Object> document = new Toml(file.toString(), text).document();
-        if (Long.valueOf(2).equals(document.get("version"))) {
-            throw new Fault(file + ": version 2: Replay reads version 1 alone");
-        }
+        boolean second = Long.valueOf(2).equals(document.get("version"));
         bounds.root = bounds.typed(String.class, document.get("root"), "root");
         bounds.fuel = bounds.typed(Long.class, document.get("fuel"), "fuel");
         for (Map.Entry<String, Object> entry : bounds.table(document, "objects").entrySet()) {
-            bounds.objects.put(entry.getKey(), bounds.count(entry.getValue(), "objects." + entry.getKey()));
+            bounds.objects(entry.getKey(), entry.getValue(), second);
         }
         for (Map.Entry<String, Object> entry : bounds.table(document, "arrays").entrySet()) {
             bounds.arrays.put(entry.getKey(), bounds.bound(entry.getValue(), "arrays." + entry.getKey()));
@@ -43,6 +43,18 @@ final class Finitization {
             bounds.fields.put(entry.getKey(), bounds.domain(entry.getValue(), "fields." + entry.getKey()));
         }
         return bounds;
+    }
+
+    private void objects(String name, Object value, boolean second) throws Fault {
+        String item = "objects." + name;
+        Map<String, Object> domain = second ? table(Map.of(item, value), item) : Map.of("class", name, "count", value);
+        classes.put(name, typed(String.class, domain.get("class"), item));
+        objects.put(name, count(domain.get("count"), item));
+    }
+
+    /** The class of an object domain; another name is a class's. */
+    String classOf(String name) {
+        return classes.getOrDefault(name, name);
     }
 
     Fault fault(String item, String what) {

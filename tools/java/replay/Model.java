@@ -27,9 +27,9 @@ final class Model {
     Model(Sources sources, Finitization bounds) throws Fault {
         this.sources = sources;
         this.bounds = bounds;
-        this.root = type(bounds.root);
+        this.root = type(bounds.classOf(bounds.root));
         if (root == Object.class) {
-            throw new Fault("the sources have no class " + bounds.root);
+            throw new Fault("the sources have no class " + bounds.classOf(bounds.root));
         }
     }
 
@@ -42,6 +42,11 @@ final class Model {
             classes.put(name, type);
         }
         return type;
+    }
+
+    /** The class of the object domain of this name. */
+    Class<?> classOf(String domain) throws Fault {
+        return type(bounds.classOf(domain));
     }
 
     /** The instance fields of a class by name, those of the superclass first. */
@@ -76,8 +81,14 @@ final class Model {
         return field;
     }
 
-    /** These fields in the order in which the class has them. */
-    List<String> ordered(String type, Set<String> names) throws Fault {
+    /** The field of an object's class. */
+    Field field(Name object, String name) throws Fault {
+        return field(bounds.classOf(object.type()), name);
+    }
+
+    /** These fields in the order in which the object's class has them. */
+    List<String> ordered(Name object, Set<String> names) throws Fault {
+        String type = bounds.classOf(object.type());
         List<String> all = new ArrayList<>(fields(type).keySet());
         all.retainAll(names);
         if (all.size() < names.size()) {
@@ -172,9 +183,9 @@ final class Model {
         return number;
     }
 
-    /** A new object of the class: of its constructor without parameters, or of none where it has no such one that returns. */
-    Object made(String name) throws Fault {
-        Class<?> type = type(name);
+    /** A new object of the name's class: of its constructor without parameters, or of none where it has no such one that returns. */
+    Object made(Name name) throws Fault {
+        Class<?> type = classOf(name.type());
         if (Modifier.isAbstract(type.getModifiers()) || type.isEnum()) {
             throw new Fault(type.getSimpleName() + " has no objects of its own");
         }
@@ -225,7 +236,7 @@ final class Model {
         for (Row row : rows) {
             row.structure().objects().forEach((name, slots) -> {
                 if (!name.isArray()) {
-                    slots.keySet().removeIf(key -> isOuter(name.type(), key));
+                    slots.keySet().removeIf(key -> isOuter(bounds.classOf(name.type()), key));
                 }
             });
         }

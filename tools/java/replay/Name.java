@@ -1,6 +1,6 @@
 package replay;
 
-/** An object as rows name it: its class or array type, and its number. */
+/** An object as rows name it: its object domain or array type, and its number. */
 record Name(String type, int number) {
     @Override
     public String toString() {

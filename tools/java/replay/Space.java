@@ -26,7 +26,7 @@ final class Space implements ObjIntConsumer<Object> {
     private final boolean plain;
     private final Comparison comparison;
     private final Map<Field, List<Item>> domains = new HashMap<>();
-    /** For each type and number the objects that may have it: one of a class, of an array type one for each length. */
+    /** For each domain or array type and number the objects that may have it: of an array type one for each length. */
     private final Map<String, List<List<Cell>>> pools = new HashMap<>();
     private final Map<String, List<Cell>> used = new HashMap<>();
     private final Map<Object, Cell> cells = new IdentityHashMap<>();
@@ -77,7 +77,7 @@ final class Space implements ObjIntConsumer<Object> {
 
     private Cell objectCell(Name name) throws Fault {
         List<Slot> slots = new ArrayList<>();
-        for (Field field : model.fields(name.type()).values()) {
+        for (Field field : model.fields(bounds.classOf(name.type())).values()) {
             List<Item> domain = domains.get(field);
             if (domain != null) {
                 String place = field.getDeclaringClass().getSimpleName() + "." + field.getName();
@@ -85,7 +85,7 @@ final class Space implements ObjIntConsumer<Object> {
                 slots.add(new Slot(field.getName(), field, number, choices(field.getType(), domain, place)));
             }
         }
-        return cell(name, model.made(name.type()), slots);
+        return cell(name, model.made(name), slots);
     }
 
     private List<Cell> arrayCells(Name name, List<Integer> lengths) throws Fault {
@@ -132,7 +132,7 @@ final class Space implements ObjIntConsumer<Object> {
     }
 
     private Choice objects(Class<?> wanted, String type, String place) throws Fault {
-        Class<?> given = type.endsWith("]") ? model.component(type).arrayType() : model.type(type);
+        Class<?> given = type.endsWith("]") ? model.component(type).arrayType() : model.classOf(type);
         if (!wanted.isAssignableFrom(given)) {
             throw new Fault(place + ": " + type + " is no " + wanted.getTypeName());
         }

@@ -75,7 +75,7 @@ record Structure(Map<Name, Map<String, Object>> objects) {
             }
             text.append(text.length() > 0 ? " " : "").append(names.get(name)).append(name.isArray() ? '[' : '{');
             String between = "";
-            for (String key : name.isArray() ? slots.keySet() : model.ordered(name.type(), slots.keySet())) {
+            for (String key : name.isArray() ? slots.keySet() : model.ordered(name, slots.keySet())) {
                 Object value = slots.get(key);
                 Object told = value instanceof Name met ? meet(met, names, counts, waiting) : value;
                 text.append(between).append(name.isArray() ? "" : key + "=").append(told);

@@ -151,7 +151,7 @@ final class Tests {
                 String told = value instanceof Name ? variables.get(value) : told(entry.getKey(), slot.getKey(), value);
                 filled.append("        " + setting(entry.getKey(), variable, slot.getKey(), told) + ";\n");
             }
-            Field outer = entry.getKey().isArray() ? null : model.outer(model.type(entry.getKey().type()));
+            Field outer = entry.getKey().isArray() ? null : model.outer(model.classOf(entry.getKey().type()));
             if (outer != null) {
                 filled.append("        " + setting(entry.getKey(), variable, outer.getName(), "object0") + ";\n");
             }
@@ -161,8 +161,8 @@ final class Tests {
 
     private String making(Name name, int size) throws Fault {
         if (!name.isArray()) {
-            model.made(name.type());
-            return "make(\"" + model.type(name.type()).getName() + "\")";
+            model.made(name);
+            return "make(\"" + model.classOf(name.type()).getName() + "\")";
         }
         Class<?> component = model.component(name.type());
         String type = component.isPrimitive() ? component + ".class" : "Class.forName(\"" + component.getName() + "\")";
@@ -177,7 +177,7 @@ final class Tests {
 
     /** A value as Java writes it, of the type that its place has. */
     private String told(Name name, String key, Object value) throws Fault {
-        Class<?> wanted = name.isArray() ? model.component(name.type()) : model.field(name.type(), key).getType();
+        Class<?> wanted = name.isArray() ? model.component(name.type()) : model.field(name, key).getType();
         return written(model.converted(wanted, value, name.type() + "." + key));
     }
 

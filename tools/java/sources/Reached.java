@@ -58,6 +58,15 @@ public final class Reached {
         }
     }
 
+    /** What a record's own accessors, `equals` and `hashCode` read, which have no code. */
+    private void readOfRecord(ExecutableElement method) {
+        String name = method.getSimpleName().toString();
+        for (VariableElement field : ElementFilter.fieldsIn(method.getEnclosingElement().getEnclosedElements())) {
+            boolean read = field.getSimpleName().contentEquals(name) && method.getParameters().isEmpty() || name.matches("equals|hashCode");
+            if (read && !field.getModifiers().contains(Modifier.STATIC)) fields.add(field);
+        }
+    }
+
     private void reachNamed(Set<String> names) {
         for (TypeElement type : program.classes.values()) {
             boolean met = made.contains(type) || fields.stream().anyMatch(field -> field.getEnclosingElement() == type);
@@ -112,6 +121,7 @@ public final class Reached {
 
     private void called(Element element) {
         if (!(element instanceof ExecutableElement method)) return;
+        if (method.getEnclosingElement().getKind() == ElementKind.RECORD && program.isOwn(method.getEnclosingElement())) readOfRecord(method);
         if (program.isOwn(method)) reach(method);
         else librariesCall = true;
     }

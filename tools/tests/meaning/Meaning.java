@@ -1,10 +1,10 @@
 // Adapts small classes, lists what was made by the program, and compares the listing with the original on this Java virtual machine.
 //
 //     Meaning KORAT FOLDER [--some N] [--only PLACE] TABLE..
-//     Meaning KORAT FOLDER --random N [--seed S]
+//     Meaning KORAT FOLDER --random N [--seed S] [--tested N]
 //     Meaning KORAT FOLDER --folders FOLDER..
 //
-// A line for each class that doesn't what its table says, and at last `A agree, W warned, R refused, F failed`. FOLDER is where it
+// A line for each class that doesn't what its table says, and at last `A agree, W warned, R refused, S spent, F failed`. FOLDER is where it
 // may write.
 
 package meaning;
@@ -24,6 +24,7 @@ import java.util.List;
 import java.util.Map;
 import java.util.TreeMap;
 import java.util.stream.Stream;
+import replay.After;
 import replay.Session;
 
 public final class Meaning {
@@ -64,14 +65,16 @@ public final class Meaning {
             for (int i = 0; i < some; i++) meaning.report(out, cases.get((int) ((long) i * cases.size() / some)));
         }
         out.println(meaning.counts.getOrDefault("agree", 0) + " agree, " + meaning.counts.getOrDefault("warned", 0) + " warned, "
-                + meaning.counts.getOrDefault("refused", 0) + " refused, " + meaning.failed + " failed");
+                + meaning.counts.getOrDefault("refused", 0) + " refused, " + meaning.counts.getOrDefault("spent", 0) + " spent, " + meaning.failed + " failed");
         return meaning.failed == 0 ? 0 : 1;
     }
 
     private void random(PrintStream out, Map<String, String> options) throws Exception {
         int count = Integer.parseInt(options.get("--random"));
         long seed = Long.parseLong(options.getOrDefault("--seed", "1"));
-        for (int i = 0; i < count; i++) report(out, new RandomClass(seed + i).made());
+        for (int i = 0; i < count; i++) report(out, new RandomClass(seed + i, false).made());
+        int tested = Integer.parseInt(options.getOrDefault("--tested", "0"));
+        for (int i = 0; i < tested; i++) report(out, new RandomClass(seed + i, true).made());
     }
 
     /** A folder with a finitization, sources and `wanted`: the first line of a case. */
@@ -89,7 +92,7 @@ public final class Meaning {
     private void report(PrintStream out, Case one) throws Exception {
         String[] result = tried(one);
         boolean right = result[0].equals(one.expected()) && result[1].contains(one.part());
-        if (one.expected().equals("any")) right = result[0].matches("agree|warned|refused");
+        if (one.expected().equals("any")) right = result[0].matches("agree|warned|refused|spent");
         counts.merge(result[0], 1, Integer::sum);
         if (right) return;
         failed++;
@@ -103,7 +106,7 @@ public final class Meaning {
         out.flush();
     }
 
-    /** What came of it, and more of that: agree, warned, refused, differ, no check, fault. */
+    /** What came of it, and more of that: agree, warned, refused, spent, differ, no check, fault. */
     private String[] tried(Case one) throws Exception {
         Adapted adapted;
         try {
@@ -120,15 +123,42 @@ public final class Meaning {
         Files.writeString(folder.resolve(one.file()), adapted.sources().get(one.file()));
         Files.writeString(folder.resolve("fin.toml"), adapted.finitization());
         Path listing = work.resolve("listing");
-        Process process = new ProcessBuilder(korat, "list", folder.resolve("fin.toml").toString(), folder.resolve(one.file()).toString())
-                .redirectOutput(listing.toFile()).redirectErrorStream(true).start();
-        int status = process.waitFor();
+        int status = called(listing, "list", folder.resolve("fin.toml").toString(), folder.resolve(one.file()).toString());
         String rows = Files.readString(listing);
+        if (status == 5) return new String[] {"spent", rows.lines().reduce((a, b) -> b).orElse("")};
         if (status != 0) return new String[] {"no check", status + " " + rows.lines().reduce((a, b) -> b).orElse("")};
         String difference = replayed(folder.resolve("fin.toml"), original.resolve(one.file()), rows);
+        if (difference == null && one.method() != null) difference = tested(one, folder.resolve(one.file()), original.resolve(one.file()), folder.resolve("fin.toml"));
         if (difference != null) return new String[] {"differ", difference + " " + adapted.notes().warnings()};
         return adapted.notes().warnings().isEmpty() ? new String[] {"agree", ""}
                 : new String[] {"warned", String.join(" ~ ", adapted.notes().warnings())};
+    }
+
+    private int called(Path report, String... words) throws IOException, InterruptedException {
+        List<String> call = new ArrayList<>(List.of(korat));
+        call.addAll(List.of(words));
+        return new ProcessBuilder(call).redirectOutput(report.toFile()).redirectErrorStream(true).start().waitFor();
+    }
+
+    /** The first row of a test that ends otherwise here, or none. */
+    private String tested(Case one, Path made, Path original, Path finitization) throws IOException, InterruptedException {
+        Path report = work.resolve("report");
+        int status = called(report, "test", finitization.toString(), one.method(), made.toString());
+        if (status > 1) return "no report: " + Files.readString(report).lines().reduce((a, b) -> b).orElse("");
+        ByteArrayOutputStream told = new ByteArrayOutputStream();
+        PrintStream out = new PrintStream(told, true, StandardCharsets.UTF_8);
+        String[] answer = {""};
+        Thread thread = new Thread(null, () -> {
+            try (java.io.InputStream rows = Files.newInputStream(report)) {
+                if (After.run(new String[] {finitization.toString(), one.method(), original.toString()}, rows, out) == 0) answer[0] = null;
+                else answer[0] = told.toString(StandardCharsets.UTF_8).lines().findFirst().orElse("");
+            } catch (Exception | Error fault) {
+                answer[0] = String.valueOf(fault);
+            }
+        }, "after", 1 << 28);
+        thread.start();
+        thread.join();
+        return answer[0];
     }
 
     private String replayed(Path finitization, Path source, String rows) throws InterruptedException {

@@ -17,9 +17,13 @@ final class RandomClass {
     private int names;
     private int depth;
     private int loops;
+    /** Whether a method under test is made, and whether it is being made: it may write fields. */
+    private final boolean isTested;
+    private boolean writes;
 
-    RandomClass(long seed) {
+    RandomClass(long seed, boolean isTested) {
         this.seed = seed;
+        this.isTested = isTested;
         random = new Random(seed * 7919 + 17);
     }
 
@@ -39,7 +43,35 @@ final class RandomClass {
         StringBuilder helpers = new StringBuilder();
         for (int i = random.nextInt(3); i > 0; i--) helpers.append(method());
         String text = "enum E { A, B, C }\n" + fields + helpers + "boolean repOk() " + body("boolean") + "\n";
-        return Case.of("random-" + seed, "any", "", null, bounds.toString(), text);
+        if (!isTested) return Case.of("random-" + seed, "any", "", null, bounds.toString(), text);
+        return Case.of("random-tested-" + seed, "any", "", "act", bounds + "params.\"act.p\" = [0, 1]\nparams.\"act.q\" = [\"A\", \"B\"]\n", text + tested());
+    }
+
+    /** A method under test with a contract, which writes fields. */
+    private String tested() {
+        writes = true;
+        String type = pick(List.of("int", "boolean", "Integer", "E", "void"));
+        int before = variables.size();
+        variables.add(new String[] {"int", "p"});
+        variables.add(new String[] {"E", "q"});
+        String body = body(type);
+        while (variables.size() > before) variables.remove(variables.size() - 1);
+        writes = false;
+        StringBuilder contract = new StringBuilder();
+        for (int i = random.nextInt(3); i > 0; i--) contract.append("//@ ensures ").append(clause(type)).append(";\n");
+        return contract + type + " act(int p, E q) " + body + "\n";
+    }
+
+    private String clause(String type) {
+        switch (random.nextInt(type.matches("int|boolean") ? 7 : 5)) {
+            case 0: return "v >= \\old(v)";
+            case 1: return "w == \\old(w) || v != p";
+            case 2: return variable("E", () -> "q") + " != E.B || w > 0";
+            case 3: return methods.stream().anyMatch(one -> one.startsWith("boolean ")) ? call("boolean", 0).replaceAll("\\(.*", "") + "(p, q) || v == 1" : "v < 4";
+            case 4: return "v * 2 - w < 6 == (\\old(v) < 3 || p == 0)";
+            case 5: return type.equals("int") ? "\\result >= 0 || \\old(w) == w" : "\\result == (v > w)";
+            default: return type.equals("int") ? "\\result != v" : "!\\result || v >= 0";
+        }
     }
 
     private void field(StringBuilder fields, StringBuilder bounds, String type, String name, String domain) {
@@ -66,7 +98,8 @@ final class RandomClass {
         StringBuilder text = new StringBuilder("{\n");
         for (int i = 3 + random.nextInt(5); i > 0; i--) text.append(declaration());
         for (int i = 2 + random.nextInt(5); i > 0; i--) text.append(statement(3, type));
-        text.append("return ").append(of(type, 3)).append(";\n}");
+        if (type.equals("void")) text.append("}");
+        else text.append("return ").append(of(type, 3)).append(";\n}");
         while (variables.size() > before) variables.remove(variables.size() - 1);
         return text.toString();
     }
@@ -113,7 +146,7 @@ final class RandomClass {
         switch (random.nextInt(deep <= 0 ? 7 : 13)) {
             case 0: case 1: return assignment();
             case 2: case 3: return change();
-            case 4: return "if (" + of("boolean", 2) + ") " + (random.nextInt(4) == 0 ? "return " + of(result, 2) + ";\n" : assignment());
+            case 4: return "if (" + of("boolean", 2) + ") " + (random.nextInt(4) == 0 ? returned(result) : assignment());
             case 5: return random.nextInt(4) == 0 ? "assert " + of("boolean", 2) + ";\n" : assignment();
             case 6: return loops > 0 && random.nextBoolean() ? "if (" + of("boolean", 1) + ") " + pick(List.of("break", "continue")) + ";\n" : assignment();
             case 7: return "if (" + of("boolean", 2) + ") " + block(deep, result) + (random.nextBoolean() ? " else " + block(deep, result) : "") + "\n";
@@ -124,9 +157,13 @@ final class RandomClass {
         }
     }
 
+    private String returned(String result) {
+        return result.equals("void") ? "return;\n" : "return " + of(result, 2) + ";\n";
+    }
+
     private String assignment() {
         String[] one = variable(TYPES);
-        if (one == null || isField(one[1])) return ";\n";
+        if (one == null || isField(one[1]) && !writes) return ";\n";
         String small = "byte|char|short|int";
         if (one[0].matches(small) && random.nextInt(3) == 0)
                 return one[1] + pick(List.of(" += ", " -= ", " *= ", " &= ", " |= ", " ^= ", " <<= ", " >>= ", " >>>= ", " /= ")) + of("int", 1) + ";\n";

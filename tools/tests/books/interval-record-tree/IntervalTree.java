@@ -44,15 +44,11 @@ public class IntervalTree {
 
     boolean repOk() {
         List<Interval> all = new ArrayList<>();
-        if (!isAcyclic(root, 0) || !walk(root, all)) return false;
+        if (!walk(root, all)) return false;
         for (int i = 1; i < all.size(); i++) {
             if (all.get(i - 1).compareTo(all.get(i)) >= 0) return false;
         }
         return true;
-    }
-
-    private boolean isAcyclic(Node node, int depth) {
-        return node == null || depth < 3 && isAcyclic(node.left, depth + 1) && isAcyclic(node.right, depth + 1);
     }
 
     private boolean walk(Node node, List<Interval> all) {

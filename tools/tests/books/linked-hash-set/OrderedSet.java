@@ -50,16 +50,7 @@ public class OrderedSet<E> implements Iterable<E> {
         };
     }
 
-    private boolean chainsEnd() {
-        for (Entry<E> bucket : buckets) {
-            int length = 0;
-            for (Entry<E> e = bucket; e != null; e = e.chain) if (++length > size) return false;
-        }
-        return true;
-    }
-
     boolean repOk() {
-        if (!chainsEnd()) return false;
         Set<E> elements = new LinkedHashSet<>();
         int count = 0;
         for (E element : this) {

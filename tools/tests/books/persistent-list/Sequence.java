@@ -10,12 +10,12 @@ public class Sequence {
     private Items items;
     private int length;
 
-    static int length(Items items, int most) {
-        return items instanceof Cons cons && most > 0 ? 1 + length(cons.tail(), most - 1) : 0;
+    static int length(Items items) {
+        return items instanceof Cons cons ? 1 + length(cons.tail()) : 0;
     }
 
     boolean repOk() {
-        if (length(items, length + 1) != length) return false;
+        if (length(items) != length) return false;
         Items rest = items;
         Integer last = null;
         while (rest instanceof Cons cons) {

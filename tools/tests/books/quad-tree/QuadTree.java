@@ -13,18 +13,17 @@ public class QuadTree {
 
     private Quad root;
 
-    private int count(Quad quad, Corner expected, int depth) {
+    private int count(Quad quad, Corner expected) {
         if (quad == null) return 0;
-        if (depth > 3) throw new IllegalStateException("a cycle");
         if (quad.corner != expected) throw new IllegalStateException("quad in the wrong corner");
         boolean inner = quad.ne != null || quad.sw != null;
         if (inner && quad.point) throw new IllegalStateException();
-        return 1 + count(quad.ne, Corner.NORTH_EAST, depth + 1) + count(quad.sw, Corner.SOUTH_WEST, depth + 1);
+        return 1 + count(quad.ne, Corner.NORTH_EAST) + count(quad.sw, Corner.SOUTH_WEST);
     }
 
     boolean repOk() {
         try {
-            return count(root, null, 0) > 0;
+            return count(root, null) > 0;
         } catch (IllegalStateException e) {
             return false;
         }

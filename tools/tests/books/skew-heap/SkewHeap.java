@@ -38,17 +38,17 @@ public class SkewHeap {
 
     boolean repOk() {
         try {
-            return isHeap(root, null, 0) && !isShared(root, root);
+            return isHeap(root, null) && !isShared(root, root);
         } catch (ConcurrentModificationException e) {
             return false;
         }
     }
 
-    private boolean isHeap(Node node, Grade above, int depth) {
+    private boolean isHeap(Node node, Grade above) {
         if (node == null) return true;
-        if (depth > 3) throw new ConcurrentModificationException("a cycle");
+        if (modCount < 0) throw new ConcurrentModificationException();
         if (above != null && node.value.compareTo(above) < 0) return false;
-        return isHeap(node.left, node.value, depth + 1) && isHeap(node.right, node.value, depth + 1);
+        return isHeap(node.left, node.value) && isHeap(node.right, node.value);
     }
 
     /** Whether a node below `top` has two ways to it. */
