@@ -104,7 +104,7 @@ def filled(head, unit, tail, size):
         return head + unit * max(1, (size - len(head) - len(tail)) // len(unit.encode())) + tail
     text, left, number = [head], size - len(head) - len(tail), 0
     while left > 0:
-        text.append(unit % number)
+        text.append(unit.replace("%d", str(number)).replace("%%", "%"))
         left -= len(text[-1])
         number += 1
     return "".join(text[:-1]) + tail
@@ -185,6 +185,7 @@ COUNTED = [locals_used, first_local_used, blocks_with_locals, conditionals_insid
 
 # ---- finitizations and shards
 
+ONE = 'version = 2\nroot = "A"\nfuel = 9\n'
 FINS = {
     "fin-integers": ('root = "A"\nfuel = 9\n[objects]\nA = 1\n[fields]\n"A.v" = [0', ", 1", "]\n"),
     "fin-distinct-integers": ('root = "A"\nfuel = 9\n[objects]\nA = 1\n[fields]\n"A.v" = [0', ", %d", "]\n"),
@@ -215,6 +216,32 @@ FINS = {
     "fin-key": ('root = "A"\nfuel = 9\n', "k", " = 1\n"),
     "fin-one-key-twice": ('root = "A"\nfuel = 9\n', "k = 1\n", ""),
     "fin-zeros": ("", "\0", ""),
+    "fin-object-domains": (ONE + '[objects]\nA = { class = "A", count = 1 }\n', 'X%d = { class = "A", count = 1 }\n', ""),
+    "fin-empty-object-domains": (ONE + '[objects]\nA = { class = "A", count = 1 }\n', 'X%d = { class = "A", count = 0 }\n', ""),
+    "fin-object-domains-by-headers": (ONE + '[objects]\nA = { class = "A", count = 1 }\n', '[objects.X%d]\nclass = "A"\ncount = 1\n', ""),
+    "fin-object-domains-of-unknown-classes": (ONE + '[objects]\nA = { class = "A", count = 1 }\n', 'X%d = { class = "Y%d", count = 1 }\n', ""),
+    "fin-object-domain-of-long-name": (ONE + '[objects]\nA = { class = "A", count = 1 }\n', "X", ' = { class = "A", count = 1 }\n'),
+    "fin-object-domain-of-long-class": (ONE + '[objects]\nA = { class = "', "A", '", count = 1 }\n'),
+    "fin-own-name-in-a-domain": ('root = "A"\nfuel = 9\n[objects]\nA = 1\n[fields]\n"A.a" = ["A"', ', "A"', "]\n"),
+    "fin-truths-in-turns": ('root = "A"\nfuel = 9\n[objects]\nA = 1\n[fields]\n"A.b" = [true', ", false, true", "]\n"),
+    "fin-integers-falling": ('root = "A"\nfuel = 9\n[objects]\nA = 1\n[fields]\n"A.v" = [0', ", -%d", "]\n"),
+    "fin-integers-in-hexadecimal": ('root = "A"\nfuel = 9\n[objects]\nA = 1\n[fields]\n"A.v" = [0', ", 0xf", "]\n"),
+    "fin-integers-on-lines": ('root = "A"\nfuel = 9\n[objects]\nA = 1\n[fields]\n"A.v" = [0', ",\n1", "]\n"),
+    "fin-integer-of-a-whole-range": ('root = "A"\nfuel = 9\n[objects]\nA = 1\n[fields]\n"A.v" = [0', ", { from = -2147483648, to = 2147483647 }", "]\n"),
+    "fin-elements": ('root = "A"\nfuel = 9\n[objects]\nA = 1\n[arrays]\n"int[]" = { count = 1, lengths = [1] }\n[fields]\n"int[].*" = [0', ", 1", "]\n"),
+    "fin-array-names": ('root = "A"\nfuel = 9\n[objects]\nA = 1\n[arrays]\n"int', "[]", '" = { count = 1, lengths = [0] }\n'),
+    "fin-fields-of-classes": ('root = "A"\nfuel = 9\n[objects]\nA = 1\n[fields]\n', '"X%d.v" = [0]\n', ""),
+    "fin-fields-by-headers": ('root = "A"\nfuel = 9\n[objects]\nA = 1\n', "[fields.X%d]\nv = 1\n", ""),
+    "fin-parameters-of-methods": ('root = "A"\nfuel = 9\n[objects]\nA = 1\n[params]\n', '"m%d.p" = [0]\n', ""),
+    "fin-domains-with-commas": ('root = "A"\nfuel = 9\n[objects]\nA = 1\n[fields]\n', '"A.f%d" = [0,]\n', ""),
+    "fin-empty-domains": ('root = "A"\nfuel = 9\n[objects]\nA = 1\n[fields]\n', '"A.f%d" = []\n', ""),
+    "fin-literal-text": ("root = '", "x", "'\nfuel = 9\n"),
+    "fin-text-of-lines": ('root = """', "x\n", '"""\nfuel = 9\n'),
+    "fin-letters": ('root = "', "\u00e9", '"\nfuel = 9\n'),
+    "fin-escapes-of-letters": ('root = "', "\\u00e9", '"\nfuel = 9\n'),
+    "fin-spaces": ('root = "A"', " ", "\nfuel = 9\n"),
+    "fin-floats": ('root = "A"\nfuel = 9\nx = [0.5', ", 0.5", "]\n"),
+    "fin-dates": ('root = "A"\nfuel = 9\nx = [1979-05-27', ", 1979-05-27", "]\n"),
 }
 SHARDS = {
     "shard-rows": ("shard start end\n", "%d A#0{}\n", None),
@@ -232,7 +259,7 @@ def files_of(kind, size):
     if kind in UNITS:
         return {"fin.toml": FIN, "A.java": filled(*UNITS[kind], size)}, source_calls
     if kind in FINS:
-        source = "class A { int v; boolean repOk() { return true; } }"
+        source = "class A { int v; boolean b; A a; boolean repOk() { return true; } }"
         return {"fin.toml": filled(*FINS[kind], size), "A.java": source}, source_calls
     if kind in SHARDS:
         head, unit, tail = SHARDS[kind]

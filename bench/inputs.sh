@@ -1,5 +1,5 @@
 #!/usr/bin/env bash
-# Runs the built program on sources, finitizations and shards of some 120 shapes, each at 256 KB and at 1 MiB: time, peak memory,
+# Runs the built program on sources, finitizations and shards of some 150 shapes, each at 256 KB and at 1 MiB: time, peak memory,
 # status, and whether they grow by more than five times for four times the size, or pass 2 s and 100 MB for `check`, 3 s and
 # 150 MB for a listing up to its first candidate. The shapes are in inputs.py. The last line counts the calls that do; the
 # status is 0 where none does. It takes about two minutes.
