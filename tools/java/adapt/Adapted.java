@@ -23,6 +23,7 @@ public record Adapted(Map<String, String> sources, String finitization, Notes no
         made.replaceAll((path, whole) -> whole.replace(Library.PLACE, library.methods()));
         String first = made.keySet().iterator().next();
         made.put(first, made.get(first) + library.classes(made.values()));
+        for (Program.Source source : program.sources) made.computeIfPresent(source.name(), (path, whole) -> rewriter.finished(source, whole));
         return new Adapted(made, new Bounds(kinds, reach, notes, outers).adapted(fin), notes);
     }
 }

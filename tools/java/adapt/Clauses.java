@@ -23,7 +23,7 @@ import javax.lang.model.type.TypeKind;
 final class Clauses {
     private static final String BLOCK = "if (false /*korat$contract*/) {";
     private static final String RESULT = "korat$result";
-    private static final String OLD = "(/*korat$old*/ ";
+    private static final String OLD = "korat$old";
     private static final Pattern LINE = Pattern.compile("(//@\\s*(?:requires|ensures)\\b)(.*?);(?=\\s*(?://|$))", Pattern.MULTILINE);
     /** The clauses as they are rewritten, in the order of the source. */
     private final List<String> rewritten = new ArrayList<>();
@@ -44,8 +44,9 @@ final class Clauses {
             block.append(" ").append(program.text(tree.getReturnType())).append(" ").append(RESULT).append(" = ").append(name)
                     .append("(").append(String.join(", ", arguments)).append(");");
         }
+        int[] olds = {0};
         for (int at = 0; at < clauses.size(); at++) {
-            String text = clauses.get(at).replace("\\result", RESULT).replaceAll("\\\\old\\s*\\(", Matcher.quoteReplacement(OLD));
+            String text = withOlds(clauses.get(at).replace("\\result", RESULT), block, olds);
             block.append(" boolean korat$clause").append(at).append(" = ").append(text.strip()).append(";");
         }
         int open = program.start(tree.getBody()) + 1;
@@ -53,6 +54,20 @@ final class Clauses {
         result.put(source.name(), source.text().substring(0, open) + block + " }" + source.text().substring(open));
         refuseOther(result, program.place(tree), name);
         return result;
+    }
+
+    /** A clause in which each `\\old(..)` is a variable, which is declared in the block. */
+    private static String withOlds(String clause, StringBuilder block, int[] count) {
+        Matcher old = Pattern.compile("\\\\old\\s*\\(").matcher(clause);
+        if (!old.find()) return clause;
+        int end = old.end();
+        for (int depth = 1; depth > 0 && end < clause.length(); end++) {
+            if (clause.charAt(end) == '(') depth++;
+            if (clause.charAt(end) == ')') depth--;
+        }
+        String name = OLD + count[0]++ + "$";
+        block.append(" var ").append(name).append(" = ").append(clause, old.end(), end - 1).append(";");
+        return clause.substring(0, old.start()) + name + withOlds(clause.substring(end), block, count);
     }
 
     private static void refuseOther(Map<String, String> texts, String place, String name) throws Fault {
@@ -78,15 +93,20 @@ final class Clauses {
 
     /** Takes the clauses of a block, as they are rewritten. */
     void take(IfTree tree, Rewriter rewriter, Expressions expressions, Program program, Library library) {
+        Map<String, String> olds = new LinkedHashMap<>();
         for (StatementTree statement : ((BlockTree) tree.getThenStatement()).getStatements()) {
-            VariableTree clause = (VariableTree) statement;
-            if (clause.getName().contentEquals(RESULT)) continue;
-            String before = program.text(clause.getInitializer());
-            String text = withoutNew(expressions.value(clause.getInitializer(), "boolean"), library);
-            if (text.matches("(?s).*\\bnew\\b.*") || count(text, "/*korat$old*/") != count(before, "/*korat$old*/") || text.contains("\n")) {
-                rewriter.refused(clause, "the contract's `" + shown(before) + "`", "write it in the subset, with `\\old` around a field or a number");
+            VariableTree variable = (VariableTree) statement;
+            String name = variable.getName().toString();
+            if (name.equals(RESULT)) continue;
+            boolean old = name.startsWith(OLD);
+            String kind = old ? rewriter.kindOf(variable) : "boolean";
+            String text = withoutNew(expressions.value(variable.getInitializer(), kind), library);
+            if (text.matches("(?s).*(\\bnew\\b|\n).*")) {
+                rewriter.refused(variable, "the contract's `" + program.text(variable.getInitializer()).replace(RESULT, "\\result") + "`",
+                        "let it call a method of the class that says it");
             }
-            rewritten.add(shown(text));
+            if (old) olds.put(name, "\\old(" + text + ")");
+            else rewritten.add(shown(text, olds));
         }
     }
 
@@ -98,12 +118,10 @@ final class Clauses {
         return text;
     }
 
-    private static String shown(String text) {
-        return text.replaceAll("\\(\\s*/\\*korat\\$old\\*/\\s*", Matcher.quoteReplacement("\\old(")).replace(RESULT, "\\result");
-    }
-
-    private static int count(String text, String part) {
-        return (text.length() - text.replace(part, "").length()) / part.length();
+    private static String shown(String text, Map<String, String> olds) {
+        String result = text.replace(RESULT, "\\result");
+        for (Map.Entry<String, String> old : olds.entrySet()) result = result.replace(old.getKey(), old.getValue());
+        return result;
     }
 
     /** What is in front of the method, with the clauses as they are rewritten. */

@@ -198,7 +198,12 @@ final class Rewriter {
             at = program.end(tree);
         }
         text.append(members(source, at, source.text().length(), unit.getTypeDecls()));
-        return withImports(text.toString(), unit).replaceAll("(?m)^[ \\t]+$", "");
+        return text.toString();
+    }
+
+    /** A file's text with all that was added, with the imports that it needs, and without spaces on empty lines. */
+    String finished(Program.Source source, String text) {
+        return withImports(text, source.unit()).replaceAll("(?m)^[ \\t]+$", "");
     }
 
     /** Imports of the two collections, where they were others. */
@@ -305,6 +310,10 @@ final class Rewriter {
         hoisted.add(carried.lambda(tree, names));
         notes.changed(program.place(tree), "the lambda became an object of the added class " + program.nameOf(tree));
         return "new " + program.nameOf(tree) + "(" + String.join(", ", carried.arguments(tree, null)) + ")";
+    }
+
+    String kindOf(VariableTree variable) {
+        return kinds.of((VariableElement) program.element(variable));
     }
 
     /** Declares a variable in front of the statements of the method that is written. */
