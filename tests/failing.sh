@@ -113,5 +113,28 @@ for sharing in '--workers 1' '--workers 3' '--workers 3 --window 1' '--workers 3
     table 4 "$sharing" n.toml N.java
     table 100 "$sharing" trees.toml Tree.java
 done
+
+# The same of a finitization that is carried over: it has one read of a file, and a few writes.
+"$program" upgrade n.toml >whole </dev/null
+for ((put = 1; put <= 3; put++)); do
+    status=$(fail 10 "$put" 0 upgrade n.toml)
+    [ "$status" = 7 ] && is_front $((10 * (put - 1))) && [ ! -s err ]
+    count $? "upgrade n.toml, write $put fails: status $status"
+done
+status=$(fail 10 0 1 upgrade n.toml)
+[ "$status" = 6 ] && [ "$(cat out)" = "read fault n.toml" ]
+count $? "upgrade n.toml, its read fails: status $status, $(cat out)"
+
+# The same of a trace that is checked: it has one read of a file, and one write, of which a part may be taken.
+"$program" list n.toml N.java --trace >log </dev/null
+"$program" trace log >whole </dev/null
+for ((put = 1; put <= 2; put++)); do
+    status=$(fail 10 "$put" 0 trace log)
+    [ "$status" = 7 ] && is_front $((10 * (put - 1))) && [ ! -s err ]
+    count $? "trace log, write $put fails: status $status"
+done
+status=$(fail 10 0 1 trace log)
+[ "$status" = 6 ] && [ "$(cat out)" = "read fault log" ]
+count $? "trace log, its read fails: status $status, $(cat out)"
 echo "$passed passed, $failed failed"
 [ "$failed" = 0 ]

@@ -9,6 +9,7 @@
     limits     from, to and limit at random: inside segments, at a window's end, at the last row and beside it
     mutated    finitizations of examples/ with characters or lines changed at random
     cut        a source cut at each byte, one that never ends, a long one, and a spent entry at many places of a listing
+    checked    a trace checked in little memory, and into a full device
     pipes      a reader that leaves after some rows: 7, and a front of the bytes
     full       a disk that is full after so many bytes: 7, and exactly so many bytes; it mounts a tmpfs, so it needs root
     memory     an address space of 22 sizes: the whole; or 8, rows from the first one on, and `out of memory`
@@ -16,6 +17,7 @@
     size       a file that may grow by so many blocks only: 7, and exactly so many bytes
     signals    reads and writes that a signal interrupts, by strace: 64 times each, and the whole; once more, and 6 or 7
     waiting    a pipe that doesn't block and has no room: 7, and a front of the bytes
+    idle       64 workers on four candidates that each recur deeply: 1.2 times one worker's processor time, 4 times its memory
 
 KORAT names the program; SEED another start of what is at random. A call that takes two minutes is one that hangs. The last
 line is `N passed, M failed`, and the status is 0 where none failed. It proves nothing, and no gate runs it.
@@ -248,6 +250,31 @@ def trees(work, nodes):
     return run(["list", "trees.toml", "Tree.java"], work)[1]
 
 
+def checked():
+    with tempfile.TemporaryDirectory() as work:
+        trees(work, 8)
+        logs = {"whole": run(["list", "--trace", "--workers", "3", "trees.toml", "Tree.java"], work)[1]}
+        logs["cut"] = logs["whole"][: len(logs["whole"]) * 2 // 3]
+        for name, log in logs.items():
+            open(f"{work}/{name}", "wb").write(log)
+            words = ["trace", "--workers", "3", name]
+            one = run(words, work)
+            count(one[0] == (0 if name == "whole" else 10) and one[2] == b"", f"trace {name}: {one}")
+            ends = set()
+            for size in (2600, 3000, 3400, 3800, 4200, 4600, 5000, 5400, 5800, 6200, 6600, 7000, 8000, 9000, 10000, 20000, 100000):
+                def little(size=size):
+                    resource.setrlimit(resource.RLIMIT_AS, (size * 1024, size * 1024))
+
+                few = run(words, work, preexec_fn=little)
+                ends.add(few[0])
+                good = few == one or few[0] == 8 and few[1] in (b"", b"out of memory\n") or few[0] < 0 or few[0] == 127
+                count(good, f"trace {name} in {size} KB: {few}")
+            count({8, one[0]} <= ends, f"trace {name}: no address space in which it ends with 8, or none in which it ends well: {ends}")
+            with open("/dev/full", "wb") as out:
+                status, _, error = run(words, work, stdout=out)
+            count(status == 7 and error == b"", f"/dev/full, trace {name}: {status}")
+
+
 def pipes():
     with tempfile.TemporaryDirectory() as work:
         whole = trees(work, 8)
@@ -379,7 +406,40 @@ def waiting():
             count(status == 7 and whole.startswith(front) and error == b"", f"a full pipe that doesn't block, {way}: {status}, {len(front)} bytes")
 
 
-PARTS = {part.__name__: part for part in (equal, cases, domains, limits, mutated, cut, pipes, full, memory, stack, size, signals, waiting)}
+FOUR = """class Four {
+    int x;
+    boolean repOk() { return this.down(300000) == 0; }
+    int down(int n) {
+        if (n == 0) { int y = this.x; return 0; }
+        return this.down(n - 1);
+    }
+}
+"""
+
+FOUR_VALUES = 'root = "Four"\nfuel = 5000000\n[objects]\nFour = 1\n[fields]\n"Four.x" = [0, 1, 2, 3]\n'
+
+
+def cost(words, folder):
+    """Output of a call, its seconds of processor time, and the most memory that it had."""
+    with open(folder + "/out", "wb") as out:
+        call = subprocess.Popen([KORAT, *words], cwd=folder, stdin=subprocess.DEVNULL, stdout=out)
+        _, _, used = os.wait4(call.pid, 0)
+    return open(folder + "/out", "rb").read(), used.ru_utime + used.ru_stime, used.ru_maxrss
+
+
+def idle():
+    with tempfile.TemporaryDirectory() as work:
+        open(work + "/Four.java", "w").write(FOUR)
+        open(work + "/four.toml", "w").write(FOUR_VALUES)
+        whole, seconds, memory = cost(["list", "four.toml", "Four.java"], work)
+        for workers in (8, 64):
+            got, busy, most = cost(["list", "--workers", str(workers), "four.toml", "Four.java"], work)
+            count(got == whole, f"four candidates by {workers} workers")
+            count(busy <= 1.2 * seconds + 0.1 and most <= 4 * memory,
+                  f"four candidates by {workers} workers: {busy:.2f} s and {most} KB, where one takes {seconds:.2f} s and {memory} KB")
+
+
+PARTS = {part.__name__: part for part in (equal, cases, domains, limits, mutated, cut, checked, pipes, full, memory, stack, size, signals, waiting, idle)}
 
 if __name__ == "__main__":
     asked = sys.argv[1:] or list(PARTS)

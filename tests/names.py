@@ -49,6 +49,9 @@ LEAST_OF_PAGES = 900
 # A file of so few lines may say "Between crates": its row in the table says all of it.
 SHORT = 3
 
+# Files between crates of which the promise uses one definition (`drained`, `CountsFew`): their first lines may say so.
+PARTLY = {("kr_core", "Rows"), ("kr_board", "Windows")}
+
 IDENTIFIER = r"[A-Za-z_][A-Za-z_0-9]*"
 CRATE = re.compile(r"\b(?:kr_[a-z_]*[a-z]|korat_[a-z_]*[a-z])\b")
 
@@ -534,7 +537,7 @@ def look_at_files(look):
     for file in sorted(set(listed) - files):
         look.miss(page, listed[file], f"{file[0]} `{file[1]}`: in the table, and the headline doesn't use it")
     for name, module in sorted(files & set(listed)):
-        if lines_of(top, name, module) > SHORT and not text_of(f"{top}/crates/{name}/specs/{module}.antt").startswith("-- To be believed"):
+        if lines_of(top, name, module) > SHORT and (name, module) not in PARTLY and not text_of(f"{top}/crates/{name}/specs/{module}.antt").startswith("-- To be believed"):
             look.miss(page, listed[(name, module)], f"{name} `{module}`: the headline uses it, and its first line doesn't begin with 'To be believed'")
     told = text[text.find("## How to read it"):text.find("| File | Lines |")]
     for name, kind in sorted(types):

@@ -114,6 +114,10 @@ explain_count() {
         [ "$1" -ge 1 ] || wrong "no file"
         [ "$1" -le 64 ] || wrong "$1 files, and at most 64 are taken"
         ;;
+    *FILE | *[a-z]\ FIN)
+        [ "$1" -ge 1 ] || wrong "no file behind $command"
+        [ "$1" -le 1 ] || wrong "one word too many behind $command"
+        ;;
     *FIN*)
         [ "$1" -ge 1 ] || wrong "no finitization, and no source"
         [ "$1" -ge 2 ] || wrong "no source behind the finitization"

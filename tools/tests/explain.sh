@@ -261,6 +261,7 @@ document 's/^fuel/version = 2\nfuel/' 'F3 objects.List' 'in version 2 an object 
 second='s/^fuel/version = 2\nfuel/;s/^List = 1/List = { class = "List", count = 1 }/'
 document "$second"';s/^Node = 2/"1x" = { class = "Node", count = 2 }/' 'F3 objects.1x' 'named by an identifier'
 document "$second"';s/^Node = 2/Node = { count = 2 }/' 'F5 objects.Node' 'in [objects]: Node = { class = '
+told 'f.toml: F7 version' 'of `upgrade` alone'
 told 'f.toml: S1 root' 'with the words of the call behind --'
 told 'none.toml: S1 root' "none.toml can't be read here"
 printf 'root = "\xff"\n' >bytes.toml

@@ -90,6 +90,9 @@ worked = record {
   shard_has_no_trace = refl;
   merge = refl;
   merge_of_none = refl;
+  upgrade = refl;
+  upgrade_of_none = refl;
+  upgrade_of_two = refl;
   help = refl;
   help_word = refl;
 }

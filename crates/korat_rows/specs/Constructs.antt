@@ -17,7 +17,8 @@ use Rattle.kr_mean.specs.Program.{Program, program_of, class_scope}
 use Rattle.kr_mean.specs.Places.{SlotPlace, At}
 use Rattle.kr_mean.specs.Steps.{State, Outcome}
 use Rattle.kr_mean.specs.Meaning.{value}
-use Rattle.korat_rows.specs.Words.{absent, int, boolean, void, named, array_of, hash_set, linked_list, number, yes, no, null, this, name, ◌dot◌, ◌at◌, call, call_on, super_call, new, new_array, unary, step, binary, ◌*'◌, ◌/'◌, ◌+'◌, ◌-'◌, ◌<'◌, ◌>'◌, ◌instance_of◌, ◌=='◌, ◌!='◌, ◌&&'◌, ◌||'◌, ◌becomes◌, compound, conditional, cast, empty, block, declared, local, locals, evaluate, assign, increment, return, break, continue, if_then, if_else, while, do_while, for, field_with, field, constant, parameter, method, static_method, constructor, constructor_after, class, class_below}
+use Rattle.korat_rows.specs.Words.{absent, int, boolean, void, named, hash_set, linked_list, number, yes, no, null, this, name, ◌dot◌, ◌at◌, call, call_on, super_call, new, new_array, unary, step, binary, ◌*'◌, ◌/'◌, ◌+'◌, ◌-'◌, ◌<'◌, ◌>'◌, ◌instance_of◌, ◌=='◌, ◌!='◌, ◌&&'◌, ◌||'◌, ◌becomes◌, compound, conditional, cast, empty, block, declared, local, locals, evaluate, assign, increment, return, break, continue, if_then, if_else, while, do_while, for, field_with, field, constant, parameter, method, static_method, constructor, constructor_after, class, class_below}
+use Rattle.kr_space_meaning.specs.Examples.{array_of}
 use Rattle.kr_types_meaning.specs.Texts.{list_of}
 
 abbrev pub Shown : Type 0

@@ -8,7 +8,8 @@ use Rattle.kr_value.specs.declared.value.Value.TheVariants.{Null}
 use Rattle.kr_value.specs.declared.object.Spot.TheVariants.{Length, Element}
 use Rattle.kr_mean.specs.Problem.{Problem, ClassDomain, Domain, Plain, Objects}
 use Rattle.kr_mean.specs.Entries.{all_entries}
-use Rattle.korat_rows.specs.Words.{int, boolean, void, named, array_of, number, null, yes, no, this, name, ◌dot◌, ◌at◌, call_on, new, ◌+'◌, ◌-'◌, ◌<'◌, ◌>'◌, ◌=='◌, ◌!='◌, block, local, assign, return, if_then, while, field, parameter, requires, contracted, method, rep_ok, class, class_below, ints, at_field, objects, arrays_named, listed, testing, listing, shown, valid, invalid, spent}
+use Rattle.korat_rows.specs.Words.{int, boolean, void, named, number, null, yes, no, this, name, ◌dot◌, ◌at◌, call_on, new, ◌+'◌, ◌-'◌, ◌<'◌, ◌>'◌, ◌=='◌, ◌!='◌, block, local, assign, return, if_then, while, field, parameter, requires, contracted, method, rep_ok, class, class_below, ints, objects, arrays_named, listed, testing, listing, shown, valid, invalid, spent}
+use Rattle.kr_space_meaning.specs.Examples.{array_of, at as at_field}
 
 -- ---- predicates that look at nothing
 

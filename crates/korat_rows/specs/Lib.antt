@@ -6,5 +6,6 @@ pub mod Examples
 pub mod Tests
 pub mod Renamings
 pub mod Premises
+pub mod Calls
 pub mod WorkedShards
 pub mod WorkedReports

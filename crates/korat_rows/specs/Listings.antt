@@ -7,7 +7,8 @@ use Rattle.kr_ast.specs.Tree.{Tree}
 use Rattle.kr_value.specs.declared.value.Value.TheVariants.{Null}
 use Rattle.kr_value.specs.declared.object.Spot.TheVariants.{Length, Element}
 use Rattle.kr_mean.specs.Problem.{Problem, Plain, Objects}
-use Rattle.korat_rows.specs.Words.{int, void, named, array_of, hash_set, linked_list, number, yes, no, null, name, ◌dot◌, ◌at◌, call_on, new, unary, step, ◌+'◌, ◌-'◌, ◌<'◌, ◌>'◌, ◌=='◌, ◌!='◌, ◌&&'◌, result, block, local, evaluate, return, if_then, while, for, field, parameter, requires, ensures, contracted, rep_ok, class, class_below, ints, at_field, objects, arrays_named, listed, testing, listing, valid, invalid, spent}
+use Rattle.korat_rows.specs.Words.{int, void, named, hash_set, linked_list, number, yes, no, null, name, ◌dot◌, ◌at◌, call_on, new, unary, step, ◌+'◌, ◌-'◌, ◌<'◌, ◌>'◌, ◌=='◌, ◌!='◌, ◌&&'◌, result, block, local, evaluate, return, if_then, while, for, field, parameter, requires, ensures, contracted, rep_ok, class, class_below, ints, objects, arrays_named, listed, testing, listing, valid, invalid, spent}
+use Rattle.kr_space_meaning.specs.Examples.{array_of, at as at_field}
 
 -- class N { N next; boolean repOk() { return next.next == null; } }
 abbrev pub next_of_next : Problem

@@ -7,7 +7,8 @@ use Rattle.kr_value.specs.declared.object.Spot.TheVariants.{Length, Element}
 use Rattle.kr_mean.specs.Problem.{Problem, Plain, Objects}
 use Rattle.kr_mean.specs.WellFormed.{IsWellFormed}
 use Rattle.kr_mean.specs.Purity.{IsPure}
-use Rattle.korat_rows.specs.Words.{int, boolean, named, array_of, number, yes, this, name, ◌dot◌, ◌at◌, new, new_array, compound, local, evaluate, assign, increment, return, field, rep_ok, class, ints, at_field, objects, arrays_named, listed}
+use Rattle.korat_rows.specs.Words.{int, boolean, named, number, yes, this, name, ◌dot◌, ◌at◌, new, new_array, compound, local, evaluate, assign, increment, return, field, rep_ok, class, ints, objects, arrays_named, listed}
+use Rattle.kr_space_meaning.specs.Examples.{array_of, at as at_field}
 use Rattle.korat_rows.specs.Listings.{sorted_array, plus, tree}
 use Rattle.korat_rows.specs.Examples.{nodes_with, two_nodes, two_subclasses}
 use Rattle.kr_laws_safety.specs.Domains.{HaveDomainsTypes}

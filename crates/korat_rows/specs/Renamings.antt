@@ -4,7 +4,8 @@ use Rattle.kr_value.specs.declared.value.Value.TheVariants.{Null}
 use Rattle.kr_mean.specs.Problem.{Problem, Plain, Objects}
 use Rattle.kr_mean.specs.Space.{space_of}
 use Rattle.kr_mean.specs.Entries.{name_in, renamed}
-use Rattle.korat_rows.specs.Words.{int, named, yes, return, field, rep_ok, class, ints, at_field, objects, listed}
+use Rattle.korat_rows.specs.Words.{int, named, yes, return, field, rep_ok, class, ints, objects, listed}
+use Rattle.kr_space_meaning.specs.Examples.{at as at_field}
 
 -- class A { A next; B first; boolean repOk() { return true; } }
 -- class B { A owner; int v; }

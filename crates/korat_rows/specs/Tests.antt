@@ -16,7 +16,8 @@ use Rattle.kr_mean.specs.Problem.{Problem, Plain}
 use Rattle.kr_mean.specs.Verdicts.{verdict_of}
 use Rattle.kr_mean.specs.Entries.{all_entries}
 use Prim.Native.String.{String as Text}
-use Rattle.korat_rows.specs.Words.{absent, int, void, named, number, yes, no, name, ◌dot◌, call, new, step, ◌+'◌, ◌/'◌, ◌<'◌, ◌=='◌, ◌&&'◌, ◌||'◌, compound, result, old_at, empty, block, local, assign, return, if_then, while, field, field_with, parameter, requires, ensures, contracted, method, rep_ok, constructor, class, class_below, ints, at_field, objects, listed, testing}
+use Rattle.korat_rows.specs.Words.{absent, int, void, named, number, yes, no, name, ◌dot◌, call, new, step, ◌+'◌, ◌/'◌, ◌<'◌, ◌=='◌, ◌&&'◌, ◌||'◌, compound, result, old_at, empty, block, local, assign, return, if_then, while, field, field_with, parameter, requires, ensures, contracted, method, rep_ok, constructor, class, class_below, ints, objects, listed, testing}
+use Rattle.kr_space_meaning.specs.Examples.{at as at_field}
 use Rattle.kr_types_meaning.specs.Texts.{list_of}
 use Rattle.korat_rows.specs.Constructs.{Shown, run_in}
 

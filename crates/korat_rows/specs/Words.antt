@@ -14,7 +14,6 @@ use Rattle.kr_ast.specs.Tree as trees
 use Rattle.kr_ast.specs.Tree.{Tree, Nil}
 use Rattle.kr_value.specs.declared.value.Value.TheVariants.{Int}
 use Rattle.kr_value.specs.declared.object.Class.TheVariants.{Object, Array}
-use Rattle.kr_value.specs.declared.object.Spot.TheVariants.{Field}
 use Rattle.kr_mean.specs.declared.mode.Mode.TheVariants.{List as Listing, Method as Testing}
 use Rattle.kr_mean.specs.declared.row.Row.{Row}
 use Rattle.kr_mean.specs.Program.{program_of}
@@ -40,9 +39,6 @@ void = trees.PrimitiveType nowhere Void
 
 abbrev pub named : Text → Tree
 named n = trees.NamedType nowhere (codes n)
-
-abbrev pub array_of : Tree → Tree
-array_of t = trees.ArrayType nowhere t
 
 abbrev pub hash_set : Tree → Tree
 hash_set t = trees.GenericType nowhere (named "HashSet") t
@@ -272,9 +268,6 @@ class_below n super ms = trees.Class nowhere (codes n) (named super) (list_of ms
 
 abbrev pub ints : List ℕ → Domain
 ints ns = map (λ n. Plain (Int (pos n))) ns
-
-abbrev pub at_field : ℕ → Domain → Spotted
-at_field f domain = record { spot = Field f; domain = domain }
 
 -- so many objects of a class by its number
 abbrev pub objects : Text → ℕ → ℕ → List Spotted → ClassDomain

@@ -7,7 +7,7 @@ mod reports;
 mod shards;
 mod words;
 
-pub use laws::worked_premises;
+pub use laws::{worked_calls, worked_premises};
 pub use meaning::{
     worked_constructs, worked_examples, worked_listings, worked_renamings, worked_tests,
 };

@@ -3,7 +3,7 @@
 use crate::call::Call;
 use crate::held::{Ended, Written, held_against};
 use crate::making::{files_of, sink_of, words_of};
-use korat_top::{NoWords, run, start};
+use korat_top::{Alone, NoWords, run, run_shared, start};
 use kr_base::{NoMemory, Words};
 use kr_io::{Gate, MemFiles, MemSink, OpenGate};
 use std::alloc::Global;
@@ -89,7 +89,10 @@ fn start_over<W: Threads + Wait + Sync>(
     out: &mut MemSink,
 ) -> Result<u8, NoMemory> {
     let words = given_words(alloc, given, call.words)?;
-    Ok(start(rt, alloc, words, files, out, &OpenGate))
+    match start(alloc, words, files, out) {
+        Alone::Ended(status) => Ok(status),
+        Alone::Shared(search) => Ok(run_shared(rt, alloc, &search, files, out, &OpenGate)),
+    }
 }
 
 fn start_into<W: Threads + Wait + Sync>(

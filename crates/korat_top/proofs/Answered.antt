@@ -1,11 +1,12 @@
 -- What was found for a command, and the statuses of refusals.
-use Rattle.std.proofs.Common.{false, ◌≡◌, ◌∙◌, ℕ, List, [], ◌∷◌, ap, arith, inl, refl, subst, sym}
+use Rattle.std.proofs.Common.{◌≡◌, ◌∙◌, ℕ, List, [], ◌∷◌, ap, arith, inl, refl, subst, sym}
 use Rattle.std.specs.Prelude.{Some, Option, Result, Ok, Err}
 use Rattle.kr_mean.specs.declared.mode.Mode.{Mode}
 use Rattle.kr_mean.specs.declared.mode.Mode.TheVariants.{List as Listing, Method as Testing}
 use Rattle.kr_args.specs.declared.forms.Ask.{Ask}
 use Rattle.kr_args.specs.declared.forms.Command.{Command}
 use Rattle.kr_args.specs.declared.forms.Command.TheVariants as commands
+use Rattle.kr_args.specs.declared.forms.Search.TheVariants as searches
 use Rattle.kr_demo.specs.Texts.{source_text, finitization_text}
 use Rattle.kr_mean.specs.Problem as means
 use Rattle.kr_space_problem.specs.Posed.{posed}
@@ -15,12 +16,13 @@ use Rattle.korat_top_files.specs.declared.refusal.InputFile.TheVariants as input
 use Rattle.korat_top_files.specs.declared.refusal.Stop.{Stop}
 use Rattle.korat_top_files.specs.declared.refusal.Stop.TheVariants.{Read, Refused, Memory}
 use Rattle.korat_top_files.specs.Refusals.{Inputs, Refusal, files_of, name_of, refusal_of, status_of_file}
-use Rattle.korat_top_files.specs.Steps.{Held, Checks, Reads, AllTold}
+use Rattle.korat_top_files.specs.Steps.{Checks, Reads, AllTold}
+use Rattle.kr_io.specs.Held.{Held}
 use Rattle.korat_top_files.specs.Chains.{from_texts}
 use Rattle.korat_top.specs.Answer.{IsTold, ReadsFor, inputs_of, steps_of}
 use Rattle.korat_top_files.specs.Found.{FindsIn, Meets}
+use Rattle.korat_top_files.specs.Upgrades.{FindsUpgrade}
 use Rattle.korat_top.specs.Ends.{IsGiven}
-use Rattle.korat_top_reports.specs.Reports.{PosesProblem, is_alone}
 use Rattle.korat_top.specs.Found.{Finds}
 use Rattle.korat_top_files.proofs.Chained.{to_checks, to_judges}
 
@@ -28,24 +30,6 @@ use Rattle.korat_top_files.proofs.Chained.{to_checks, to_judges}
 pub refused_low : (file : InputFile) → IsGiven (status_of_file file)
 refused_low input.Finitization = inl (omega arith)
 refused_low (input.Source n) = inl (omega arith)
-
--- a command that puts no shards together poses a problem
-pub poses_problem : (command : Command) → ((files : List (List ℕ)) → command ≡ commands.Merge files → ⊥) → PosesProblem command
-poses_problem (commands.List ask) h = tt
-poses_problem (commands.Test method ask) h = tt
-poses_problem (commands.Check fin sources) h = tt
-poses_problem (commands.Demo n workers) h = tt
-poses_problem (commands.Shard ask) h = tt
-poses_problem (commands.Merge files) h = h files refl
-
--- so does one of several workers, or with a trace
-pub shared_poses : (command : Command) → is_alone command ≡ false → PosesProblem command
-shared_poses (commands.List ask) h = tt
-shared_poses (commands.Test method ask) h = tt
-shared_poses (commands.Check fin sources) h = tt
-shared_poses (commands.Demo n workers) h = tt
-shared_poses (commands.Shard ask) h = tt
-shared_poses (commands.Merge files) h = absurd (cc (h))
 
 pub refused_no_usage : (file : InputFile) → status_of_file file ≡ 2 → ⊥
 refused_no_usage input.Finitization e = omega (arith, e)
@@ -71,19 +55,19 @@ checks_found held faults last command mode inputs files files' (Err (Read failed
 checks_found held faults last command mode inputs files files' (Err (Memory why)) steps told reads is h = tt
 
 pub list_found : {F : Type 0} (held : F → Held) (faults : F → ℕ) (last : F → Option (List ℕ)) (ask : Ask) (files files' : F) (r : Result Problem Stop)
-    → FindsIn held faults last Listing (files_of ask.fin ask.sources) files files' r → Finds held faults last (commands.List ask) files files' r
+    → FindsIn held faults last Listing (files_of ask.fin ask.sources) files files' r → Finds held faults last (commands.Search (searches.List ask)) files files' r
 list_found held faults last ask files files' r h =
-    checks_found held faults last (commands.List ask) Listing (files_of ask.fin ask.sources) files files' r (λ x c. c) (λ t. t) (λ file s. s) refl h
+    checks_found held faults last (commands.Search (searches.List ask)) Listing (files_of ask.fin ask.sources) files files' r (λ x c. c) (λ t. t) (λ file s. s) refl h
 
 pub shard_found : {F : Type 0} (held : F → Held) (faults : F → ℕ) (last : F → Option (List ℕ)) (ask : Ask) (files files' : F) (r : Result Problem Stop)
-    → FindsIn held faults last Listing (files_of ask.fin ask.sources) files files' r → Finds held faults last (commands.Shard ask) files files' r
+    → FindsIn held faults last Listing (files_of ask.fin ask.sources) files files' r → Finds held faults last (commands.Search (searches.Shard ask)) files files' r
 shard_found held faults last ask files files' r h =
-    checks_found held faults last (commands.Shard ask) Listing (files_of ask.fin ask.sources) files files' r (λ x c. c) (λ t. t) (λ file s. s) refl h
+    checks_found held faults last (commands.Search (searches.Shard ask)) Listing (files_of ask.fin ask.sources) files files' r (λ x c. c) (λ t. t) (λ file s. s) refl h
 
 pub test_found : {F : Type 0} (held : F → Held) (faults : F → ℕ) (last : F → Option (List ℕ)) (method : List ℕ) (ask : Ask) (files files' : F) (r : Result Problem Stop)
-    → FindsIn held faults last (Testing method) (files_of ask.fin ask.sources) files files' r → Finds held faults last (commands.Test method ask) files files' r
+    → FindsIn held faults last (Testing method) (files_of ask.fin ask.sources) files files' r → Finds held faults last (commands.Search (searches.Test method ask)) files files' r
 test_found held faults last method ask files files' r h =
-    checks_found held faults last (commands.Test method ask) (Testing method) (files_of ask.fin ask.sources) files files' r (λ x c. c) (λ t. t) (λ file s. s) refl h
+    checks_found held faults last (commands.Search (searches.Test method ask)) (Testing method) (files_of ask.fin ask.sources) files files' r (λ x c. c) (λ t. t) (λ file s. s) refl h
 
 pub check_found : {F : Type 0} (held : F → Held) (faults : F → ℕ) (last : F → Option (List ℕ)) (fin : List ℕ) (sources : List (List ℕ)) (files files' : F) (r : Result Problem Stop)
     → FindsIn held faults last Listing (files_of fin sources) files files' r → Finds held faults last (commands.Check fin sources) files files' r
@@ -92,8 +76,15 @@ check_found held faults last fin sources files files' r h =
 
 -- the demo's texts have the steps of files
 pub demo_found : {F : Type 0} (held : F → Held) (faults : F → ℕ) (last : F → Option (List ℕ)) (n workers : ℕ) (files files' : F) (r : Result Problem Stop)
-    → Meets (from_texts Listing (finitization_text n) (source_text n ∷ [])) posed r → Finds held faults last (commands.Demo n workers) files files' r
+    → Meets (from_texts Listing (finitization_text n) (source_text n ∷ [])) posed r → Finds held faults last (commands.Search (searches.Demo n workers)) files files' r
 demo_found held faults last n workers files files' (Ok f) h = λ t. to_judges Listing (finitization_text n) (source_text n ∷ []) (Ok (posed f)) h
 demo_found held faults last n workers files files' (Err (Refused x)) h = λ t. to_judges Listing (finitization_text n) (source_text n ∷ []) (Err (refusal_of x)) h
 demo_found held faults last n workers files files' (Err (Read failed)) h = absurd h
 demo_found held faults last n workers files files' (Err (Memory why)) h = tt
+
+-- what a finitization alone is refused with
+pub upgrade_found : {F : Type 0} (held : F → Held) (faults : F → ℕ) (last : F → Option (List ℕ)) (fin : List ℕ) (files files' : F) (stop : Stop)
+    → FindsUpgrade held faults last fin files files' (Err stop) → Finds held faults last (commands.Upgrade fin) files files' (Err stop)
+upgrade_found held faults last fin files files' (Refused r) h = h
+upgrade_found held faults last fin files files' (Read failed) h = record { read = h.read; named = h.named; cause = h.cause }
+upgrade_found held faults last fin files files' (Memory why) h = tt

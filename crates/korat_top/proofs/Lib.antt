@@ -3,3 +3,4 @@ pub mod Answered
 pub mod OneAnswer
 pub mod Sharding
 pub mod Stopping
+pub mod OneWorker

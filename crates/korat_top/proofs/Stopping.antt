@@ -6,7 +6,7 @@ use Rattle.kr_args.specs.declared.forms.Command.{Command}
 use Rattle.kr_space_problem.specs.declared.problem.Problem.{Problem}
 use Rattle.korat_top_files.specs.Found.{CountStays}
 use Rattle.korat_top_files.specs.Refusals.{name_of, refusal_of}
-use Rattle.korat_top_files.specs.Steps.{Held}
+use Rattle.kr_io.specs.Held.{Held}
 use Rattle.korat_top_files.specs.declared.refusal.Stop.{Stop}
 use Rattle.korat_top_files.specs.declared.refusal.Stop.TheVariants.{Read, Refused, Memory}
 use Rattle.korat_top.specs.Answer.{inputs_of, refusal_answer, refused}

@@ -1,15 +1,21 @@
 -- To be believed: how a call ends: by its status, what was written and why.
-use Rattle.std.specs.Prelude.{◌≡◌, ℕ, ◌<◌, ◌≤◌, ◌⊎◌, List, [], ◌++◌, Bool, true, false, Option, Some, None}
+use Rattle.std.specs.Prelude.{◌≡◌, ℕ, ◌<◌, ◌≤◌, ◌⊎◌, List, [], ◌++◌, Bool, true, false, Option, Some, None, Ok, Err}
 use Rattle.kr_base.specs.Causes.{Rose}
 use Rattle.kr_base.specs.Told.{Added, Stopped}
 use Rattle.kr_report.specs.Texts.{read_fault_text, memory_text}
 use Rattle.kr_report.specs.Reports.{Answer, bytes_of}
 use Rattle.kr_report.specs.Endings.{front_of}
 use Rattle.kr_args.specs.declared.forms.Command.{Command}
-use Rattle.korat_top_files.specs.Steps.{Held}
+use Rattle.kr_args.specs.declared.forms.Command.TheVariants as commands
+use Rattle.kr_args.specs.declared.forms.Search.{Search}
+use Rattle.kr_core.specs.declared.event.Event.{Event}
+use Rattle.kr_mean.specs.Problem.{Problem}
+use Rattle.korat_top_files.specs.Refusals.{Refusal}
+use Rattle.kr_io.specs.Held.{Held}
 use Rattle.kr_report_streaming.specs.Followed.{followed_by}
-use Rattle.korat_top_reports.specs.Reports.{is_traced}
-use Rattle.korat_top.specs.Answer.{IsAnswer, IsTold, ReadsFor}
+use Rattle.kr_report_streaming.specs.Traces.{trace_text}
+use Rattle.korat_top_reports.specs.Reports.{is_traced, report_of}
+use Rattle.korat_top.specs.Answer.{IsAnswer, IsTold, ReadsFor, refusal_answer, search_steps, searched_inputs}
 
 -- ---- what is outside
 
@@ -38,7 +44,7 @@ Broke before after text = Stopped (λ (o : Outside). o.taken) (λ (o : Outside).
 
 -- the status of an answer
 abbrev pub IsGiven : ℕ → Type 0
-IsGiven status = (status < 6) ⊎ (status ≡ 9)
+IsGiven status = (status < 6) ⊎ (status ≡ 9) ⊎ (status ≡ 10)
 
 -- The words' answer was given: its status, and exactly its bytes.
 pub record Gives (asked : Option Command) (before after : Outside) (status : ℕ) : Type 0 where
@@ -58,9 +64,9 @@ pub record TellsReadFault (asked : Option Command) (before after : Outside) : Ty
   pub cause : Rose before.read_faults after.read_faults
   pub written : Wrote before after (read_fault_text name)
 
--- some rows of the answer, from the first one on, or none
+-- some rows of the report of a search, from the first one on, or none
 abbrev pub IsFront : Held → Option Command → List ℕ → Type 0
-IsFront held asked rows = (rows ≡ []) ⊎ ((answer : Answer) × IsAnswer held asked answer × (n : ℕ) × (rows ≡ front_of answer n))
+IsFront held asked rows = (rows ≡ []) ⊎ ((search : Search) × (problem : Problem) × (n : ℕ) × (asked ≡ Some (commands.Search search)) × search_steps held search (Ok problem) × (rows ≡ front_of (report_of search problem) n))
 
 -- a text that a call may have begun: its answer's, or that of a read fault, or that of out of memory after some rows
 abbrev pub MayTell : Held → Option Command → List ℕ → Type 0
@@ -82,8 +88,8 @@ pub record TellsMemory (asked : Option Command) (before after : Outside) : Type 
 
 -- How a call ends whose words ask for this, by what is outside before and after it.
 pub record EndsFor (asked : Option Command) (before after : Outside) (status : ℕ) : Type 0 where
-  pub known : status ≤ 9
-  -- 0 to 5, and 9: where the files' bytes are known, it is the answer's status, with exactly its bytes
+  pub known : status ≤ 10
+  -- 0 to 5, 9 and 10: where the files' bytes are known, it is the answer's status, with exactly its bytes
   pub given : IsGiven status → IsTold before.held asked → Gives asked before after status
   -- 2, whatever is known of the files: only the words give no command, and such words end with 2, 7 or 8
   pub usage : status ≡ 2 → asked ≡ None
@@ -105,16 +111,27 @@ IsComplete asked before after status =
     IsTold before.held asked → (Rose before.read_faults after.read_faults → ⊥) → (Rose before.write_faults after.write_faults → ⊥)
     → (status ≡ 8) ⊎ Gives asked before after status
 
--- a trace is asked for
-abbrev pub traces : Option Command → Bool
-traces None = false
-traces (Some command) = is_traced command
+-- ---- one answer
 
--- two answers are one; with `--trace` they are one report, each with its log
-abbrev pub AreOne : Bool → Answer → Answer → Type 0
-AreOne false one other = one ≡ other
-AreOne true one other = (report : Answer) × (a : List ℕ) × (b : List ℕ) × (one ≡ followed_by a report) × (other ≡ followed_by b report)
+-- With a trace: both are the line of one refusal; or both are the report of one problem, with a log each.
+abbrev pub AreOneTraced : Held → Search → Answer → Answer → Type 0
+AreOneTraced held search one other =
+    ((refusal : Refusal) × search_steps held search (Err refusal) × (one ≡ refusal_answer (searched_inputs search) refusal) × (other ≡ refusal_answer (searched_inputs search) refusal))
+    ⊎ ((problem : Problem) × (a : List Event) × (b : List Event) × search_steps held search (Ok problem) × (one ≡ followed_by (trace_text a) (report_of search problem)) × (other ≡ followed_by (trace_text b) (report_of search problem)))
+
+abbrev pub AreOneSearched : Bool → Held → Search → Answer → Answer → Type 0
+AreOneSearched false held search one other = one ≡ other
+AreOneSearched true held search one other = AreOneTraced held search one other
+
+-- two answers are one, but for the logs
+abbrev pub AreOne : Held → Option Command → Answer → Answer → Type 0
+AreOne held None one other = one ≡ other
+AreOne held (Some (commands.Search search)) one other = AreOneSearched (is_traced search) held search one other
+AreOne held (Some (commands.Check fin sources)) one other = one ≡ other
+AreOne held (Some (commands.Merge files)) one other = one ≡ other
+AreOne held (Some (commands.Upgrade fin)) one other = one ≡ other
+AreOne held (Some (commands.Trace file from to workers)) one other = one ≡ other
 
 -- Words and files have at most one answer, but for the log after it.
 abbrev pub OneAnswer : Type 0
-OneAnswer = (held : Held) (asked : Option Command) (one other : Answer) → IsAnswer held asked one → IsAnswer held asked other → AreOne (traces asked) one other
+OneAnswer = (held : Held) (asked : Option Command) (one other : Answer) → IsAnswer held asked one → IsAnswer held asked other → AreOne held asked one other

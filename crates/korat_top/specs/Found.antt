@@ -4,7 +4,7 @@ use Rattle.kr_args.specs.declared.forms.Command.{Command}
 use Rattle.kr_space_problem.specs.Posed.{posed}
 use Rattle.kr_space_problem.specs.declared.problem.Problem.{Problem}
 use Rattle.korat_top_files.specs.Refusals.{name_of, refusal_of}
-use Rattle.korat_top_files.specs.Steps.{Held}
+use Rattle.kr_io.specs.Held.{Held}
 use Rattle.korat_top_files.specs.Found.{FailsToRead}
 use Rattle.korat_top_files.specs.declared.refusal.Stop.{Stop}
 use Rattle.korat_top_files.specs.declared.refusal.Stop.TheVariants.{Read, Refused, Memory}

@@ -1,5 +1,5 @@
 -- Between crates: what the program does with what it was given for words.
-use Rattle.std.specs.Prelude.{◌≡◌, ℕ, List, [], Option, Result, Ok, Err, drop, map, string_bytes}
+use Rattle.std.specs.Prelude.{◌≡◌, ℕ, List, [], Result, Ok, Err, drop, map, string_bytes}
 use Rattle.std.specs.declared.alloc.Global.{Global}
 use Rattle.std.specs.declared.io.Error.{Error}
 use Rattle.std.specs.declared.io.ErrorKind.TheVariants.{OutOfMemory}
@@ -7,9 +7,11 @@ use Rattle.std.specs.declared.string.String.{String}
 use Rattle.std.specs.declared.vec.IntoIter.{IntoIter}
 use Rattle.std.specs.IoError.{error_kind}
 use Rattle.std.specs.Vec.Iter.{into_iter_items}
-use Rattle.kr_args.specs.declared.forms.Command.{Command}
 use Rattle.korat_top.specs.Answer.{asked_of}
-use Rattle.korat_top.specs.Ends.{Outside, EndsFor, IsComplete}
+use Rattle.korat_top.specs.Ends.{Outside}
+use Rattle.korat_top.specs.OneWorker.{ServesAlone}
+use Rattle.korat_top.specs.declared.alone.Alone.{Alone}
+use Rattle.korat_top.specs.declared.alone.Alone.TheVariants.{Ended}
 use Rattle.korat_top.specs.declared.given.NoWords.{NoWords}
 use Rattle.korat_top.specs.declared.given.NoWords.TheVariants.{NotText, Memory}
 
@@ -30,20 +32,15 @@ WhyNone (Ok all) NotText = ⊥
 WhyNone (Err error) (Memory why) = error_kind error ≡ OutOfMemory
 WhyNone (Err error) NotText = ¬ (error_kind error ≡ OutOfMemory)
 
--- how a call ends whose words ask for this
-pub record Serves (asked : Option Command) (before after : Outside) (status : ℕ) : Type 0 where
-  pub headline : EndsFor asked before after status
-  pub complete : IsComplete asked before after status
-
 -- nothing is read or written, and the status is that of out of memory
-pub record EndsUnread {F K : Type 0} (files files' : F) (out out' : K) (status : ℕ) : Type 0 where
-  pub status_is : status ≡ 8
+pub record EndsUnread {F K : Type 0} (files files' : F) (out out' : K) (alone : Alone) : Type 0 where
+  pub status_is : alone ≡ Ended 8
   pub unread : files' ≡ files
   pub unwritten : out' ≡ out
 
--- Words are served, by what is seen of files and sink. Words of which one isn't text are served as none, which are no
+-- Words are served by one worker, by what is seen of files and sink. Words of which one isn't text are served as none, which are no
 -- command.
-abbrev pub Starts : {F K : Type 0} → (F → K → Outside) → Result (List (List ℕ)) NoWords → F → F → K → K → ℕ → Type 0
-Starts see (Ok words) files files' out out' status = Serves (asked_of words) (see files out) (see files' out') status
-Starts see (Err NotText) files files' out out' status = Serves (asked_of []) (see files out) (see files' out') status
-Starts see (Err (Memory why)) files files' out out' status = EndsUnread files files' out out' status
+abbrev pub Starts : {F K : Type 0} → (F → K → Outside) → Result (List (List ℕ)) NoWords → F → F → K → K → Alone → Type 0
+Starts see (Ok words) files files' out out' alone = ServesAlone see (asked_of words) files files' out out' alone
+Starts see (Err NotText) files files' out out' alone = ServesAlone see (asked_of []) files files' out out' alone
+Starts see (Err (Memory why)) files files' out out' alone = EndsUnread files files' out out' alone

@@ -3,8 +3,16 @@ use Rattle.std.specs.Prelude.{◌≡◌, ℕ, ◌⊎◌, List, Option}
 use Rattle.kr_base.specs.Told.{Added, Stopped}
 use Rattle.kr_report.specs.Texts.{memory_text, read_fault_text}
 use Rattle.korat_top_files.specs.Refusals.{Inputs, line_of, name_of, refusal_of, status_of_file}
+use Rattle.korat_top_files.specs.declared.refusal.InputFile.{InputFile}
+use Rattle.korat_top_files.specs.declared.refusal.InputFile.TheVariants.{Finitization}
 use Rattle.korat_top_files.specs.declared.refusal.Stop.{Stop}
 use Rattle.korat_top_files.specs.declared.refusal.Stop.TheVariants.{Read, Refused, Memory}
+
+-- the file that a stop names, if it names one
+abbrev pub stop_file : Stop → InputFile
+stop_file (Refused refusal) = (refusal_of refusal).file
+stop_file (Read file) = file
+stop_file (Memory why) = Finitization
 
 abbrev pub stop_text : Inputs → Stop → List ℕ
 stop_text inputs (Refused refusal) = line_of inputs (refusal_of refusal)

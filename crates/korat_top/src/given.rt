@@ -2,17 +2,17 @@
 ghost use Rattle.std.specs.Prelude.{◌≡◌, Err, IfOk, IfErr};
 ghost use Rattle.std.specs.declared.io.ErrorKind.TheVariants.{OutOfMemory};
 ghost use Rattle.korat_top.specs.Ends.{seen};
+ghost use Rattle.korat_top.specs.OneWorker.{IfShared, IsWithin};
 ghost use Rattle.korat_top.specs.Starts.{IsGiven, WhyNone, Starts};
 ghost use Rattle.korat_top.specs.declared.given.NoWords.TheVariants.{Memory as Lacking};
 
-use crate::top::run;
+use crate::alone::Alone;
+use crate::top::run_alone;
 use kr_base::{NoMemory, Sink, Words};
-use kr_io::{Files, Gate};
-use std::alloc::{AllocError, Global};
+use kr_io::Files;
+use std::alloc::Global;
 use std::env::Args;
 use std::io;
-use std::sync::Wait;
-use std::thread::Threads;
 
 /// Why the program has no words.
 #[derive(Clone, Copy, PartialEq, Eq)]
@@ -35,7 +35,7 @@ fn lacking(kind: io::ErrorKind) -> NoMemory
     requires { kind ≡ OutOfMemory }
 {
     prove!(kind == io::ErrorKind::OutOfMemory);
-    NoMemory::from(AllocError)
+    NoMemory::reported()
 }
 
 /// Why there are no words, where the system has an error for them.
@@ -67,21 +67,20 @@ pub fn words_of(alloc: Global, given: io::Result<Args>) -> Result<Words, NoWords
     Ok(words)
 }
 
-/// Serves the words that the program was given. Words that aren't text are no command. Where there is no memory for
-/// them, nothing is read or written.
-pub fn start<W: Threads + Wait + Sync, F: Files, K: Sink, G: Gate + Sync>(
-    rt: &W,
+/// Serves the words that the program was given, where one worker does. Words that aren't text are no command. Where there is no
+/// memory for them, nothing is read or written.
+pub fn start<F: Files, K: Sink>(
     alloc: Global,
     words: Result<Words, NoWords>,
     files: &mut F,
     out: &mut K,
-    gate: &G,
-) -> u8
-    ensures { Starts (seen F.held F.faults F.last K.taken K.faults) words files.old files.new out.old out.new result }
+) -> Alone
+    ensures starts { Starts (seen F.held F.faults F.last K.taken K.faults) words files.old files.new out.old out.new result }
+    ensures within { IfShared result IsWithin }
 {
     match words {
-        Ok(words) => run(rt, alloc, &words, files, out, gate),
-        Err(NoWords::NotText) => run(rt, alloc, &Words::new(alloc), files, out, gate),
-        Err(NoWords::Memory(_)) => 8,
+        Ok(words) => run_alone(alloc, &words, files, out),
+        Err(NoWords::NotText) => run_alone(alloc, &Words::new(alloc), files, out),
+        Err(NoWords::Memory(_)) => Alone::Ended(8),
     }
 }

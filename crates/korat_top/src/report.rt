@@ -1,14 +1,14 @@
 // What a command's files are called.
 ghost use Rattle.std.specs.Prelude.{◌≡◌, []};
 ghost use Rattle.korat_top_files.specs.Refusals.{files_of, name_of as name_in};
-ghost use Rattle.korat_top.specs.Answer.{demo_inputs, inputs_of};
+ghost use Rattle.korat_top.specs.Answer.{demo_inputs, searched_inputs};
 
 use korat_top_files::InputFile;
-use kr_args::forms::{Command, Word};
+use kr_args::forms::{Search, Word};
 use kr_base::Words;
 
 /// A file's name, as the words give it.
-fn file_name<'a>(fin: &'a Word, sources: &'a Words, file: InputFile) -> &'a str
+pub(crate) fn file_name<'a>(fin: &'a Word, sources: &'a Words, file: InputFile) -> &'a str
     ensures { result.now ≡ name_in (files_of fin.entry.now sources.entry.now) file }
 {
     match file {
@@ -23,7 +23,7 @@ fn file_name<'a>(fin: &'a Word, sources: &'a Words, file: InputFile) -> &'a str
     }
 }
 
-/// What a text of the demo is called.
+/// The name of a text of the demo.
 fn demo_name(file: InputFile) -> &'static str
     ensures { result.now ≡ name_in demo_inputs file }
 {
@@ -34,26 +34,24 @@ fn demo_name(file: InputFile) -> &'static str
     }
 }
 
-/// Shards that are put together have no such file.
-fn no_name(file: InputFile) -> &'static str
-    ensures { result.now ≡ name_in (files_of [] []) file }
+/// A finitization's name, where there are no sources.
+pub(crate) fn alone_name(fin: &Word, file: InputFile) -> &str
+    ensures { result.now ≡ name_in (files_of fin.entry.now []) file }
 {
     match file {
-        InputFile::Finitization => "",
+        InputFile::Finitization => fin.as_str(),
         InputFile::Source(_) => "",
     }
 }
 
-/// The name of a command's file.
-pub(crate) fn name_of(command: &Command, file: InputFile) -> &str
-    ensures { result.now ≡ name_in (inputs_of command.entry.now) file }
+/// The name of a search's file.
+pub(crate) fn searched_name(search: &Search, file: InputFile) -> &str
+    ensures { result.now ≡ name_in (searched_inputs search.entry.now) file }
 {
-    match command {
-        Command::List(ask) => file_name(&ask.fin, &ask.sources, file),
-        Command::Test { ask, .. } => file_name(&ask.fin, &ask.sources, file),
-        Command::Check { fin, sources } => file_name(fin, sources, file),
-        Command::Demo { .. } => demo_name(file),
-        Command::Shard(ask) => file_name(&ask.fin, &ask.sources, file),
-        Command::Merge(_) => no_name(file),
+    match search {
+        Search::List(ask) => file_name(&ask.fin, &ask.sources, file),
+        Search::Test { ask, .. } => file_name(&ask.fin, &ask.sources, file),
+        Search::Demo { .. } => demo_name(file),
+        Search::Shard(ask) => file_name(&ask.fin, &ask.sources, file),
     }
 }

@@ -8,7 +8,8 @@ use Rattle.kr_mean.specs.Problem.{Problem}
 use Rattle.kr_mean.specs.declared.mode.Mode.{Mode}
 use Rattle.korat_top_files.specs.declared.refusal.InputFile.TheVariants as input
 use Rattle.korat_top_files.specs.Refusals.{Inputs, Refusal, too_long}
-use Rattle.korat_top_files.specs.Steps.{Held, AreRead, AreTrees, Judges, unlexed, unparsed, unclassed, untyped, unstated, unposed, impure, accepted, Checks, long_finitization, long_source, judged}
+use Rattle.korat_top_files.specs.Steps.{AreRead, AreTrees, Judges, unlexed, unparsed, unclassed, untyped, unstated, unposed, impure, accepted, Checks, long_finitization, long_source, judged}
+use Rattle.kr_io.specs.Held.{Held}
 use Rattle.korat_top_files.specs.Chains.{and_then, each, made, reading, reading_source, lexing, parsing, growing, classing, typing, stating, spacing, purifying, from_problem, from_document, from_trees, from_table, from_grown, from_texts, from_fin, checking}
 use Rattle.korat_top_files.proofs.Outcomes.{each_stop}
 

@@ -2,5 +2,6 @@ pub mod Small
 pub mod Outcomes
 pub mod Chained
 pub mod Told
+pub mod Carried
 pub mod Posings
 pub mod Uniqueness

@@ -1,6 +1,6 @@
 -- How steps follow each other, and that each has one outcome.
-use Rattle.std.proofs.Common.{◌≡◌, ℕ, zero, suc, ◌+◌, ◌<◌, inl, inr, List, [], ◌∷◌, ◌++◌, length, take, drop, get_or, drop-cons, refl, sym, ap, ◌∙◌, subst, arith}
-use Rattle.std.proofs.lemmas.List.{length-take, take-append-drop}
+use Rattle.std.proofs.Common.{◌≡◌, ℕ, suc, ◌+◌, ◌<◌, inl, inr, List, [], ◌∷◌, ◌++◌, length, take, drop, get_or, drop-cons, refl, sym, ap, ◌∙◌, subst, arith}
+use Rattle.std.proofs.lemmas.List.{length-take, take-append-drop, take_more}
 use Rattle.std.specs.Prelude.{Result, Ok, Err}
 use Rattle.korat_top_files.specs.declared.refusal.Stop.{Stop}
 use Rattle.korat_top_files.specs.declared.refusal.Stop.TheVariants.{Read, Refused, Memory}
@@ -36,14 +36,6 @@ each_stop step n (i ∷ items) (m ∷ made) a rest r h s = inr (m, h.0, each_sto
 
 -- ---- a step over items by their numbers
 
-take_next : {A : Type 0} (items : List A) (i : ℕ) (d : A) → i < length items → take (i + 1) items ≡ take i items ++ get_or items i d ∷ []
-take_next [] i d h = absurd (omega (arith, h))
-take_next (x ∷ items) zero d h = refl
-take_next (x ∷ items) (suc i) d h =
-    let e : suc i + 1 ≡ suc (i + 1) = omega arith in
-    let shorter : i < length items = omega (arith, h) in
-    ap (λ k. take k (x ∷ items)) e ∙ ap (λ l. x ∷ l) (take_next items i d shorter)
-
 number_of : {A : Type 0} (items : List A) (i : ℕ) → i < length items → 0 + length (take i items) ≡ i
 number_of items i h = omega (arith, length-take i items, h)
 
@@ -51,7 +43,7 @@ number_of items i h = omega (arith, length-take i items, h)
 pub each_next : {A B : Type 0} (step : ℕ → A → Result B Refusal → Type 0) (items : List A) (i : ℕ) (d : A) (made : List B) (b : B)
     → i < length items → each step 0 (take i items) (Ok made) → step i (get_or items i d) (Ok b) → each step 0 (take (i + 1) items) (Ok (made ++ b ∷ []))
 each_next step items i d made b h e s =
-    subst (λ xs. each step 0 xs (Ok (made ++ b ∷ []))) (sym (take_next items i d h))
+    subst (λ xs. each step 0 xs (Ok (made ++ b ∷ []))) (sym (take_more items i d h))
     (each_more step 0 (take i items) made (get_or items i d) b e (subst (λ k. step k (get_or items i d) (Ok b)) (sym (number_of items i h)) s))
 
 pub split_at : {A : Type 0} (items : List A) (i : ℕ) (d : A) → i < length items → take i items ++ get_or items i d ∷ drop (suc i) items ≡ items

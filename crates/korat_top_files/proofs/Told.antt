@@ -13,7 +13,8 @@ use Rattle.kr_mean.specs.Problem.{Problem}
 use Rattle.kr_mean.specs.declared.mode.Mode.{Mode}
 use Rattle.kr_space_problem.specs.declared.problem.Problem as posing
 use Rattle.korat_top_files.specs.Refusals.{Inputs, Refusal, name_of, refusal_of}
-use Rattle.korat_top_files.specs.Steps.{Held, LIMIT, ReadsIn, Reads, AllTold}
+use Rattle.korat_top_files.specs.Steps.{LIMIT, ReadsIn, Reads, AllTold}
+use Rattle.kr_io.specs.Held.{Held}
 use Rattle.korat_top_files.specs.Chains.{each, growing, reading, reading_source, from_texts, checking}
 use Rattle.korat_top_files.specs.Found.{telling, telling_source, HasRead, HasReadAll, Meets, FindsIn}
 use Rattle.korat_top_files.proofs.Outcomes.{split_at, each_refused}
@@ -50,10 +51,10 @@ told_long : (told : Option (List ℕ)) → IfSome told (λ all. LIMIT < length a
 told_long None h s = absurd (cc (s))
 told_long (Some all) h s = (all, refl, h)
 
-read_whole : (held : Held) (file : InputFile) (name bytes : List ℕ) → telling held file name (Ok bytes) → IsSome (held name) → reading held file name (Ok bytes)
+pub read_whole : (held : Held) (file : InputFile) (name bytes : List ℕ) → telling held file name (Ok bytes) → IsSome (held name) → reading held file name (Ok bytes)
 read_whole held file name bytes h s = (told_is (held name) bytes h.1 s, h.0)
 
-read_long : (held : Held) (file : InputFile) (name : List ℕ) (r : Refusal) → telling held file name (Err r) → IsSome (held name) → reading held file name (Err r)
+pub read_long : (held : Held) (file : InputFile) (name : List ℕ) (r : Refusal) → telling held file name (Err r) → IsSome (held name) → reading held file name (Err r)
 read_long held file name r h s = let long = told_long (held name) h.0 s in (long.0, long.1, long.2, h.1)
 
 -- ---- files hold what they held

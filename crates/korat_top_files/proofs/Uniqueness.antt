@@ -29,9 +29,11 @@ use Rattle.korat_top_files.specs.declared.refusal.InputFile.{InputFile}
 use Rattle.korat_top_files.specs.declared.refusal.InputFile.TheVariants as input
 use Rattle.korat_top_files.specs.declared.rules.CallRule.TheVariants.{Impure}
 use Rattle.korat_top_files.specs.Refusals.{Inputs, at_place, call_code, of_finitization, type_code}
-use Rattle.korat_top_files.specs.Steps.{Held, Judges, Checks}
+use Rattle.korat_top_files.specs.Steps.{Judges, Checks}
+use Rattle.kr_io.specs.Held.{Held}
 use Rattle.korat_top_files.specs.Chains.{each, made, reading, reading_source, lexing, parsing, growing, classing, stating, typing, spacing, purifying, from_problem, from_document, from_trees, from_table, from_grown, from_texts, from_fin, checking}
 use Rattle.korat_top_files.specs.OneOutcome.{HasOne, OneOutcome}
+use Rattle.korat_top_files.proofs.Carried.{one_carried}
 use Rattle.korat_top_files.proofs.Outcomes.{one_then, one_each}
 use Rattle.korat_top_files.proofs.Chained.{from_checks, from_judges}
 
@@ -240,4 +242,4 @@ one_of_files laws held mode inputs x y h k = one_checking laws held mode inputs 
 pub one_outcome : OneListLaw → UnbrokenLaw → OneRefusal → ParsedUnbroken → OneTree → OneOutcome
 one_outcome lists unbroken refusals parsed trees =
     let laws : Laws = record { lists = lists; unbroken = unbroken; refusals = refusals; parsed = parsed; trees = trees } in
-    record { judging = one_judging laws; checking = one_of_files laws }
+    record { judging = one_judging laws; checking = one_of_files laws; carrying = one_carried one_reading one_stating }

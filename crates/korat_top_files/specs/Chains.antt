@@ -21,7 +21,8 @@ use Rattle.kr_space_meaning.specs.Meaning.{meaning as problem_meant}
 use Rattle.korat_top_files.specs.declared.refusal.InputFile.{InputFile}
 use Rattle.korat_top_files.specs.declared.refusal.InputFile.TheVariants as input
 use Rattle.korat_top_files.specs.Refusals.{Inputs, Refusal, too_long}
-use Rattle.korat_top_files.specs.Steps.{Held, LIMIT, broken_at, broken_of, impure_at, misclassed, mistyped}
+use Rattle.korat_top_files.specs.Steps.{LIMIT, broken_at, broken_of, impure_at, misclassed, mistyped}
+use Rattle.kr_io.specs.Held.{Held}
 
 -- the most nodes that the tree of a file has: three for each byte, and one more
 abbrev pub MOST_NODES : ℕ

@@ -14,7 +14,8 @@ use Rattle.kr_space_problem.specs.declared.problem.Problem.{Problem}
 use Rattle.kr_pure.specs.declared.purity.PureRefusal.{PureRefusal}
 use Rattle.kr_pure.specs.declared.purity.PureRefusal.TheVariants as pure
 use Rattle.korat_top_files.specs.Refusals.{Inputs, Refusal, at_place, call_code, of_finitization, too_long, name_of, refusal_of}
-use Rattle.korat_top_files.specs.Steps.{Held, LIMIT, ReadsIn, Reads, AllTold}
+use Rattle.korat_top_files.specs.Steps.{LIMIT, ReadsIn, Reads, AllTold}
+use Rattle.kr_io.specs.Held.{Held}
 use Rattle.korat_top_files.specs.Chains.{MOST_NODES, each, checking}
 use Rattle.korat_top_files.specs.declared.refusal.InputFile.{InputFile}
 use Rattle.korat_top_files.specs.declared.refusal.InputFile.TheVariants as input
@@ -24,11 +25,6 @@ use Rattle.korat_top_files.specs.declared.refusal.Stop.TheVariants.{Read, Refuse
 use Rattle.korat_top_files.specs.declared.rules.CallRule.TheVariants.{Impure}
 
 -- ---- What is read
-
--- Files after some reads: they hold what they held, and their count has not fallen.
-pub record IsLater {F : Type 0} (held : F → Held) (faults : F → ℕ) (files files' : F) : Type 0 where
-  pub constant : (other : List ℕ) → held files' other ≡ held files other
-  pub count : faults files ≤ faults files'
 
 -- a count stays, unless a read failed
 abbrev pub CountStays : {X : Type 0} → ℕ → ℕ → Result X Stop → Type 0

@@ -5,4 +5,5 @@ pub mod Refusals
 pub mod Steps
 pub mod Chains
 pub mod Found
+pub mod Upgrades
 pub mod OneOutcome

@@ -26,10 +26,7 @@ use Rattle.kr_space_meaning.specs.Meaning.{meaning as problem_meant}
 use Rattle.korat_top_files.specs.declared.refusal.InputFile.TheVariants as input
 use Rattle.korat_top_files.specs.declared.rules.CallRule.TheVariants.{Impure}
 use Rattle.korat_top_files.specs.Refusals.{Inputs, Refusal, at_place, call_code, of_finitization, too_long, typing_code}
-
--- what the files hold, where it is told
-abbrev pub Held : Type 0
-Held = List ℕ → Option (List ℕ)
+use Rattle.kr_io.specs.Held.{Held}
 
 -- the longest file that is taken, in bytes: as long as a finitization may be
 abbrev pub LIMIT : ℕ

@@ -15,7 +15,8 @@ ghost use Rattle.korat_top_files.specs.Steps.{LIMIT};
 ghost use Rattle.korat_top_files.specs.Chains.{growing, MOST_NODES, from_texts, from_grown, from_table, from_trees, from_document, from_problem, each};
 ghost use Rattle.korat_top_files.specs.Refusals.{files_of};
 ghost use Rattle.kr_demo.specs.Texts.{finitization_text, source_text};
-ghost use Rattle.korat_top_files.specs.Found.{HasRead, HasReadAll, IsLater, Meets, FindsIn, CountStays, AreShaped, AreGrown};
+ghost use Rattle.korat_top_files.specs.Found.{HasRead, HasReadAll, Meets, FindsIn, CountStays, AreShaped, AreGrown};
+ghost use Rattle.kr_io.specs.Held.{IsLater};
 
 use crate::refusal::{InputFile, Refusal, Stop};
 use crate::rules::{CallRule, ItemRule, SourceRule};
@@ -61,7 +62,7 @@ fn too_long(alloc: Global, file: InputFile) -> Result<Refusal, NoMemory>
 }
 
 /// Reads a file of a name, which is to be no longer than a finitization may be.
-fn read<F: Files>(
+pub(crate) fn read<F: Files>(
     alloc: Global,
     file: InputFile,
     name: &str,

@@ -6,10 +6,11 @@ use Rattle.kr_mean.specs.declared.mode.Mode.{Mode}
 use Rattle.kr_laws_never_stuck.specs.Grown.{AreGrown}
 use Rattle.kr_laws_never_stuck.specs.NeverStuck.{IsAccepted}
 use Rattle.korat_top_files.specs.Refusals.{Inputs, Refusal}
-use Rattle.korat_top_files.specs.Steps.{AreTrees, Checks, Held, Judges, accepted, impure, judged, long_finitization, long_source, unclassed, unlexed, unparsed, unposed, unstated, untyped}
+use Rattle.korat_top_files.specs.Steps.{AreTrees, Checks, Judges, accepted, impure, judged, long_finitization, long_source, unclassed, unlexed, unparsed, unposed, unstated, untyped}
+use Rattle.kr_io.specs.Held.{Held}
 use Rattle.korat_top_laws.specs.Laws.{AcceptedLaw}
 
-grown : (n : ℕ) (sources : List (List ℕ)) (trees : List Tree) → AreTrees n sources trees → AreGrown n sources trees
+pub grown : (n : ℕ) (sources : List (List ℕ)) (trees : List Tree) → AreTrees n sources trees → AreGrown n sources trees
 grown n [] [] h = tt
 grown n [] (t ∷ ts) h = absurd h
 grown n (bytes ∷ sources) [] h = absurd h

@@ -1,2 +1,6 @@
 pub mod Accepted
 pub mod Merged
+pub mod Identifiers
+pub mod Posed
+pub mod Upgraded
+pub mod Words

@@ -14,12 +14,12 @@ use Rattle.kr_shard.specs.declared.merging.MergeRefusal.{MergeRefusal}
 use Rattle.kr_shard.specs.Shards.{shard_of}
 use Rattle.kr_shard.specs.Texts.{first_text}
 use Rattle.kr_shard.specs.declared.shard.Shard.{Shard}
-use Rattle.kr_shard_laws.specs.Listings.{MOST_BYTES, listing_in, shard_text}
-use Rattle.kr_shard.specs.Files.{and_later, and_shard, answer_by, judged, refused_as, shards_in, unless_fault}
+use Rattle.kr_shard_laws.specs.Listings.{listing_in, shard_text}
+use Rattle.kr_shard.specs.Files.{and_later, and_shard, answer_by, judged, refused_as, shards_in, unless_fault, MOST_BYTES}
 use Rattle.kr_shard.specs.Faults.{long_text}
 use Rattle.kr_shard_laws.specs.Theorem.{ComesTo}
 use Rattle.kr_shard_laws.proofs.Accepted.{shards}
-use Rattle.korat_top_files.specs.Steps.{Held}
+use Rattle.kr_io.specs.Held.{Held}
 use Rattle.korat_top_laws.specs.Laws.{HoldShards, MergedLaw, WrittenLaw}
 use Rattle.korat_top_laws.proofs.Accepted.{checked}
 

@@ -1,4 +1,5 @@
--- To be believed: what holds of each problem that the steps of a command accept, and what `merge` answers of what `shard` wrote of it.
+-- To be believed: what holds of each problem that the steps of a command accept, of what `merge` answers of what `shard` wrote of it, and
+-- of a finitization that is carried over to version 2.
 use Rattle.std.specs.Prelude.{◌≡◌, ℕ, ◌≤◌, List, [], ◌∷◌, length, Some, Ok}
 use Rattle.kr_base.specs.declared.span.Bound.{Bound}
 use Rattle.kr_base.specs.declared.span.Bound.TheVariants.{At}
@@ -10,15 +11,28 @@ use Rattle.kr_mean.specs.declared.mode.Mode.TheVariants.{List as Listing}
 use Rattle.kr_report.specs.Reports.{Answer, bytes_of}
 use Rattle.kr_laws_never_stuck.specs.NeverStuck.{IsAccepted}
 use Rattle.kr_shard.specs.Texts.{first_text}
-use Rattle.kr_shard_laws.specs.Listings.{MOST_BYTES, listing_in, shard_text}
-use Rattle.kr_shard.specs.Files.{MergesFiles}
+use Rattle.kr_shard_laws.specs.Listings.{listing_in, shard_text}
+use Rattle.kr_shard.specs.Files.{MergesFiles, MOST_BYTES}
 use Rattle.kr_shard_laws.specs.Spans.{Adjoin, IsInAnyOrder}
+use Rattle.kr_fin.specs.declared.document.FinDoc.{FinDoc}
+use Rattle.kr_fin.specs.declared.reading.TheConstants.{MAX_FIN_BYTES}
+use Rattle.kr_fin.specs.Ascending.{IsInOrder}
+use Rattle.kr_fin.specs.Meaning.{meaning}
 use Rattle.korat_top_files.specs.Refusals.{Inputs}
-use Rattle.korat_top_files.specs.Steps.{Checks, Held, Judges}
+use Rattle.korat_top_files.specs.Steps.{Checks, Judges}
+use Rattle.kr_io.specs.Held.{Held}
+use Rattle.korat_top_files.specs.Upgrades.{IsCarried}
 
 -- What the steps accept is accepted as kr_laws_never_stuck has it, so no run of it is stuck.
 abbrev pub AcceptedLaw : Type 0
 AcceptedLaw = (mode : Mode) (fin : List ℕ) (sources : List (List ℕ)) (problem : Problem) → Judges mode fin sources (Ok problem) → IsAccepted sources fin mode problem
+
+-- Where the steps accept a finitization of version 1, they accept the text that it is carried over to, in each mode, with an equal
+-- problem: so each command writes the same bytes. (The keys of a document that is read are in order: `ordered` of `read_fin`.)
+abbrev pub UpgradedLaw : Type 0
+UpgradedLaw = (mode : Mode) (fin text : List ℕ) (sources : List (List ℕ)) (problem : Problem) (document : FinDoc) →
+    Judges mode fin sources (Ok problem) → meaning fin ≡ Ok document → IsInOrder document → IsCarried document text → length text ≤ MAX_FIN_BYTES →
+    Judges mode text sources (Ok problem)
 
 -- the answer to `shard`: its first line, and then the listing
 abbrev pub shard_answer : Problem → Span → Answer

@@ -1,12 +1,9 @@
--- How a listing ends that is one line; and which commands search.
+-- How a listing ends that is one line.
 use Rattle.std.proofs.Common.{◌≡◌, ℕ, List, refl, inl, inr, arith}
 use Rattle.std.specs.Prelude.{Option, Result, Ok, Err, is_ok, if◌then◌else◌}
 use Rattle.kr_base.specs.Told.{Writes}
 use Rattle.kr_report.specs.Reports.{Answer, line_answer}
 use Rattle.kr_report.specs.Endings.{EndsListing}
-use Rattle.kr_args.specs.declared.forms.Command.{Command}
-use Rattle.kr_args.specs.declared.forms.Command.TheVariants as commands
-use Rattle.korat_top_reports.specs.Reports.{PosesProblem, Searches}
 
 -- a line that is put
 pub line_listing : {K T E : Type 0} (taken : K → Option (List ℕ)) (faults : K → ℕ) (a b : K) (text : List ℕ) (status : ℕ) (r : Result T E) → Writes taken faults a b text r → status ≡ (if is_ok r then 0 else 7)
@@ -23,12 +20,3 @@ line_listing taken faults a b text status (Err v) x e = record {
   fault = λ _. (text, inl refl, x);
   memory = λ f. absurd (omega (arith, e, f));
 }
-
--- a command that poses a problem, not only to count it, searches it
-pub searches : (command : Command) → PosesProblem command → ((fin : List ℕ) (sources : List (List ℕ)) → command ≡ commands.Check fin sources → ⊥) → Searches command
-searches (commands.List ask) poses other = tt
-searches (commands.Test method ask) poses other = tt
-searches (commands.Check fin sources) poses other = other fin sources refl
-searches (commands.Demo n workers) poses other = tt
-searches (commands.Shard ask) poses other = tt
-searches (commands.Merge files) poses other = poses

@@ -1,3 +1,4 @@
 pub mod Classes
 pub mod Sharding
 pub mod Ends
+pub mod Reporting

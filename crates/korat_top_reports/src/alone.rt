@@ -1,13 +1,12 @@
-// What a command reports by one worker.
+// What a search reports by one worker.
 ghost use Rattle.std.specs.Prelude.{◌≡◌, ◌<◌, true, IfOk, OnErr};
 ghost use Rattle.kr_report.specs.Endings.{EndsListing};
 ghost use Rattle.kr_space_problem.specs.Posed.{posed};
-ghost use Rattle.korat_top_reports.specs.Reports.{EndsBy, PosesProblem, Reports, Searches, is_alone, listing_of, shard_of};
+ghost use Rattle.korat_top_reports.specs.Reports.{EndsReport, is_alone, listing_of, shard_of};
 
 use crate::asked::span_of;
-use crate::counting::count;
 use crate::preparing::prepare;
-use kr_args::forms::{Ask, Command};
+use kr_args::forms::{Ask, Search};
 use kr_base::{NoMemory, Sink, Steps};
 use kr_judge_prepared::{Accepted, Prepared};
 use kr_report_listing::{count_alone, list_alone};
@@ -54,33 +53,30 @@ fn shard<K: Sink, L: Ledger>(
     }
 }
 
-/// Reports of a prepared problem what a command asks that searches it.
+/// Reports of a prepared problem what a search asks.
 fn report_prepared<K: Sink, L: Ledger>(
     alloc: Global,
-    command: &Command,
+    search: &Search,
     prepared: &Prepared,
     out: &mut K,
     runs: &mut Steps<L>,
 ) -> Result<u8, NoMemory>
-    requires searches { Searches command.now }
-    requires alone { is_alone command.now ≡ true }
-    ensures ends { IfOk result (λ status. EndsBy K.taken K.faults (Reports command.now (posed prepared.now.problem)) out.old out.new status) }
+    requires { is_alone search.now ≡ true }
+    ensures ends { IfOk result (λ status. EndsReport K.taken K.faults search.now (posed prepared.now.problem) out.old out.new status) }
     ensures nothing { OnErr result (out.new ≡ out.old) }
 {
-    match command {
-        Command::List(ask) => list(alloc, prepared, ask, out, runs),
-        Command::Test { ask, .. } => list(alloc, prepared, ask, out, runs),
-        Command::Demo { n, .. } => Ok(count_alone(alloc, prepared, *n, out, runs)),
-        Command::Shard(ask) => shard(alloc, prepared, ask, out, runs),
-        Command::Check { .. } => unreachable!(),
-        Command::Merge(_) => unreachable!(),
+    match search {
+        Search::List(ask) => list(alloc, prepared, ask, out, runs),
+        Search::Test { ask, .. } => list(alloc, prepared, ask, out, runs),
+        Search::Demo { n, .. } => Ok(count_alone(alloc, prepared, *n, out, runs)),
+        Search::Shard(ask) => shard(alloc, prepared, ask, out, runs),
     }
 }
 
-/// Searches a problem for a command.
+/// Searches a problem.
 fn report_found<K: Sink, L: Ledger>(
     alloc: Global,
-    command: &Command,
+    search: &Search,
     found: Accepted,
     out: &mut K,
     blank: Blank,
@@ -88,31 +84,26 @@ fn report_found<K: Sink, L: Ledger>(
     requires ledger { blank.name ≡ L.name }
     requires parts { blank.parts ≡ L.parts }
     requires some { 0 < L.parts }
-    requires searches { Searches command.now }
-    requires alone { is_alone command.now ≡ true }
-    ensures ends { IfOk result (λ status. EndsBy K.taken K.faults (Reports command.now (posed found)) out.old out.new status) }
+    requires alone { is_alone search.now ≡ true }
+    ensures ends { IfOk result (λ status. EndsReport K.taken K.faults search.now (posed found) out.old out.new status) }
     ensures nothing { OnErr result (out.new ≡ out.old) }
 {
     let mut runs = Steps::<L>::start(blank);
     let prepared = prepare(alloc, found)?;
-    report_prepared(alloc, command, &prepared, out, &mut runs)
+    report_prepared(alloc, search, &prepared, out, &mut runs)
 }
 
-/// Reports of a command's problem by one worker. It waits for nobody. Where memory is refused before anything is searched, nothing
-/// is put.
+/// Reports of a search's problem by one worker. It waits for nobody. Where memory is refused before anything is searched, nothing
+/// is written.
 pub fn report_alone<K: Sink>(
     alloc: Global,
-    command: &Command,
+    search: &Search,
     found: Accepted,
     out: &mut K,
 ) -> Result<u8, NoMemory>
-    requires problem { PosesProblem command.now }
-    requires alone { is_alone command.now ≡ true }
-    ensures ends { IfOk result (λ status. EndsBy K.taken K.faults (Reports command.now (posed found)) out.old out.new status) }
+    requires { is_alone search.now ≡ true }
+    ensures ends { IfOk result (λ status. EndsReport K.taken K.faults search.now (posed found) out.old out.new status) }
     ensures nothing { OnErr result (out.new ≡ out.old) }
 {
-    match command {
-        Command::Check { .. } => Ok(count(&found, out)),
-        _ => report_found::<K, Brand>(alloc, command, found, out, Blank::new(1)),
-    }
+    report_found::<K, Brand>(alloc, search, found, out, Blank::new(1))
 }

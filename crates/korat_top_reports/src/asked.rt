@@ -1,8 +1,8 @@
-// The span that a command asks for, and whether it is for one worker.
+// The span that a search asks for, and whether it is for one worker.
 ghost use Rattle.std.specs.Prelude.{◌≡◌, ◌==◌, ◌&&◌, not, IfOk};
 ghost use Rattle.korat_top_reports.specs.Reports.{is_alone, is_one, span_in};
 
-use kr_args::forms::{Ask, Command};
+use kr_args::forms::{Ask, Search};
 use kr_base::{NoMemory, Span};
 
 /// The span that is asked for.
@@ -23,16 +23,14 @@ fn is_one(ask: &Ask) -> bool
     ask.workers == 1 && !ask.trace
 }
 
-/// Whether a command is served by one worker, without a trace.
-pub fn is_alone(command: &Command) -> bool
-    ensures { result ≡ is_alone command.now }
+/// Whether a search is for one worker, without a trace.
+pub fn is_alone(search: &Search) -> bool
+    ensures { result ≡ is_alone search.now }
 {
-    match command {
-        Command::List(ask) => is_one(ask),
-        Command::Test { ask, .. } => is_one(ask),
-        Command::Check { .. } => true,
-        Command::Demo { workers, .. } => *workers == 1,
-        Command::Shard(ask) => is_one(ask),
-        Command::Merge(_) => true,
+    match search {
+        Search::List(ask) => is_one(ask),
+        Search::Test { ask, .. } => is_one(ask),
+        Search::Demo { workers, .. } => *workers == 1,
+        Search::Shard(ask) => is_one(ask),
     }
 }

@@ -1,5 +1,5 @@
-//! What a command reports of the problem that its files pose: the listing, the test, the tally or the counts; and the report, by one
-//! worker or by many.
+//! What a search reports of the problem that its files pose: the listing, the test, the shard or the tally, by one worker or by many; and
+//! the counts of `check`.
 #![tactic(auto)]
 
 mod alone;

@@ -1,14 +1,13 @@
-// What a command reports by workers.
+// What a search reports by workers.
 ghost use Rattle.std.specs.Prelude.{◌≡◌, IfOk, OnErr};
-ghost use Rattle.kr_args.specs.Workers.{HasWorkers, IsShared};
+ghost use Rattle.kr_args.specs.Workers.{IsShared, SearchesShared};
 ghost use Rattle.kr_report.specs.Endings.{EndsListing};
 ghost use Rattle.kr_space_problem.specs.Posed.{posed};
-ghost use Rattle.korat_top_reports.specs.Reports.{EndsBy, PosesProblem, Reports, ReportsAsk, Searches, listing_of, shard_of, span_in};
+ghost use Rattle.korat_top_reports.specs.Reports.{EndsBy, EndsReport, WithLog, listing_of, shard_of, span_in};
 
 use crate::asked::span_of;
-use crate::counting::count;
 use crate::preparing::prepare;
-use kr_args::forms::{Ask, Command, Pool};
+use kr_args::forms::{Ask, Pool, Search};
 use kr_base::{NoMemory, Sink, Span};
 use kr_io::Gate;
 use kr_judge_prepared::{Accepted, Prepared};
@@ -52,7 +51,7 @@ fn list<W: Threads + Wait + Sync, K: Sink, G: Gate + Sync>(
     out: &mut K,
 ) -> Result<u8, NoMemory>
     requires shared { IsShared ask.now }
-    ensures ends { IfOk result (λ status. EndsBy K.taken K.faults (ReportsAsk ask.now.trace ask.now (posed prepared.now.problem)) out.old out.new status) }
+    ensures ends { IfOk result (λ status. EndsBy K.taken K.faults (WithLog ask.now.trace ask.now (posed prepared.now.problem) (listing_of ask.now (posed prepared.now.problem))) (listing_of ask.now (posed prepared.now.problem)) out.old out.new status) }
     ensures nothing { OnErr result (out.new ≡ out.old) }
 {
     let span = match span_of(ask) {
@@ -99,66 +98,42 @@ fn shard<W: Threads + Wait + Sync, K: Sink, G: Gate + Sync>(
     }
 }
 
-/// Reports of a prepared problem what a command asks that searches it.
+/// Reports of a prepared problem what a search asks.
 fn report_prepared<W: Threads + Wait + Sync, K: Sink, G: Gate + Sync>(
     rt: &W,
     alloc: Global,
-    command: &Command,
+    search: &Search,
     prepared: &Prepared,
     gate: &G,
     out: &mut K,
 ) -> Result<u8, NoMemory>
-    requires searches { Searches command.now }
-    requires workers { HasWorkers command.now }
-    ensures ends { IfOk result (λ status. EndsBy K.taken K.faults (Reports command.now (posed prepared.now.problem)) out.old out.new status) }
+    requires { SearchesShared search.now }
+    ensures ends { IfOk result (λ status. EndsReport K.taken K.faults search.now (posed prepared.now.problem) out.old out.new status) }
     ensures nothing { OnErr result (out.new ≡ out.old) }
 {
-    match command {
-        Command::List(ask) => list(rt, alloc, prepared, ask, gate, out),
-        Command::Test { ask, .. } => list(rt, alloc, prepared, ask, gate, out),
-        Command::Demo { n, workers } => {
+    match search {
+        Search::List(ask) => list(rt, alloc, prepared, ask, gate, out),
+        Search::Test { ask, .. } => list(rt, alloc, prepared, ask, gate, out),
+        Search::Demo { n, workers } => {
             Ok(count_shared(rt, alloc, prepared, *n, *workers, gate, out))
         }
-        Command::Shard(ask) => shard(rt, alloc, prepared, ask, gate, out),
-        Command::Check { .. } => unreachable!(),
-        Command::Merge(_) => unreachable!(),
+        Search::Shard(ask) => shard(rt, alloc, prepared, ask, gate, out),
     }
 }
 
-/// Searches a problem for a command.
-fn report_found<W: Threads + Wait + Sync, K: Sink, G: Gate + Sync>(
-    rt: &W,
-    alloc: Global,
-    command: &Command,
-    found: Accepted,
-    gate: &G,
-    out: &mut K,
-) -> Result<u8, NoMemory>
-    requires searches { Searches command.now }
-    requires workers { HasWorkers command.now }
-    ensures ends { IfOk result (λ status. EndsBy K.taken K.faults (Reports command.now (posed found)) out.old out.new status) }
-    ensures nothing { OnErr result (out.new ≡ out.old) }
-{
-    let prepared = prepare(alloc, found)?;
-    report_prepared(rt, alloc, command, &prepared, gate, out)
-}
-
-/// Reports of a command's problem by its workers. It may wait. Where memory is refused before anything is searched, nothing is put.
+/// Reports of a search's problem by its workers. It may wait. Where memory is refused before anything is searched, nothing is written.
 pub fn report_shared<W: Threads + Wait + Sync, K: Sink, G: Gate + Sync>(
     rt: &W,
     alloc: Global,
-    command: &Command,
+    search: &Search,
     found: Accepted,
     gate: &G,
     out: &mut K,
 ) -> Result<u8, NoMemory>
-    requires problem { PosesProblem command.now }
-    requires workers { HasWorkers command.now }
-    ensures ends { IfOk result (λ status. EndsBy K.taken K.faults (Reports command.now (posed found)) out.old out.new status) }
+    requires { SearchesShared search.now }
+    ensures ends { IfOk result (λ status. EndsReport K.taken K.faults search.now (posed found) out.old out.new status) }
     ensures nothing { OnErr result (out.new ≡ out.old) }
 {
-    match command {
-        Command::Check { .. } => Ok(count(&found, out)),
-        _ => report_found(rt, alloc, command, found, gate, out),
-    }
+    let prepared = prepare(alloc, found)?;
+    report_prepared(rt, alloc, search, &prepared, gate, out)
 }

@@ -19,11 +19,13 @@ use Rattle.clap.specs.declared.parser.matches.ValueSource.{ValueSource}
 use Rattle.clap.specs.declared.parser.matches.ValueSource.TheVariants.{CommandLine, DefaultValue}
 use Rattle.clap.specs.declared.error.kind.ErrorKind.TheVariants as kind
 use Rattle.clap.proofs.OnLiterals.{clap_on_literals}
+use Rattle.kr_base.specs.declared.span.Bound.{Bound}
 use Rattle.kr_args.specs.Definition.{MOST_SOURCES, korat_app}
 use Rattle.kr_args.specs.Sources.{AreSources, HasSources}
-use Rattle.kr_args.specs.Reading.{Files, Range, Sharing, ask_in, ask_with, check_in, command_in, command_of, demo_in, demo_with, files_in, files_with, list_in, merge_in, named_in, number_in, plain_sharing_in, range_in, shard_in, sharing_in, span_in, test_in, test_with, workers_in}
+use Rattle.kr_args.specs.Reading.{Files, Range, Sharing, ask_in, ask_with, check_in, command_in, command_of, demo_in, demo_with, files_in, files_with, list_in, merge_in, upgrade_in, named_in, number_in, plain_sharing_in, range_in, shard_in, sharing_in, span_in, test_in, test_with, trace_in, trace_with, from_in, to_in, workers_in}
 use Rattle.kr_args.specs.declared.forms.Ask.{Ask}
 use Rattle.kr_args.specs.declared.forms.Command.TheVariants as commands
+use Rattle.kr_args.specs.declared.forms.Search.TheVariants as searches
 use Rattle.kr_args.proofs.Walks.{Keeps, both_none, level_kept}
 
 both_false : (a b : Bool) → (a || b) ≡ false → (a ≡ false) × (b ≡ false)
@@ -313,7 +315,7 @@ ask_bounded (Some files) None sharing h = tt
 ask_bounded (Some files) (Some range) None h = tt
 ask_bounded (Some files) (Some range) (Some sharing) h = h
 
-list_bounded : (ask : Option Ask) → IfSome ask (λ a. AreSources a.sources) → IfSome (option_map commands.List ask) HasSources
+list_bounded : (ask : Option Ask) → IfSome ask (λ a. AreSources a.sources) → IfSome (option_map (λ a. commands.Search (searches.List a)) ask) HasSources
 list_bounded None h = tt
 list_bounded (Some ask) h = h
 
@@ -331,7 +333,7 @@ demo_bounded None workers = tt
 demo_bounded (Some n) None = tt
 demo_bounded (Some n) (Some workers) = tt
 
-shard_bounded : (ask : Option Ask) → IfSome ask (λ a. AreSources a.sources) → IfSome (option_map commands.Shard ask) HasSources
+shard_bounded : (ask : Option Ask) → IfSome ask (λ a. AreSources a.sources) → IfSome (option_map (λ a. commands.Search (searches.Shard a)) ask) HasSources
 shard_bounded None h = tt
 shard_bounded (Some ask) h = h
 
@@ -339,8 +341,19 @@ merge_bounded : (files : Option (List Text)) → IfSome (option_map commands.Mer
 merge_bounded None = tt
 merge_bounded (Some files) = tt
 
+upgrade_bounded : (fin : Option Text) → IfSome (option_map commands.Upgrade fin) HasSources
+upgrade_bounded None = tt
+upgrade_bounded (Some fin) = tt
+
+trace_bounded : (file : Option Text) (from : Option (List ℕ)) (to : Option Bound) (workers : Option ℕ) → IfSome (trace_with file from to workers) HasSources
+trace_bounded None from to workers = tt
+trace_bounded (Some file) None to workers = tt
+trace_bounded (Some file) (Some from) None workers = tt
+trace_bounded (Some file) (Some from) (Some to) None = tt
+trace_bounded (Some file) (Some from) (Some to) (Some workers) = tt
+
 named_bounded : (name : Text) (rows : List Row) → AreBounded rows → IfSome (named_in name rows) HasSources
-named_bounded name rows h = by_name (bytes_eq name (codes "list")) (bytes_eq name (codes "test")) (bytes_eq name (codes "check")) (bytes_eq name (codes "demo")) (bytes_eq name (codes "shard")) (bytes_eq name (codes "merge"))
+named_bounded name rows h = by_name (bytes_eq name (codes "list")) (bytes_eq name (codes "test")) (bytes_eq name (codes "check")) (bytes_eq name (codes "demo")) (bytes_eq name (codes "shard")) (bytes_eq name (codes "merge")) (bytes_eq name (codes "upgrade")) (bytes_eq name (codes "trace"))
   where
     workers : Option ℕ
     workers = workers_in (first_of (codes "workers") rows)
@@ -354,14 +367,16 @@ named_bounded name rows h = by_name (bytes_eq name (codes "list")) (bytes_eq nam
     spans : IfSome (ask_with (files_in rows) (span_in rows) (plain_sharing_in rows)) (λ a. AreSources a.sources)
     spans = ask_bounded (files_in rows) (span_in rows) (plain_sharing_in rows) files
 
-    by_name : (a b c d e f : Bool) → IfSome (if a then list_in rows else (if b then test_in rows else (if c then check_in rows else (if d then demo_in rows else (if e then shard_in rows else (if f then merge_in rows else None)))))) HasSources
-    by_name true b c d e f = list_bounded (ask_in rows) asks
-    by_name false true c d e f = test_bounded (first_of (codes "method") rows) (ask_in rows) asks
-    by_name false false true d e f = check_bounded (files_in rows) files
-    by_name false false false true e f = demo_bounded (option_and_then (number_in 1 12) (first_of (codes "nodes") rows)) workers
-    by_name false false false false true f = shard_bounded (ask_with (files_in rows) (span_in rows) (plain_sharing_in rows)) spans
-    by_name false false false false false true = merge_bounded (all_of (codes "file") rows)
-    by_name false false false false false false = tt
+    by_name : (a b c d e f g h : Bool) → IfSome (if a then list_in rows else (if b then test_in rows else (if c then check_in rows else (if d then demo_in rows else (if e then shard_in rows else (if f then merge_in rows else (if g then upgrade_in rows else (if h then trace_in rows else None)))))))) HasSources
+    by_name true b c d e f g h = list_bounded (ask_in rows) asks
+    by_name false true c d e f g h = test_bounded (first_of (codes "method") rows) (ask_in rows) asks
+    by_name false false true d e f g h = check_bounded (files_in rows) files
+    by_name false false false true e f g h = demo_bounded (option_and_then (number_in 1 12) (first_of (codes "nodes") rows)) workers
+    by_name false false false false true f g h = shard_bounded (ask_with (files_in rows) (span_in rows) (plain_sharing_in rows)) spans
+    by_name false false false false false true g h = merge_bounded (all_of (codes "file") rows)
+    by_name false false false false false false true h = upgrade_bounded (first_of (codes "fin") rows)
+    by_name false false false false false false false true = trace_bounded (first_of (codes "file") rows) (from_in (first_of (codes "from") rows)) (to_in (first_of (codes "to") rows)) workers
+    by_name false false false false false false false false = tt
 
 command_bounded : (met : Option (Text × List Row)) → IfSome met (λ m. AreBounded m.1) → IfSome (command_in met) HasSources
 command_bounded None h = tt

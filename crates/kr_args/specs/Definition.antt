@@ -82,6 +82,14 @@ shard_app = with_workers (with_span (with_rule (with_rule (new_app (codes "shard
 abbrev pub merge_app : App
 merge_app = with_rule (new_app (codes "merge")) shards_rule
 
+-- `upgrade FIN`
+abbrev pub upgrade_app : App
+upgrade_app = with_rule (new_app (codes "upgrade")) (word_rule (codes "fin"))
+
+-- `trace FILE [--from CUT] [--to CUT] [--workers N]`
+abbrev pub trace_app : App
+trace_app = with_workers (with_span (with_rule (new_app (codes "trace")) (word_rule (codes "file"))))
+
 -- no help, no version, and a required command
 abbrev pub bare_app : App
 bare_app = on_top (λ s. record s {
@@ -96,6 +104,10 @@ bare_app = on_top (λ s. record s {
 abbrev pub main_app : App
 main_app = with_subcommand (with_subcommand (with_subcommand (with_subcommand bare_app list_app.top) test_app.top) check_app.top) demo_app.top
 
--- the commands on shards
+-- and on shards
+abbrev pub search_app : App
+search_app = with_subcommand (with_subcommand main_app shard_app.top) merge_app.top
+
+-- on finitizations, and on logs
 abbrev pub korat_app : App
-korat_app = with_subcommand (with_subcommand main_app shard_app.top) merge_app.top
+korat_app = with_subcommand (with_subcommand search_app upgrade_app.top) trace_app.top

@@ -15,6 +15,7 @@ use Rattle.kr_args.specs.declared.forms.Command.{Command}
 use Rattle.kr_args.specs.declared.forms.Pool.{Pool}
 use Rattle.kr_args.specs.declared.forms.Pool.TheVariants.{Board, Deque}
 use Rattle.kr_args.specs.declared.forms.Command.TheVariants as commands
+use Rattle.kr_args.specs.declared.forms.Search.TheVariants as searches
 
 -- ---- values
 
@@ -123,11 +124,11 @@ abbrev pub ask_in : List Row → Option Ask
 ask_in rows = ask_with (files_in rows) (range_in rows) (sharing_in rows)
 
 abbrev pub list_in : List Row → Option Command
-list_in rows = option_map commands.List (ask_in rows)
+list_in rows = option_map (λ ask. commands.Search (searches.List ask)) (ask_in rows)
 
 -- a listing of the valid structures on which a method is tested
 abbrev pub test_with : Option Text → Option Ask → Option Command
-test_with (Some method) (Some ask) = Some (commands.Test method ask)
+test_with (Some method) (Some ask) = Some (commands.Search (searches.Test method ask))
 test_with _ _ = None
 
 abbrev pub test_in : List Row → Option Command
@@ -137,7 +138,7 @@ abbrev pub check_in : List Row → Option Command
 check_in rows = option_map (λ files. commands.Check files.0 files.1) (files_in rows)
 
 abbrev pub demo_with : Option ℕ → Option ℕ → Option Command
-demo_with (Some n) (Some workers) = Some (commands.Demo n workers)
+demo_with (Some n) (Some workers) = Some (commands.Search (searches.Demo n workers))
 demo_with _ _ = None
 
 abbrev pub demo_in : List Row → Option Command
@@ -153,10 +154,22 @@ abbrev pub span_in : List Row → Option Range
 span_in rows = span_with (from_in (first_of (codes "from") rows)) (to_in (first_of (codes "to") rows))
 
 abbrev pub shard_in : List Row → Option Command
-shard_in rows = option_map commands.Shard (ask_with (files_in rows) (span_in rows) (plain_sharing_in rows))
+shard_in rows = option_map (λ ask. commands.Search (searches.Shard ask)) (ask_with (files_in rows) (span_in rows) (plain_sharing_in rows))
 
 abbrev pub merge_in : List Row → Option Command
 merge_in rows = option_map commands.Merge (all_of (codes "file") rows)
+
+abbrev pub upgrade_in : List Row → Option Command
+upgrade_in rows = option_map commands.Upgrade (first_of (codes "fin") rows)
+
+-- the span and the number of workers of a listing, and the file of its text
+abbrev pub trace_with : Option Text → Option (List ℕ) → Option Bound → Option ℕ → Option Command
+trace_with (Some file) (Some from) (Some to) (Some workers) = Some (commands.Trace file from to workers)
+trace_with _ _ _ _ = None
+
+abbrev pub trace_in : List Row → Option Command
+trace_in rows =
+    trace_with (first_of (codes "file") rows) (from_in (first_of (codes "from") rows)) (to_in (first_of (codes "to") rows)) (workers_in (first_of (codes "workers") rows))
 
 abbrev pub named_in : Text → List Row → Option Command
 named_in name rows = if bytes_eq name (codes "list") then list_in rows
@@ -164,7 +177,9 @@ named_in name rows = if bytes_eq name (codes "list") then list_in rows
     else (if bytes_eq name (codes "check") then check_in rows
     else (if bytes_eq name (codes "demo") then demo_in rows
     else (if bytes_eq name (codes "shard") then shard_in rows
-    else (if bytes_eq name (codes "merge") then merge_in rows else None)))))
+    else (if bytes_eq name (codes "merge") then merge_in rows
+    else (if bytes_eq name (codes "upgrade") then upgrade_in rows
+    else (if bytes_eq name (codes "trace") then trace_in rows else None)))))))
 
 abbrev pub command_in : Option (Text × List Row) → Option Command
 command_in = option_and_then (λ p. named_in p.0 p.1)

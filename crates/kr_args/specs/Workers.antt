@@ -3,6 +3,8 @@ use Rattle.std.specs.Prelude.{ℕ, ◌<◌, ◌≤◌}
 use Rattle.kr_args.specs.declared.forms.Ask.{Ask}
 use Rattle.kr_args.specs.declared.forms.Command.{Command}
 use Rattle.kr_args.specs.declared.forms.Command.TheVariants as commands
+use Rattle.kr_args.specs.declared.forms.Search.{Search}
+use Rattle.kr_args.specs.declared.forms.Search.TheVariants as searches
 
 abbrev pub AreWorkers : ℕ → Type 0
 AreWorkers workers = (0 < workers) × (workers ≤ 64)
@@ -14,10 +16,16 @@ abbrev pub IsShared : Ask → Type 0
 IsShared ask = AreWorkers ask.workers × IsWindow ask.window
 
 -- a search has from one worker to the most, and a listing a window from one row to the most
+abbrev pub SearchesShared : Search → Type 0
+SearchesShared (searches.List ask) = IsShared ask
+SearchesShared (searches.Test method ask) = IsShared ask
+SearchesShared (searches.Demo n workers) = AreWorkers workers
+SearchesShared (searches.Shard ask) = IsShared ask
+
+-- so has a command that searches, or that checks a log
 abbrev pub HasWorkers : Command → Type 0
-HasWorkers (commands.List ask) = IsShared ask
-HasWorkers (commands.Test method ask) = IsShared ask
+HasWorkers (commands.Search search) = SearchesShared search
 HasWorkers (commands.Check fin sources) = Unit {0}
-HasWorkers (commands.Demo n workers) = AreWorkers workers
-HasWorkers (commands.Shard ask) = IsShared ask
 HasWorkers (commands.Merge files) = Unit {0}
+HasWorkers (commands.Upgrade fin) = Unit {0}
+HasWorkers (commands.Trace file from to workers) = AreWorkers workers

@@ -2,12 +2,12 @@
 ghost use Rattle.std.specs.Prelude.{◌≡◌, ◌≢◌, Some, None, IfOk, MatchResult, option_and_then};
 ghost use Rattle.clap.specs.Words.{kind_of, subcommand_rows_of, found_of, rows_of, first_of, all_of};
 ghost use Rattle.clap.specs.declared.error.ErrorKind.TheVariants.{OutOfMemory};
-ghost use Rattle.kr_args.specs.Reading.{number_in, text_in, texts_in, files_in, range_in, sharing_in, plain_sharing_in, ask_with, ask_in, list_in, test_in, check_in, demo_in, span_in, shard_in, merge_in, named_in, command_in, command_of};
+ghost use Rattle.kr_args.specs.Reading.{number_in, text_in, texts_in, files_in, range_in, sharing_in, plain_sharing_in, ask_with, ask_in, list_in, test_in, check_in, demo_in, span_in, shard_in, merge_in, upgrade_in, trace_in, named_in, command_in, command_of};
 ghost use Rattle.kr_args.specs.Sources.{HasSources};
 ghost use Rattle.kr_args.specs.Workers.{HasWorkers};
 
 use crate::definition::whole_definition;
-use crate::forms::{ArgRefusal, Ask, Command, Pool, Word};
+use crate::forms::{ArgRefusal, Ask, Command, Pool, Search, Word};
 use crate::values::{
     read_files, read_flag, read_from, read_limit, read_number, read_pool, read_to, read_window,
     read_word, read_words, read_workers,
@@ -15,7 +15,7 @@ use crate::values::{
 use clap::error::ErrorKind;
 use clap::{ArgMatches, Error};
 use kr_base::{Bound, Cut, NoMemory, Words};
-use std::alloc::{AllocError, Global};
+use std::alloc::Global;
 
 /// The first value of an argument.
 fn text_of<'a>(matches: &ArgMatches<'a>, id: &str) -> Option<&'a str>
@@ -112,7 +112,7 @@ fn read_list(alloc: Global, matches: &ArgMatches<'_>) -> Result<Command, ArgRefu
     ensures { let wanted = list_in (rows_of (found_of matches.now)) in
         MatchResult result (λ command. wanted ≡ Some command) (λ e. e ≡ ArgRefusal.Usage → wanted ≡ None) }
 {
-    Ok(Command::List(read_ask(alloc, matches)?))
+    Ok(Command::Search(Search::List(read_ask(alloc, matches)?)))
 }
 
 fn read_test(alloc: Global, matches: &ArgMatches<'_>) -> Result<Command, ArgRefusal>
@@ -121,7 +121,7 @@ fn read_test(alloc: Global, matches: &ArgMatches<'_>) -> Result<Command, ArgRefu
 {
     let method = read_word(alloc, text_of(matches, "method"))?;
     let ask = read_ask(alloc, matches)?;
-    Ok(Command::Test { method, ask })
+    Ok(Command::Search(Search::Test { method, ask }))
 }
 
 fn read_check(alloc: Global, matches: &ArgMatches<'_>) -> Result<Command, ArgRefusal>
@@ -151,7 +151,7 @@ fn read_demo(matches: &ArgMatches<'_>) -> Result<Command, ArgRefusal>
 {
     let n = read_nodes(text_of(matches, "nodes"))?;
     let workers = read_workers(text_of(matches, "workers"))?;
-    Ok(Command::Demo { n, workers })
+    Ok(Command::Search(Search::Demo { n, workers }))
 }
 
 fn read_span(alloc: Global, matches: &ArgMatches<'_>) -> Result<Range, ArgRefusal>
@@ -192,7 +192,7 @@ fn read_shard(alloc: Global, matches: &ArgMatches<'_>) -> Result<Command, ArgRef
     let sharing = read_plain_sharing(matches)?;
     let range = read_span(alloc, matches)?;
     let (fin, sources) = read_sources(alloc, matches)?;
-    Ok(Command::Shard(ask_of(fin, sources, range, sharing)))
+    Ok(Command::Search(Search::Shard(ask_of(fin, sources, range, sharing))))
 }
 
 fn read_merge(alloc: Global, matches: &ArgMatches<'_>) -> Result<Command, ArgRefusal>
@@ -200,6 +200,29 @@ fn read_merge(alloc: Global, matches: &ArgMatches<'_>) -> Result<Command, ArgRef
         MatchResult result (λ command. wanted ≡ Some command) (λ e. e ≡ ArgRefusal.Usage → wanted ≡ None) }
 {
     Ok(Command::Merge(read_words(alloc, texts_of(matches, "file"))?))
+}
+
+fn read_upgrade(alloc: Global, matches: &ArgMatches<'_>) -> Result<Command, ArgRefusal>
+    ensures { let wanted = upgrade_in (rows_of (found_of matches.now)) in
+        MatchResult result (λ command. wanted ≡ Some command) (λ e. e ≡ ArgRefusal.Usage → wanted ≡ None) }
+{
+    Ok(Command::Upgrade(read_word(alloc, text_of(matches, "fin"))?))
+}
+
+fn read_trace(alloc: Global, matches: &ArgMatches<'_>) -> Result<Command, ArgRefusal>
+    ensures { let wanted = trace_in (rows_of (found_of matches.now)) in
+        MatchResult result (λ command. wanted ≡ Some command) (λ e. e ≡ ArgRefusal.Usage → wanted ≡ None) }
+{
+    let workers = read_workers(text_of(matches, "workers"))?;
+    let from = read_from(alloc, text_of(matches, "from"))?;
+    let to = read_to(alloc, text_of(matches, "to"))?;
+    let file = read_word(alloc, text_of(matches, "file"))?;
+    Ok(Command::Trace {
+        file,
+        from,
+        to,
+        workers,
+    })
 }
 
 /// The command with this name and these matches.
@@ -219,6 +242,10 @@ fn read_named(alloc: Global, name: &str, matches: &ArgMatches<'_>) -> Result<Com
         read_shard(alloc, matches)
     } else if name == "merge" {
         read_merge(alloc, matches)
+    } else if name == "upgrade" {
+        read_upgrade(alloc, matches)
+    } else if name == "trace" {
+        read_trace(alloc, matches)
     } else {
         Err(ArgRefusal::Usage)
     }
@@ -239,7 +266,7 @@ fn lacking(kind: ErrorKind) -> NoMemory
     requires { kind ≡ OutOfMemory }
 {
     prove!(kind == ErrorKind::OutOfMemory);
-    NoMemory::from(AllocError)
+    NoMemory::reported()
 }
 
 fn refusal_of(error: &Error) -> ArgRefusal

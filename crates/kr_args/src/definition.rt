@@ -2,7 +2,7 @@
 ghost use Rattle.std.specs.Prelude.{◌≡◌, codes, false, IfOk};
 ghost use Rattle.clap.specs.declared.builder.command.Command.TheViews.{out-Command as fields_of};
 ghost use Rattle.clap.specs.Words.{rule_of, app_of, with_rule, with_subcommand};
-ghost use Rattle.kr_args.specs.Definition.{sources_rule, shards_rule, option_rule, flag_rule, with_span as span_added, with_range as range_added, with_workers as workers_added, with_sharing as sharing_added, with_options as options_added, bare_app, list_app, test_app, check_app, demo_app, shard_app, merge_app, main_app, korat_app};
+ghost use Rattle.kr_args.specs.Definition.{sources_rule, shards_rule, option_rule, flag_rule, with_span as span_added, with_range as range_added, with_workers as workers_added, with_sharing as sharing_added, with_options as options_added, bare_app, list_app, test_app, check_app, demo_app, shard_app, merge_app, trace_app, upgrade_app, main_app, search_app, korat_app};
 
 use clap::{Arg, ArgAction, Command as Definition};
 use kr_base::NoMemory;
@@ -170,6 +170,26 @@ fn merge_definition<'a>(alloc: Global) -> Result<Definition<'a>, NoMemory>
     Ok(Definition::new(alloc, "merge").arg(shards_argument(alloc))?)
 }
 
+/// `upgrade FIN`.
+fn upgrade_definition<'a>(alloc: Global) -> Result<Definition<'a>, NoMemory>
+    ensures app { IfOk result (λ c. app_of c ≡ upgrade_app) }
+    ensures local { IfOk result (λ c. (fields_of c).has_globals ≡ false) }
+{
+    let fin = Arg::new(alloc, "fin").required(true);
+    Ok(Definition::new(alloc, "upgrade").arg(fin)?)
+}
+
+/// `trace FILE` with its options.
+fn trace_definition<'a>(alloc: Global) -> Result<Definition<'a>, NoMemory>
+    ensures app { IfOk result (λ c. app_of c ≡ trace_app) }
+    ensures local { IfOk result (λ c. (fields_of c).has_globals ≡ false) }
+{
+    let file = Arg::new(alloc, "file").required(true);
+    let command = Definition::new(alloc, "trace").arg(file)?;
+    let command = with_span(alloc, command)?;
+    with_workers(alloc, command)
+}
+
 /// The tool, without its commands.
 fn bare_definition<'a>(alloc: Global) -> Definition<'a>
     ensures app { app_of result ≡ bare_app }
@@ -238,11 +258,29 @@ fn with_shard<'a>(alloc: Global) -> Result<Definition<'a>, NoMemory>
     with_command(korat, shard)
 }
 
-/// The tool with all its commands.
-pub(crate) fn whole_definition<'a>(alloc: Global) -> Result<Definition<'a>, NoMemory>
-    ensures { IfOk result (λ c. app_of c ≡ korat_app) }
+/// The tool with its first six commands.
+fn with_merge<'a>(alloc: Global) -> Result<Definition<'a>, NoMemory>
+    ensures { IfOk result (λ c. app_of c ≡ search_app) }
 {
     let korat = with_shard(alloc)?;
     let merge = merge_definition(alloc)?;
     with_command(korat, merge)
+}
+
+/// The tool with its first seven commands.
+fn with_upgrade<'a>(alloc: Global) -> Result<Definition<'a>, NoMemory>
+    ensures { IfOk result (λ c. app_of c ≡ with_subcommand search_app upgrade_app.top) }
+{
+    let korat = with_merge(alloc)?;
+    let upgrade = upgrade_definition(alloc)?;
+    with_command(korat, upgrade)
+}
+
+/// The tool with all its commands.
+pub(crate) fn whole_definition<'a>(alloc: Global) -> Result<Definition<'a>, NoMemory>
+    ensures { IfOk result (λ c. app_of c ≡ korat_app) }
+{
+    let korat = with_upgrade(alloc)?;
+    let trace = trace_definition(alloc)?;
+    with_command(korat, trace)
 }

@@ -61,21 +61,39 @@ pub struct Ask {
     pub trace: bool,
 }
 
-/// A command of the program.
+/// A command that searches the problem that its files, or the demo's texts, pose.
 #[derive(Drop)]
-pub enum Command {
+pub enum Search {
     /// `list FIN SOURCE..`
     List(Ask),
     /// `test FIN METHOD SOURCE..`
     Test { method: Word, ask: Ask },
-    /// `check FIN SOURCE..`
-    Check { fin: Word, sources: Words },
     /// `demo N`
     Demo { n: u32, workers: u32 },
     /// `shard FIN SOURCE..`
     Shard(Ask),
+}
+
+/// A command of the program.
+#[derive(Drop)]
+pub enum Command {
+    Search(Search),
+    /// `check FIN SOURCE..`
+    Check {
+        fin: Word,
+        sources: Words,
+    },
     /// `merge FILE..`
     Merge(Words),
+    /// `upgrade FIN`
+    Upgrade(Word),
+    /// `trace FILE`, with the span and the number of workers of the listing that it is checked as
+    Trace {
+        file: Word,
+        from: Cut,
+        to: Bound,
+        workers: u32,
+    },
 }
 
 /// The refusal of words that have no command.

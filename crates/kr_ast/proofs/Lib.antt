@@ -4,3 +4,4 @@ pub mod Texts
 pub mod Adopted
 pub mod Roots
 pub mod Put
+pub mod ShortEntries

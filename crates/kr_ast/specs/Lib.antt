@@ -3,3 +3,4 @@ pub mod Grow
 pub mod Arena
 pub mod Files
 pub mod Forest
+pub mod Entries

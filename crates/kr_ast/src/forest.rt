@@ -3,6 +3,7 @@ ghost use Rattle.std.specs.Prelude.{◌≡◌, ◌+◌, ◌<◌, ◌++◌, ◌�
 ghost use Rattle.kr_ast.specs.Arena.{trees, tree_at, tree_of, parts, names, name_in, AreNamesIn};
 ghost use Rattle.kr_ast.specs.Forest.{AreFree, AreRoots, IsOneRoot, adopted};
 
+use crate::entry_list::EntryList;
 use crate::{Entry, Name, Node, Tree};
 use kr_base::{NoMemory, Place};
 use std::alloc::Global;
@@ -12,7 +13,7 @@ use std::marker::Model;
 #[derive(Drop)]
 pub struct Forest {
     text: Vec<u8>,
-    entries: Vec<Entry>,
+    entries: EntryList,
 }
 
 impl Model for Forest {
@@ -26,24 +27,9 @@ impl Model for Forest {
     ghost invariant = { λ f. IsForest f.text.items f.entries.items × (length f.entries.items < 2 ^ 32) × (length f.text.items < 2 ^ 32) };
 }
 
-/// Gives a node its parent.
-fn adopt(entries: &mut Vec<Entry>, part: usize, parent: u32, position: u8)
-    requires { part < length entries.old.items }
-    ensures now { (d : Entry) → entries.new.items ≡ adopted d entries.old.items parent position (part ∷ []) }
-    ensures long { length entries.new.items ≡ length entries.old.items }
-{
-    let entry = entries[part];
-    entries[part] = Entry {
-        place: entry.place,
-        node: entry.node,
-        parent,
-        position,
-    };
-}
-
 /// Gives the parts of a node their parent.
 #[inline(always)]
-fn adopt_parts(entries: &mut Vec<Entry>, node: Node, parent: u32)
+fn adopt_parts(entries: &mut EntryList, node: Node, parent: u32)
     requires free { AreFree entries.old.items (parts node) }
     ensures now { (d : Entry) → entries.new.items ≡ adopted d entries.old.items parent 0 (parts node) }
     ensures long { length entries.new.items ≡ length entries.old.items }
@@ -52,7 +38,7 @@ fn adopt_parts(entries: &mut Vec<Entry>, node: Node, parent: u32)
     let parts = listed.as_slice();
     let mut position = 0;
     while position < parts.len() {
-        adopt(entries, parts[position] as usize, parent, position as u8);
+        entries.set_parent(parts[position] as usize, parent, position as u8);
         position += 1;
     }
 }
@@ -65,7 +51,7 @@ impl Forest {
     {
         Forest {
             text: Vec::new(alloc),
-            entries: Vec::new(alloc),
+            entries: EntryList::new(alloc),
         }
     }
 
@@ -81,7 +67,7 @@ impl Forest {
         let start = self.text.len();
         let end = start.saturating_add(bytes.len());
         if end >= 0xffff_ffff {
-            return Err(NoMemory::at_limit(end as u64));
+            return Err(NoMemory::at_common_limit(self.text.as_slice(), bytes));
         }
         self.text.extend_from_slice(bytes)?;
         Ok(Name {
@@ -105,7 +91,7 @@ impl Forest {
     {
         let at = self.entries.len();
         if at >= 0xffff_ffff {
-            return Err(NoMemory::at_limit(at as u64));
+            return Err(self.entries.at_limit());
         }
         self.entries.push(Entry {
             place,

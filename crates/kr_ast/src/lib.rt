@@ -1,10 +1,13 @@
 //! Syntax trees, stored as lists of nodes, each after its parts.
 #![tactic(auto)]
 
+mod entry_list;
 mod files;
 mod forest;
 mod node;
 mod parts;
+mod shapes;
+mod short_entry;
 mod tree;
 
 pub use files::{NodeId, tree_of};

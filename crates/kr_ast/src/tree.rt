@@ -2,6 +2,7 @@
 ghost use Rattle.std.specs.Prelude.{◌≡◌, ◌+◌, ◌<◌, ◌^◌, ◌∷◌, [], length, slice_get, Some};
 ghost use Rattle.kr_ast.specs.Arena.{IsArena, AreNamesIn, ArePartsFrom, IsPartOfParent, name_in, names, parts, tree_in, tree_of};
 
+use crate::entry_list::EntryList;
 use crate::{Entry, Name};
 use std::marker::Model;
 
@@ -9,7 +10,7 @@ use std::marker::Model;
 #[derive(Drop)]
 pub struct Tree {
     text: Vec<u8>,
-    entries: Vec<Entry>,
+    entries: EntryList,
 }
 
 impl Model for Tree {
@@ -25,7 +26,7 @@ impl Model for Tree {
 
 impl Tree {
     /// Allocates nothing.
-    pub fn new(text: Vec<u8>, entries: Vec<Entry>) -> Self
+    pub(crate) fn new(text: Vec<u8>, entries: EntryList) -> Self
         requires arena { IsArena text.items entries.items }
         requires room { length entries.items < 2 ^ 32 }
         ensures { result ≡ record { text = text.items; entries = entries.items } }
@@ -50,7 +51,7 @@ impl Tree {
         ensures held { at + 1 < length self.now.entries → IsPartOfParent self.now.entries at result }
         ensures names { AreNamesIn self.now.text (names result.node) }
     {
-        self.entries[at as usize]
+        self.entries.at(at as usize)
     }
 
     /// The bytes of a name.

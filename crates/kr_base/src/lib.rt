@@ -1,5 +1,5 @@
 //! Types that every crate uses: places in files, the words of a call, keys of candidates with bounds and spans, entries,
-//! the sink for text, the counter of runs, refusals, and the error of an allocation.
+//! the sink for text, the counter of runs, refusals, the error of an allocation, and a bound for loops.
 #![tactic(auto)]
 
 mod cut;
@@ -18,10 +18,10 @@ pub use cut::{Cut, CutRefusal, put_number};
 pub use entry::{Entry, Mark};
 pub use laws::{inside_law, order_law, reading_law, resumption_law};
 pub use lists::add_found;
-pub use memory::NoMemory;
+pub use memory::{Countdown, NoMemory};
 pub use place::Place;
 pub use refusal::{Fault, ItemName, RefusalAt, RefusalOf};
 pub use sink::{Failed, Sink, put_all};
 pub use span::{Bound, Span};
-pub use steps::Steps;
+pub use steps::{Permit, Steps};
 pub use words::Words;

@@ -12,6 +12,12 @@ pub struct Steps<L: Ledger> {
     share: Share<L>,
 }
 
+/// Leave for one run of the predicate: a tick gives it, and what begins or wakes a run takes it.
+#[derive(Drop)]
+pub struct Permit {
+    seal: (),
+}
+
 impl<L: Ledger> Model for Steps<L> {
     ghost use Rattle.std.specs.Prelude.{ℕ, ◌<◌};
 
@@ -33,9 +39,10 @@ impl<L: Ledger> Steps<L> {
         Steps { book, share }
     }
 
-    pub fn tick(&mut self)
+    pub fn tick(&mut self) -> Permit
         ensures { self.new ≡ self.old + 1 }
     {
         self.book.add(&mut self.share, 1);
+        Permit { seal: () }
     }
 }

@@ -11,8 +11,9 @@ use Rattle.kr_core.specs.Beside.{beside}
 use Rattle.kr_board.specs.declared.edits.Edit.{Edit}
 use Rattle.kr_board.specs.Edits.{edited, edit_of}
 use Rattle.kr_board.specs.Rooms.{IsWithin, IsAdded, IsSound}
-use Rattle.kr_board.proofs.Lists.{length-lists, when_ok, edit-beside, edit-within}
+use Rattle.kr_board.proofs.Lists.{length-lists, edit-beside, edit-within}
 use Rattle.kr_board.proofs.Sound.{join, aligned, moves, sound-moved}
+use Rattle.kr_core.proofs.Places.{inserted}
 
 pub lists_aligned : {R : Type 0} (core : State) (kept : List (Vec R Global)) (log : Vec Event Global) → IsSound core (lists kept) log → length kept ≡ length core.segments
 lists_aligned core kept log k = sym (length-lists kept) ∙ aligned core (lists kept) log k
@@ -43,11 +44,11 @@ pub record Grows (log mid new : Vec Event Global) (segments : ℕ) : Type 0 wher
 pub pushed_len : {A E : Type 0} (log mid new : Vec Event Global) (segments : ℕ) (r : Result A E) → vec_len mid ≡ vec_len log → vec_len mid + (segments + 2) ≤ vec_capacity mid
     → vec_len new ≡ cond (is_ok r) (vec_len mid + 1) (vec_len mid) → (vec_len mid < vec_capacity mid → IsOk r) → vec_capacity mid ≤ vec_capacity new → Grows log mid new segments
 pushed_len log mid new segments r same room len succeeds cap =
-    record { mid_len = same; mid_room = room; new_len = when_ok r (vec_len new) (vec_len mid + 1) (vec_len mid) len (succeeds (omega (arith, room))); new_capacity = cap }
+    record { mid_len = same; mid_room = room; new_len = inserted r (vec_len new) (vec_len mid + 1) (vec_len mid) len (succeeds (omega (arith, room))); new_capacity = cap }
 
 pub pushed_items : {A E : Type 0} (mid new : Vec Event Global) (segments : ℕ) (event : Event) (r : Result A E) → vec_len mid + (segments + 2) ≤ vec_capacity mid
     → new.items ≡ cond (is_ok r) (mid.items ++ event ∷ []) mid.items → (vec_len mid < vec_capacity mid → IsOk r) → new.items ≡ mid.items ++ event ∷ []
-pushed_items mid new segments event r room items succeeds = when_ok r new.items (mid.items ++ event ∷ []) mid.items items (succeeds (omega (arith, room)))
+pushed_items mid new segments event r room items succeeds = inserted r new.items (mid.items ++ event ∷ []) mid.items items (succeeds (omega (arith, room)))
 
 pub added_sound : {R : Type 0} (core : State) (kept : List (List R)) (log mid new : Vec Event Global) (event : Event) (reply : Reply) (after : State) (more : List R) (now : List (List R)) → IsSound core kept log → Step core event reply after
     → now ≡ beside join [] core event more kept → brought event ≡ length more → length more ≤ (2 ^ 64 - 1) - length (joined kept) → Grows log mid new (length core.segments) → IsSound after now new

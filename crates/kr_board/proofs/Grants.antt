@@ -3,11 +3,10 @@ use Rattle.std.proofs.Common.{◌≡◌, ◌≢◌, ◌↔◌, ℕ, ◌-◌, ◌
 use Rattle.std.specs.Prelude.{if◌then◌else◌, nat_lt, is_some, unwrap_or, ◌||◌}
 use Rattle.std.specs.List.{find, list_any}
 use Rattle.std.proofs.lemmas.Bool.Decides.{nat_tests}
+use Rattle.std.proofs.lemmas.Bool.{eqb-true, lt-ltb, and_from, le-ltb}
 use Rattle.kr_base.specs.declared.span.Bound.{Bound}
 use Rattle.kr_base.specs.declared.span.Bound.TheVariants.{At, End}
-use Rattle.kr_base.specs.Cuts.{Before}
 use Rattle.kr_base.specs.Bounds.{less}
-use Rattle.kr_base.proofs.Orders.{test_from_before}
 use Rattle.kr_base.proofs.Insides.{inside}
 use Rattle.kr_core.specs.declared.segment.Segment.{Segment}
 use Rattle.kr_core.specs.declared.event.Event.TheVariants.{Take, Steal, Look}
@@ -19,13 +18,7 @@ use Rattle.kr_core.specs.declared.event.Lease.{Lease}
 use Rattle.kr_board.specs.declared.board.taking.Taken.{Taken}
 use Rattle.kr_board.specs.declared.board.taking.Taken.TheVariants.{Lease as Leased, Later, Finished}
 use Rattle.kr_board.specs.Taking.{is_free, inside_bound, theft_of, first_free, first_victim, grant, take_event, any_owned, IsLater}
-
-pub less_from_before : (j k : List ℕ) → Before j k → less (At j) (At k) ≡ true
-unfolding less
-less_from_before j k h = test_from_before j k h
-
-pub and-both : (a b : Bool) → a ≡ true → b ≡ true → (a && b) ≡ true
-and-both a b p q = ap (λ (x : Bool). x && b) p ∙ q
+use Rattle.kr_base.proofs.Bounds.{less_from_before}
 
 not_here : (n : ℕ) (ss : List Segment) (g : Segment) (p : Segment → Bool) → Each (λ t. t.number ≢ n) ss → find p ss ≡ Some g → g.number ≢ n
 not_here n [] g p h found = absurd (cc (found))
@@ -35,16 +28,13 @@ not_here n (s ∷ ss) g p h found =
       | false ↦ λ q. not_here n ss g p h.1 q
     ] found
 
-eqb-eq : (a b : ℕ) → (a == b) ≡ true → a ≡ b
-eqb-eq a b h = grind (arith, nat_tests)
-
 eqb-self : (a : ℕ) → (a == a) ≡ true
 eqb-self a = grind (arith, nat_tests)
 
 found-behind : (s : Segment) (ss : List Segment) (g : Segment) → g.number ≢ s.number → segment_of g.number ss ≡ Some g → segment_of g.number (s ∷ ss) ≡ Some g
 found-behind s ss g other rest =
     elim (s.number == g.number) as (λ b. (s.number == g.number) ≡ b → cond b (Some s) (segment_of g.number ss) ≡ Some g) [
-      | true ↦ λ e. absurd (other (sym (eqb-eq s.number g.number e)))
+      | true ↦ λ e. absurd (other (sym (eqb-true s.number g.number e)))
       | false ↦ λ e. rest
     ] refl
 
@@ -72,7 +62,7 @@ free_fits s seat g k found = ap may_take (found_is is_free s.segments g k.differ
 theft-between : (mark upto : Bound) (cut : List ℕ) → inside_bound mark upto ≡ Some cut → (less mark (At cut) && less (At cut) upto) ≡ true
 theft-between (At mark) upto cut h =
     let p = inside mark cut upto h in
-    and-both (less (At mark) (At cut)) (less (At cut) upto) (less_from_before mark cut p.0) p.1
+    and_from (less (At mark) (At cut)) (less (At cut) upto) (less_from_before mark cut p.0) p.1
 theft-between End upto cut h = absurd (cc (h))
 
 theft-may : (g : Segment) (cut : List ℕ) → theft_of g ≡ Some cut → may_steal cut (Some g) ≡ true
@@ -83,12 +73,12 @@ theft-may g cut h =
     ] h
 
 pub next-below : (n : ℕ) → n < 2 ^ 64 - 1 → ((n == n) && nat_lt n (2 ^ 64 - 1)) ≡ true
-next-below n h = and-both (n == n) (nat_lt n (2 ^ 64 - 1)) (eqb-self n) (grind (arith, nat_tests))
+next-below n h = and_from (n == n) (nat_lt n (2 ^ 64 - 1)) (eqb-self n) (grind (arith, nat_tests))
 
 pub theft_fits : (s : State) (seat : ℕ) (g : Segment) (cut : List ℕ) → IsKept s → find (λ t. is_some (theft_of t)) s.segments ≡ Some g → theft_of g ≡ Some cut → s.next < 2 ^ 64 - 1
     → fits s (Steal seat g.number cut s.next) ≡ true
 theft_fits s seat g cut k found theft room =
-    and-both (may_steal cut (segment_of g.number s.segments)) _
+    and_from (may_steal cut (segment_of g.number s.segments)) _
     (ap (may_steal cut) (found_is (λ t. is_some (theft_of t)) s.segments g k.differ found) ∙ theft-may g cut theft) (next-below s.next room)
 
 -- where none is free, all are closed exactly where none is owned
@@ -142,14 +132,8 @@ all_closed_there (s ∷ ss) f o =
 pub take_free : (s : State) (seat : ℕ) (g : Segment) → first_free s ≡ Some g → take_event seat s ≡ Take seat g.number
 take_free s seat g h = ap (λ (o : Option Segment). grant seat s.next o (first_victim s)) h
 
-lt-test : (a b : ℕ) → a < b → nat_lt a b ≡ true
-lt-test a b h = grind (arith, nat_tests)
-
-not_lt-test : (a b : ℕ) → b ≤ a → nat_lt a b ≡ false
-not_lt-test a b h = grind (arith, nat_tests)
-
 victim-there : (s : State) (g : Segment) → s.next < 2 ^ 64 - 1 → find (λ t. is_some (theft_of t)) s.segments ≡ Some g → first_victim s ≡ Some g
-victim-there s g room found = ap (λ (b : Bool). if b then find (λ t. is_some (theft_of t)) s.segments else None) (lt-test s.next (2 ^ 64 - 1) room) ∙ found
+victim-there s g room found = ap (λ (b : Bool). if b then find (λ t. is_some (theft_of t)) s.segments else None) (lt-ltb s.next (2 ^ 64 - 1) room) ∙ found
 
 pub take_theft : (s : State) (seat : ℕ) (g : Segment) (cut : List ℕ) → first_free s ≡ None → s.next < 2 ^ 64 - 1 → find (λ t. is_some (theft_of t)) s.segments ≡ Some g → theft_of g ≡ Some cut
     → take_event seat s ≡ Steal seat g.number cut s.next
@@ -162,7 +146,7 @@ take_look s seat none no_victim =
     ap (λ (o : Option Segment). grant seat s.next o (first_victim s)) none ∙ ap (λ (o : Option Segment). grant seat s.next None o) no_victim
 
 pub no_victim_left : (s : State) → 2 ^ 64 - 1 ≤ s.next → first_victim s ≡ None
-no_victim_left s h = ap (λ (b : Bool). if b then find (λ t. is_some (theft_of t)) s.segments else None) (not_lt-test s.next (2 ^ 64 - 1) h)
+no_victim_left s h = ap (λ (b : Bool). if b then find (λ t. is_some (theft_of t)) s.segments else None) (le-ltb s.next (2 ^ 64 - 1) h)
 
 pub no_victim_there : (s : State) → find (λ t. is_some (theft_of t)) s.segments ≡ None → first_victim s ≡ None
 no_victim_there s h = elim (nat_lt s.next (2 ^ 64 - 1)) as (λ b. (if b then find (λ t. is_some (theft_of t)) s.segments else None) ≡ None) [ true ↦ h | false ↦ refl ]

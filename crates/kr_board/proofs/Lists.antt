@@ -1,7 +1,6 @@
 -- Lists of vectors, and the edits of what is kept.
-use Rattle.std.proofs.Common.{◌≡◌, ℕ, zero, suc, ◌+◌, ◌-◌, ◌<◌, ◌≤◌, List, [], ◌∷◌, ◌++◌, Bool, true, false, length, get_or, set, take, refl, sym, ap, ◌∙◌, subst, arith, cond, add-one, Vec, Global, vec_len, vec_capacity, Result, Ok, Err, IsOk, ◌==◌, Option, Some, None}
+use Rattle.std.proofs.Common.{◌≡◌, ℕ, zero, suc, ◌+◌, ◌-◌, ◌<◌, ◌≤◌, List, [], ◌∷◌, ◌++◌, Bool, true, false, length, get_or, set, take, refl, sym, ap, ◌∙◌, subst, arith, cond, add-one, Vec, Global, vec_len, vec_capacity, ◌==◌, Option, Some, None}
 use Rattle.std.specs.Prelude.{insert, if◌then◌else◌, ◌&&◌, nat_lt, ◌^◌}
-use Rattle.std.specs.Result.{is_ok}
 use Rattle.kr_base.specs.declared.span.Bound.{Bound}
 use Rattle.kr_survey.specs.Joins.{lists}
 use Rattle.kr_core.specs.declared.segment.Segment.{Segment}
@@ -54,10 +53,6 @@ pub room_get : {R : Type 0} (ks : List (Vec R Global)) (i n : ℕ) (v : Vec R Gl
 room_get [] i n v h is r = absurd (omega arith)
 room_get {R} (k ∷ ks) zero n v h is r = subst (λ (u : Vec R Global). vec_len u + n ≤ vec_capacity u) (sym is) r
 room_get (k ∷ ks) (suc i) n v h is r = room_get ks i n v (omega (arith, h)) is r
-
-pub when_ok : {A E X : Type 0} (r : Result A E) (new a b : X) → new ≡ cond (is_ok r) a b → IsOk r → new ≡ a
-when_ok (Ok x) new a b h ok = h
-when_ok (Err e) new a b h ok = absurd (cc (ok))
 
 -- an event's edit is what it does to what is kept
 

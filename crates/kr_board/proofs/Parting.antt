@@ -76,7 +76,7 @@ from_scan {R} all after part upto most asc up some fits scan =
           (subst (λ (b : Bound). IsSpentFlag part.spent b w) (sym scan.reach) (subst (λ (t : Bool). IsSpentFlag t (reached upto most w) w) (sym scan.spent) (flag upto most (within (At after) upto all) (any_spent w) refl)));
     }
 
-row-few : {R : Type 0} (m : Mark R) → length (row_of m) ≤ 1
+pub row-few : {R : Type 0} (m : Mark R) → length (row_of m) ≤ 1
 row-few (Valid row) = omega arith
 row-few Invalid = omega arith
 row-few Spent = omega arith

@@ -10,8 +10,8 @@ use Rattle.kr_core.specs.States.{State, is_owned, segment_of, change}
 use Rattle.kr_core.specs.Steps.{Step, may_give_up, owned}
 use Rattle.kr_core.proofs.Bools.{owner_known}
 use Rattle.kr_board.specs.Rooms.{owned_count, IsSound}
-use Rattle.kr_board.proofs.Lists.{when_ok}
 use Rattle.kr_board.proofs.Sound.{moves}
+use Rattle.kr_core.proofs.Places.{inserted}
 
 abbrev counted : Segment → ℕ
 counted s = cond (is_owned s.owner) 1 0
@@ -59,7 +59,7 @@ pub released_sound : {R A E : Type 0} (core : State) (kept : List (List R)) (log
 released_sound {R} core kept log more seat n reply new r k step len succeeds cap =
     let less = released_less core seat n reply new step in
     let place = released_room core seat n reply new log k.room step in
-    let longer : vec_len more ≡ vec_len log + 1 = when_ok r (vec_len more) (vec_len log + 1) (vec_len log) len (succeeds place) in
+    let longer : vec_len more ≡ vec_len log + 1 = inserted r (vec_len more) (vec_len log + 1) (vec_len log) len (succeeds place) in
     let none : List R = [] in
     let m = moves core kept log (GiveUp seat n) reply new none kept k step refl refl (omega arith) in
     let room = k.room in

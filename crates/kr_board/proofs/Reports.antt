@@ -3,7 +3,7 @@ use Rattle.std.proofs.Common.{◌≡◌, ℕ, ◌<◌, ◌≤◌, List, Bool, tr
 use Rattle.std.specs.Prelude.{if◌then◌else◌, nat_lt, nat_le, is_none, IfOk, OnOk}
 use Rattle.std.specs.List.{count_by}
 use Rattle.std.proofs.lemmas.List.Sums.{sum_by-cons, count_by-le-length}
-use Rattle.std.proofs.lemmas.Bool.Decides.{nat_tests}
+use Rattle.std.proofs.lemmas.Bool.{lt-ltb, and_from, not-true, le-leb}
 use Rattle.kr_base.specs.declared.span.Bound.{Bound}
 use Rattle.kr_base.specs.declared.span.Bound.TheVariants.{At, End}
 use Rattle.kr_base.specs.declared.entry.Mark.{Mark}
@@ -24,7 +24,7 @@ use Rattle.kr_core.specs.States.{State, is_owned_by, segment_of}
 use Rattle.kr_core.specs.Steps.{fits, may_report}
 use Rattle.kr_core.specs.Counts.{Tells, TellsFrom}
 use Rattle.kr_core.proofs.Beside.{IsMore}
-use Rattle.kr_core.proofs.Bools.{and-left, and-right, not-true}
+use Rattle.kr_core.proofs.Bools.{and-left, and-right}
 use Rattle.kr_board.specs.declared.board.reporting.Reported.{Reported}
 use Rattle.kr_board.specs.declared.board.reporting.Reported.TheVariants.{Gone, Moved, Overrun, Full}
 use Rattle.kr_board.specs.Held.{Held}
@@ -100,18 +100,9 @@ mark-fits {R} (At m) upto lease reach h =
       | false ↦ λ s q. absurd (cc (q))
     ] refl h
 
-and-both : (a b : Bool) → a ≡ true → b ≡ true → (a && b) ≡ true
-and-both a b p q = ap (λ (x : Bool). x && b) p ∙ q
-
-lt-test : (a b : ℕ) → a < b → nat_lt a b ≡ true
-lt-test a b h = grind (arith, nat_tests)
-
-le-test : (a b : ℕ) → a ≤ b → nat_le a b ≡ true
-le-test a b h = grind (arith, nat_tests)
-
-counts-fit : (spent : Bool) (reach : Bound) (rows tried : ℕ) → rows ≤ tried → (spent ≡ true → is_cut reach ≡ true) → (spent ≡ true → rows < tried) → (if spent then is_cut reach && nat_lt rows tried else nat_le rows tried) ≡ true
-counts-fit true reach rows tried few cut fewer = and-both (is_cut reach) (nat_lt rows tried) (cut refl) (lt-test rows tried (fewer refl))
-counts-fit false reach rows tried few cut fewer = le-test rows tried few
+pub counts-fit : (spent : Bool) (reach : Bound) (rows tried : ℕ) → rows ≤ tried → (spent ≡ true → is_cut reach ≡ true) → (spent ≡ true → rows < tried) → (if spent then is_cut reach && nat_lt rows tried else nat_le rows tried) ≡ true
+counts-fit true reach rows tried few cut fewer = and_from (is_cut reach) (nat_lt rows tried) (cut refl) (lt-ltb rows tried (fewer refl))
+counts-fit false reach rows tried few cut fewer = le-leb rows tried few
 
 report-at : {R : Type 0} (o : Option Segment) (lease : Lease) (part : Part R) → refusal_of {R = R} o lease part.reach ≡ None → IsPossible lease.mark part → may_report lease.seat part.reach (length part.rows) part.tried part.spent o ≡ true
 report-at None lease part h p = absurd (cc (h))
@@ -120,8 +111,8 @@ report-at {R} (Some g) lease part h p =
     → (b && (less g.mark part.reach && (not (less g.upto part.reach) && (if part.spent then is_cut part.reach && nat_lt (length part.rows) part.tried else nat_le (length part.rows) part.tried)))) ≡ true) [
       | true ↦ λ q.
           let f = mark-fits {R = R} g.mark g.upto lease part.reach q in
-          and-both (less g.mark part.reach) _ (ap (λ (b : Bound). less b part.reach) f.same ∙ p.above)
-          (and-both (not (less g.upto part.reach)) _ (ap not f.under) (counts-fit part.spent part.reach (length part.rows) part.tried p.rows p.cut p.fewer))
+          and_from (less g.mark part.reach) _ (ap (λ (b : Bound). less b part.reach) f.same ∙ p.above)
+          (and_from (not (less g.upto part.reach)) _ (ap not f.under) (counts-fit part.spent part.reach (length part.rows) part.tried p.rows p.cut p.fewer))
       | false ↦ λ q. absurd (cc (q))
     ] h
 
@@ -140,12 +131,12 @@ marked {R} (Some g) lease reach h =
 
 -- a report of a survey's part is honest
 
-one-row : {R : Type 0} (m : Mark R) → length (row_of m) ≡ cond (is_valid m) 1 0
+pub one-row : {R : Type 0} (m : Mark R) → length (row_of m) ≡ cond (is_valid m) 1 0
 one-row (Valid row) = refl
 one-row Invalid = refl
 one-row Spent = refl
 
-valid-rows : {R : Type 0} (es : List (Entry R)) → length (rows_of es) ≡ count_by (λ e. is_valid e.mark) es
+pub valid-rows : {R : Type 0} (es : List (Entry R)) → length (rows_of es) ≡ count_by (λ e. is_valid e.mark) es
 valid-rows [] = refl
 valid-rows {R} (e ∷ es) =
     let a = length-append (row_of e.mark) (rows_of es) in

@@ -1,13 +1,13 @@
 -- A seat that steals from itself: it fits, and the rest is behind its mark.
-use Rattle.std.proofs.Common.{◌≡◌, ℕ, ◌-◌, ◌^◌, ◌<◌, List, [], Bool, true, false, ◌&&◌, not, refl, sym, ap, ◌∙◌, arith, Option, Some, None}
+use Rattle.std.proofs.Common.{◌≡◌, ℕ, ◌-◌, ◌^◌, List, [], Bool, true, false, ◌&&◌, not, refl, sym, ap, ◌∙◌, Option, Some, None}
 use Rattle.std.specs.Prelude.{if◌then◌else◌, nat_lt}
-use Rattle.std.proofs.lemmas.Bool.Decides.{nat_tests}
 use Rattle.std.specs.Option.{option_map}
+use Rattle.std.proofs.lemmas.Bool.{and_from, not-true, ltb-true}
 use Rattle.kr_base.specs.declared.span.Bound.{Bound}
 use Rattle.kr_base.specs.declared.span.Bound.TheVariants.{At, End}
 use Rattle.kr_base.specs.Bounds.{less, is_same}
 use Rattle.kr_base.specs.Inside.{inside_of}
-use Rattle.kr_base.proofs.Bounds.{connected}
+use Rattle.kr_base.proofs.Bounds.{connected, less_from_before}
 use Rattle.kr_base.proofs.Insides.{inside}
 use Rattle.kr_core.specs.declared.segment.Segment.{Segment}
 use Rattle.kr_core.specs.declared.event.Event.TheVariants.{Steal}
@@ -15,12 +15,12 @@ use Rattle.kr_core.specs.declared.event.Lease.{Lease}
 use Rattle.kr_core.specs.States.{State, is_owned, is_owned_by, segment_of}
 use Rattle.kr_core.specs.declared.event.Reply.TheVariants.{Lease as Leased}
 use Rattle.kr_core.specs.Steps.{fits, may_steal, stolen, IsLeased}
-use Rattle.kr_core.proofs.Bools.{and-left, and-right, not-true, owner_known}
+use Rattle.kr_core.proofs.Bools.{and-left, and-right, owner_known}
 use Rattle.kr_board.specs.Held.{Held}
 use Rattle.kr_board.specs.Boards.{Adds, Stays}
 use Rattle.kr_board.specs.Splitting.{split_at, split_in, split_of}
 use Rattle.kr_board.proofs.Staying.{quiet_stays}
-use Rattle.kr_board.proofs.Grants.{less_from_before, and-both, next-below}
+use Rattle.kr_board.proofs.Grants.{next-below}
 use Rattle.kr_board.proofs.Reports.{other-cut, same-cut as same_cut}
 
 -- the same cut
@@ -35,7 +35,7 @@ between (At m) upto lease cut h =
       | true ↦ λ e q.
           let p = inside m cut upto q in
           let ahead = less_from_before m cut p.0 in
-          (and-both (less (At m) (At cut)) (less (At cut) upto) ahead p.1, ap (λ (b : Bound). less b (At cut)) (sym (same-cut m lease.mark e)) ∙ ahead)
+          (and_from (less (At m) (At cut)) (less (At cut) upto) ahead p.1, ap (λ (b : Bound). less b (At cut)) (sym (same-cut m lease.mark e)) ∙ ahead)
       | false ↦ λ e q. absurd (cc (q))
     ] refl h
 
@@ -45,12 +45,9 @@ owned-between (Some g) lease cut h =
     elim (is_owned_by lease.seat g.owner) as (λ b. is_owned_by lease.seat g.owner ≡ b → (if b then split_at g.mark g.upto lease else None) ≡ Some cut → ((is_owned g.owner && (less g.mark (At cut) && less (At cut) g.upto)) ≡ true) × (less (At lease.mark) (At cut) ≡ true)) [
       | true ↦ λ e q.
           let p = between g.mark g.upto lease cut q in
-          (and-both (is_owned g.owner) (less g.mark (At cut) && less (At cut) g.upto) (owner_known lease.seat g.owner e) p.0, p.1)
+          (and_from (is_owned g.owner) (less g.mark (At cut) && less (At cut) g.upto) (owner_known lease.seat g.owner e) p.0, p.1)
       | false ↦ λ e q. absurd (cc (q))
     ] refl h
-
-room : (a b : ℕ) → nat_lt a b ≡ true → a < b
-room a b h = grind (arith, nat_tests)
 
 pub split_steps : (s : State) (lease : Lease) (cut : List ℕ) → split_of s lease ≡ Some cut → (fits s (Steal lease.seat lease.segment cut s.next) ≡ true) × (less (At lease.mark) (At cut) ≡ true)
 split_steps s lease cut h =
@@ -58,7 +55,7 @@ split_steps s lease cut h =
     → (fits s (Steal lease.seat lease.segment cut s.next) ≡ true) × (less (At lease.mark) (At cut) ≡ true)) [
       | true ↦ λ e q.
           let p = owned-between (segment_of lease.segment s.segments) lease cut q in
-          (and-both (may_steal cut (segment_of lease.segment s.segments)) _ p.0 (next-below s.next (room s.next (2 ^ 64 - 1) e)), p.1)
+          (and_from (may_steal cut (segment_of lease.segment s.segments)) _ p.0 (next-below s.next (ltb-true s.next (2 ^ 64 - 1) e)), p.1)
       | false ↦ λ e q. absurd (cc (q))
     ] refl h
 

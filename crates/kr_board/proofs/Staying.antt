@@ -32,7 +32,7 @@ measure {R} = record {
   rest = λ x y. ap (λ (l : List R). x ++ l) (append-nil y);
 }
 
-drained-more : (log : List Event) (event : Event) → drained (log ++ event ∷ []) ≡ drained log + drains event
+pub drained-more : (log : List Event) (event : Event) → drained (log ++ event ∷ []) ≡ drained log + drains event
 drained-more [] event = omega arith
 drained-more (e ∷ log) event = let h = drained-more log event in omega (arith, h)
 

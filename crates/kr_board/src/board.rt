@@ -50,14 +50,14 @@ impl<R> Model for Board<R> {
 }
 
 // Makes room in the log for an event, and then for each owner to give up, where there are so many segments.
-fn make_log_room(log: &mut Vec<Event>, segments: usize) -> Result<(), NoMemory>
+fn make_log_room(log: &mut Vec<Event>, segments: &[Segment]) -> Result<(), NoMemory>
     ensures items { log.new.items ≡ log.old.items }
     ensures len { vec_len log.new ≡ vec_len log.old }
     ensures never_less { vec_capacity log.old ≤ vec_capacity log.new }
-    ensures room { IfOk result (λ _. vec_len log.new + (segments + 2) ≤ vec_capacity log.new) }
+    ensures room { IfOk result (λ _. vec_len log.new + (length segments.now + 2) ≤ vec_capacity log.new) }
 {
-    match segments.checked_add(2) {
-        None => Err(NoMemory::at_limit(segments as u64)),
+    match segments.len().checked_add(2) {
+        None => Err(NoMemory::at_limit(segments)),
         Some(places) => {
             log.reserve(places)?;
             Ok(())
@@ -164,7 +164,7 @@ impl<R: Drop> Board<R> {
         ensures back { IfErr result (λ untaken. untaken.rows ≡ rows) }
     {
         let edit = edit_of(&self.core, &logged);
-        match make_log_room(&mut self.log, self.core.segments().len()) {
+        match make_log_room(&mut self.log, self.core.segments()) {
             Err(why) => return Err(Untaken { rows, why }),
             Ok(()) => {}
         }

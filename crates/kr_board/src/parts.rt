@@ -1,29 +1,9 @@
 // Whether what was scanned may be reported.
 ghost use Rattle.std.specs.Prelude.{◌≡◌, ◌↔◌, IsTrue};
-ghost use Rattle.kr_base.specs.Bounds.{less, is_cut};
 ghost use Rattle.kr_board.specs.Parts.{IsPossible};
 
-use kr_base::{Bound, Cut};
+use kr_base::Cut;
 use kr_survey::Part;
-
-#[tactic(auto, unfolding(kr_base::specs::Bounds::less))]
-fn is_above(reach: &Bound, after: &Cut) -> bool
-    ensures { result ≡ less (Bound.At after.now) reach.now }
-{
-    match reach {
-        Bound::End => true,
-        Bound::At(cut) => after.is_below(cut),
-    }
-}
-
-fn is_cut(reach: &Bound) -> bool
-    ensures { result ≡ is_cut reach.now }
-{
-    match reach {
-        Bound::At(_) => true,
-        Bound::End => false,
-    }
-}
 
 /// Whether the part may be one of a survey from the cut on, as far as its own numbers tell.
 pub fn is_possible<R>(after: &Cut, part: &Part<R>) -> bool
@@ -31,9 +11,9 @@ pub fn is_possible<R>(after: &Cut, part: &Part<R>) -> bool
 {
     let rows = part.rows.len() as u64;
     let counted = if part.spent {
-        is_cut(&part.reach) && rows < part.tried
+        part.reach.is_cut() && rows < part.tried
     } else {
         rows <= part.tried
     };
-    is_above(&part.reach, after) && counted
+    part.reach.is_above_cut(after) && counted
 }

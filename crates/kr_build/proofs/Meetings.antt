@@ -71,10 +71,6 @@ objects_more problem v ss s =
         distinct_append is_same_object there (o ∷ [])
         ∙ ap (λ (l : List DomainObject). distinct is_same_object there ++ l) (added_one there o ∙ ap (λ (b : Bool). unless_in b o) (sym (in_distinct o there)))
 
--- the objects at more slots begin with those at the first ones
-pub objects_front : (problem : Problem) (v : List ℕ) (ss ts : List ℕ) → objects_at problem v (ss ++ ts) ≡ objects_at problem v ss ++ added is_same_object (objects_there problem v ss) (objects_there problem v ts)
-objects_front problem v ss ts = ap (distinct is_same_object) (flat_map-append (λ s. objects_of (choice_at problem v s).object) ss ts) ∙ distinct_append is_same_object (objects_there problem v ss) (objects_there problem v ts)
-
 pub in_more : (o p : DomainObject) (os : List DomainObject) → is_in o (os ++ p ∷ []) ≡ (is_in o os || is_same_object p o)
 in_more o p [] = go (is_same_object p o)
   where

@@ -11,10 +11,11 @@ use Rattle.kr_laws_slots.proofs.Places.{one_object, same_object, same_objects}
 use Rattle.kr_laws_slots.proofs.SlotForks.{added}
 use Rattle.kr_laws_runs.proofs.Respects.{AllOf}
 use Rattle.kr_laws_slots.proofs.Spaces.{block_of}
-use Rattle.kr_laws_slots.proofs.Walked.{Valid, objects_there, walked, walk_below}
+use Rattle.kr_laws_slots.proofs.Walked.{Valid, objects_there, walked, walk_below, objects_more as objects_both}
 use Rattle.kr_laws_slots.proofs.Reached.{settled}
-use Rattle.kr_build.specs.Visits.{IsMarked, IsVisit, IsVisitOf, IsMeeting}
-use Rattle.kr_build.proofs.Meetings.{is_in, unless_in, new_objects, objects_more, objects_front, in_more}
+use Rattle.kr_space_layout.specs.Marks.{IsMarked}
+use Rattle.kr_build.specs.Visits.{IsVisit, IsVisitOf, IsMeeting}
+use Rattle.kr_build.proofs.Meetings.{is_in, unless_in, new_objects, objects_more, in_more}
 
 abbrev pub front : {A : Type 0} → List A → List A → Type 0
 front {A} xs ys = (rest : List A) × (ys ≡ xs ++ rest)
@@ -78,7 +79,7 @@ module _ (problem : Problem) (w : IsWellFormed problem) (v : List ℕ) where
         let e : walked problem v (length (all_objects problem)) ≡ ss ++ ts =
         whole problem v order met i os r ∙ (ap (λ (xs : List ℕ). xs ++ rest) (sym (take-append-drop (i + 1) order)) ∙ append_assoc ss (drop (i + 1) order) rest) in (
           added is_same_object (objects_there problem v ss) (objects_there problem v ts),
-          sym (settled problem w v) ∙ (ap (objects_at problem v) e ∙ objects_front problem v ss ts),
+          sym (settled problem w v) ∙ (ap (objects_at problem v) e ∙ objects_both problem v ss ts),
         )
 
     kept : (new_met : List Bool) (new_order : List ℕ) → objects_at problem v (take (i + 1) order) ≡ os → new_met ≡ met → new_order ≡ order → (more : List DomainObject) × IsWalked problem v new_order new_met (i + 1) more
@@ -165,7 +166,7 @@ module _ (problem : Problem) (w : IsWellFormed problem) (v : List ℕ) where
       are = r.objects ∙ (ap (objects_at problem v) (take_all i order h) ∙ ap (objects_at problem v) r.slots)
 
       least : (n : ℕ) → front (met_within problem v n) os
-      least zero = (added is_same_object (objects_there problem v (root_slots problem)) (objects_there problem v (flat_map (slots_in problem v) os)), are ∙ objects_front problem v (root_slots problem) (flat_map (slots_in problem v) os))
+      least zero = (added is_same_object (objects_there problem v (root_slots problem)) (objects_there problem v (flat_map (slots_in problem v) os)), are ∙ objects_both problem v (root_slots problem) (flat_map (slots_in problem v) os))
       least (suc n) = go (least n)
         where
           go : front (met_within problem v n) os → front (met_within problem v (suc n)) os
@@ -176,7 +177,7 @@ module _ (problem : Problem) (w : IsWellFormed problem) (v : List ℕ) where
               ap (λ (xs : List DomainObject). root_slots problem ++ flat_map (slots_in problem v) xs) e
               ∙ (ap (λ (xs : List ℕ). root_slots problem ++ xs) (flat_map-append (slots_in problem v) (met_within problem v n) rest)
               ∙ sym (append_assoc (root_slots problem) (flat_map (slots_in problem v) (met_within problem v n)) ts)) in
-              (added is_same_object (objects_there problem v ss) (objects_there problem v ts), are ∙ (ap (objects_at problem v) split ∙ objects_front problem v ss ts))
+              (added is_same_object (objects_there problem v ss) (objects_there problem v ts), are ∙ (ap (objects_at problem v) split ∙ objects_both problem v ss ts))
 
       same : os ≡ all_met problem v
       same = go r.begins (least (length (all_objects problem)))

@@ -3,10 +3,7 @@ use Rattle.std.specs.Prelude.{◌≡◌, ℕ, ◌==◌, Bool, true, false, List,
 use Rattle.std.proofs.Common.{get_or}
 use Rattle.kr_mean.specs.Problem.{Problem, DomainObject, heap_number}
 use Rattle.kr_mean.specs.Heaps.{choice_at, slots_in}
-
--- one number more is marked
-abbrev pub IsMarked : List Bool → ℕ → List Bool → Type 0
-IsMarked old n new = (m : ℕ) → get_or new m false ≡ (if m == n then true else get_or old m false)
+use Rattle.kr_space_layout.specs.Marks.{IsMarked}
 
 -- an object that wasn't met is met, and its slots come after all others
 abbrev pub IsMeeting : Problem → List ℕ → DomainObject → Bool → List Bool → List ℕ → List Bool → List ℕ → Type 0

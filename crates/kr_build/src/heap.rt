@@ -119,7 +119,7 @@ pub fn build(alloc: Global, layout: &Layout, vector: &Vector) -> Result<Heap, No
 {
     let count = layout.domains();
     let Ok(domains) = u32::try_from(count) else {
-        return Err(NoMemory::at_limit(count as u64));
+        return Err(layout.at_domain_limit());
     };
     let mut heap = Heap::new(alloc);
     for domain in 0..domains {

@@ -2,14 +2,12 @@
 #![tactic(auto)]
 
 mod heap;
-mod marks;
 mod objects;
 mod structure;
 mod updates;
 mod walk;
 
 pub use heap::build;
-pub use marks::{is_marked, mark};
 pub use structure::structure_of;
 pub use updates::update_within;
 pub use walk::Walk;

@@ -7,10 +7,9 @@ ghost use Rattle.kr_mean.specs.WellFormed.{IsWellFormed};
 ghost use Rattle.kr_space_layout.specs.Bounds.{bare};
 ghost use Rattle.kr_build.specs.Visits.{IsVisit};
 
-use crate::marks::{is_marked, mark};
 use crate::objects::{Stretch, add_slots, slots_of};
 use kr_base::NoMemory;
-use kr_space_layout::Layout;
+use kr_space_layout::{Layout, is_marked, mark};
 use kr_vector::{Slot, Vector};
 use std::alloc::Global;
 use std::marker::Model;

@@ -1,13 +1,19 @@
 -- Between crates: the first place at which a class rule on names is broken.
-use Rattle.std.specs.Prelude.{◌≡◌, ℕ, ◌-◌, ◌<◌, ◌||◌, not, List, [], ◌∷◌, length, map, take, flat_map, codes, Option, Some, None, slice_index_or}
+use Rattle.std.specs.Prelude.{◌≡◌, ℕ, ◌-◌, ◌<◌, ◌||◌, not, List, [], ◌∷◌, length, map, take, flat_map, codes, Option, Some, None, slice_index_or, if◌then◌else◌}
 use Rattle.kr_base.specs.declared.place.Place.{Place}
 use Rattle.kr_ast.specs.Arena.{Arena}
 use Rattle.kr_ast.specs.Tree.{Nil}
 use Rattle.kr_classes_table.specs.Table.{Table, Class, Field, Method, super_of, line_within, ancestors, is_among, is_number, number_of, own_fields}
-use Rattle.kr_classes_table.specs.Rules.{Fault, break_if, each_class, is_name_among, least}
+use Rattle.kr_classes_table.specs.Rules.{Fault, break_if, each_class, is_earlier, is_name_among, least}
 use Rattle.kr_classes_names.specs.declared.class_names.Heads.{Heads}
 use Rattle.kr_classes_names.specs.Shown.{AreHeads}
 use Rattle.kr_classes_members.specs.Shown.{table_in}
+
+-- the earlier of two places, each of which may be absent
+abbrev pub sooner_place : Option Place → Option Place → Option Place
+sooner_place None o = o
+sooner_place (Some p) None = Some p
+sooner_place (Some p) (Some q) = if is_earlier q p then Some q else Some p
 
 -- the rule's fault at this place, if there is one
 abbrev pub fault_at : ℕ → Option Place → Option Fault

@@ -15,4 +15,5 @@ mod refusal;
 
 pub use class_table::{ClassTable, classes};
 pub use hierarchy::hierarchy_of;
+pub use places::earlier;
 pub use refusal::{ClassRefusal, ClassRule};

@@ -1,14 +1,15 @@
 // The first place at which a rule is broken.
 ghost use Rattle.std.specs.Prelude.{◌≡◌, ℕ};
 ghost use Rattle.kr_classes_table.specs.Rules.{break_if, least, sooner};
-ghost use Rattle.kr_classes.specs.Faults.{fault_at};
+ghost use Rattle.kr_classes.specs.Faults.{fault_at, sooner_place};
 
 use kr_base::Place;
 use kr_classes_table::is_earlier;
 
 /// The earlier of two places, if any.
-pub(crate) fn earlier(first: Option<Place>, place: Option<Place>) -> Option<Place>
-    ensures { (rule : ℕ) → fault_at rule result ≡ sooner (fault_at rule first) (fault_at rule place) }
+pub fn earlier(first: Option<Place>, place: Option<Place>) -> Option<Place>
+    ensures place { result ≡ sooner_place first place }
+    ensures fault { (rule : ℕ) → fault_at rule result ≡ sooner (fault_at rule first) (fault_at rule place) }
 {
     match (first, place) {
         (None, _) => place,

@@ -55,7 +55,7 @@ fn all_constants(alloc: Global, members: &Members) -> Result<Vec<Field>, NoMemor
 {
     let classes = members.len();
     if classes > 0xffff_ffff {
-        return Err(NoMemory::at_limit(classes as u64));
+        return Err(members.at_limit());
     }
     let mut constants = Vec::new(alloc);
     for class in 0..classes as u32 {

@@ -160,7 +160,7 @@ pub(crate) fn field_index(
 {
     let count = fields.len();
     if count >= 0xffff_ffff {
-        return Err(NoMemory::at_limit(count as u64));
+        return Err(NoMemory::at_limit(fields));
     }
     let mut index = Index::new(alloc);
     for (number, field) in fields.iter().enumerate() {

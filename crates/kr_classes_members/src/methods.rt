@@ -139,7 +139,7 @@ pub(crate) fn method_index(
 {
     let count = methods.len();
     if count >= 0xffff_ffff {
-        return Err(NoMemory::at_limit(count as u64));
+        return Err(NoMemory::at_limit(methods));
     }
     let mut index = Index::new(alloc);
     for (number, method) in methods.iter().enumerate() {

@@ -1,5 +1,5 @@
 // Queries on a class by its number: its superclass, its outer class, its own members, its line.
-ghost use Rattle.std.specs.Prelude.{◌≡◌, List, Some, None, IfSome, length, map, flat_map, All, find, bytes_eq, option_and_then, option_map, option_to_list, option_copied, slice_get};
+ghost use Rattle.std.specs.Prelude.{◌≡◌, ◌≤◌, List, Some, None, IfSome, length, map, flat_map, All, find, bytes_eq, option_and_then, option_map, option_to_list, option_copied, slice_get};
 ghost use Rattle.std.specs.List.{position_from};
 ghost use Rattle.kr_ast.specs.Arena.{Arena};
 ghost use Rattle.kr_classes_table.specs.Table.{class_at, own_fields, own_methods, super_of};
@@ -11,7 +11,7 @@ ghost use Rattle.kr_classes_members.specs.Kept.{AreMembers, class_count};
 use crate::fields::Field;
 use crate::members::{ClassMembers, Members};
 use crate::methods::{Constructor, Method};
-use kr_base::Place;
+use kr_base::{NoMemory, Place};
 use kr_classes_table::ClassId;
 
 impl ClassMembers {
@@ -43,6 +43,13 @@ impl Members {
         ensures all { (files : List Arena) → AreMembers files self.now → result ≡ length (table_in files).classes }
     {
         self.classes.len()
+    }
+
+    /// For more classes than have numbers.
+    pub fn at_limit(&self) -> NoMemory
+        requires { 4294967295 ≤ class_count self.now }
+    {
+        NoMemory::at_limit(self.classes.as_slice())
     }
 
     /// A class by its number.

@@ -24,12 +24,13 @@ struct Methods {
     first: Vec<u32>,
 }
 
-/// The count, if it is below 2^32 - 1.
-fn counted(count: usize) -> Result<u32, NoMemory>
-    ensures { IfOk result (λ number. (number ≡ count) × (number < 4294967295)) }
+/// How many there are, if it is below 2^32 - 1.
+fn counted<T>(items: &[T]) -> Result<u32, NoMemory>
+    ensures { IfOk result (λ number. (number ≡ length items.now) × (number < 4294967295)) }
 {
+    let count = items.len();
     if count >= 0xffff_ffff {
-        return Err(NoMemory::at_limit(count as u64));
+        return Err(NoMemory::at_limit(items));
     }
     Ok(count as u32)
 }
@@ -46,10 +47,10 @@ fn all_fields(alloc: Global, members: &Members) -> Result<Fields, NoMemory>
     let mut first = Vec::new(alloc);
     let count = members.len() as u32;
     for class in 0..count {
-        first.push(counted(all.len())?)?;
+        first.push(counted(all.as_slice())?)?;
         all.extend_from_slice(members.fields(class))?;
     }
-    counted(all.len())?;
+    counted(all.as_slice())?;
     Ok(Fields { all, first })
 }
 
@@ -65,10 +66,10 @@ fn all_methods(alloc: Global, members: &Members) -> Result<Methods, NoMemory>
     let mut first = Vec::new(alloc);
     let count = members.len() as u32;
     for class in 0..count {
-        first.push(counted(all.len())?)?;
+        first.push(counted(all.as_slice())?)?;
         all.extend_from_slice(members.methods(class))?;
     }
-    counted(all.len())?;
+    counted(all.as_slice())?;
     Ok(Methods { all, first })
 }
 
@@ -77,7 +78,7 @@ impl Roster {
     pub fn read(alloc: Global, members: &Members) -> Result<Roster, NoMemory>
         ensures { (files : List Arena) → AreMembers files members.now → IfOk result (λ roster. IsRoster files roster) }
     {
-        counted(members.len())?;
+        counted(members.classes.as_slice())?;
         let fields = all_fields(alloc, members)?;
         let methods = all_methods(alloc, members)?;
         Ok(Roster {

@@ -43,7 +43,7 @@ impl Heads {
         let headings = all_headings(alloc, trees)?;
         let count = headings.len();
         if count >= 0xffff_ffff {
-            return Err(NoMemory::at_limit(count as u64));
+            return Err(NoMemory::at_limit(headings.as_slice()));
         }
         let index = class_index(alloc, trees, &headings)?;
         Ok(Heads { headings, index })

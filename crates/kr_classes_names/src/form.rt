@@ -1,5 +1,5 @@
 // How a type is made: of none, of a class, of names, or of types that have numbers already.
-ghost use Rattle.std.specs.Prelude.{◌≡◌, ◌<◌, ◌⊎◌, ◌++◌, ◌∷◌, [], length, Some, slice_get, IfOk, OnErr};
+ghost use Rattle.std.specs.Prelude.{◌≡◌, ◌<◌, ◌≤◌, ◌⊎◌, ◌++◌, ◌∷◌, [], length, Some, slice_get, IfOk, OnErr};
 ghost use Rattle.kr_classes_names.specs.ListedTypes.{AreApart, IsAbsent};
 
 use indexmap::IndexSet;
@@ -56,6 +56,12 @@ impl Forms {
         ensures { result ≡ length self.now }
     {
         self.set.len()
+    }
+
+    pub(crate) fn at_limit(&self) -> NoMemory
+        requires { 4294967295 ≤ length self.now }
+    {
+        NoMemory::at_limit(self.set.as_slice())
     }
 
     /// The number of a form, which is added where it isn't there yet.

@@ -96,7 +96,7 @@ fn add_class(
 {
     let number = headings.len();
     if number >= 0xffff_ffff {
-        return Err(NoMemory::at_limit(number as u64));
+        return Err(NoMemory::at_limit(headings.as_slice()));
     }
     match class_heading(trees, at.file, None, at.node) {
         None => Ok(()),

@@ -16,4 +16,5 @@ pub use headings::Heading;
 pub use lists::items;
 pub use names::Index;
 pub use numbers::NodeTypes;
+pub use spellings::Spellings;
 pub use types::Types;

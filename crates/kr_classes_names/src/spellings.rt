@@ -1,5 +1,5 @@
-// The names that unknown types are spelled with, each once.
-ghost use Rattle.std.specs.Prelude.{◌≡◌, ◌<◌, [], length, Some, slice_get, slice_index_or, IfOk, OnErr};
+// Names, each once.
+ghost use Rattle.std.specs.Prelude.{◌≡◌, ◌<◌, [], length, map, Some, slice_get, slice_index_or, IfOk, OnErr};
 ghost use Rattle.kr_classes_names.specs.ListedTypes.{AreApart, IsGrown};
 
 use indexmap::IndexSet;
@@ -10,7 +10,7 @@ use std::marker::Model;
 
 /// Names by their numbers. Contracts see the list of them.
 #[derive(Drop)]
-pub(crate) struct Spellings {
+pub struct Spellings {
     set: IndexSet<Vec<u8>>,
 }
 
@@ -26,7 +26,7 @@ impl Model for Spellings {
 }
 
 impl Spellings {
-    pub(crate) fn new(alloc: Global) -> Self
+    pub fn new(alloc: Global) -> Self
         ensures { result ≡ [] }
     {
         Spellings {
@@ -35,22 +35,23 @@ impl Spellings {
     }
 
     /// The number of a name, which is added where it isn't there yet.
-    pub(crate) fn number(&mut self, alloc: Global, name: &[u8]) -> Result<NameId, NoMemory>
+    pub fn number(&mut self, alloc: Global, name: &[u8]) -> Result<NameId, NoMemory>
         ensures at { IfOk result (λ n. slice_get self.new n ≡ Some name.now) }
         ensures grown { IsGrown self.old self.new }
         ensures apart { AreApart self.old → AreApart self.new }
+        ensures first { IfOk result (λ n. self.old ≡ [] → n ≡ 0) }
     {
         let mut copy = Vec::new(alloc);
         copy.extend_from_slice(name)?;
         let (number, _) = self.set.insert_full(copy)?;
         if number >= 0xffff_ffff {
-            return Err(NoMemory::at_limit(number as u64));
+            return Err(NoMemory::at_limit(self.set.as_slice()));
         }
         Ok(number as u32)
     }
 
     /// The name of a number.
-    pub(crate) fn name(&self, number: NameId) -> &[u8]
+    pub fn name(&self, number: NameId) -> &[u8]
         requires { number < length self.now }
         ensures { result.now ≡ slice_index_or self.now number [] }
     {
@@ -58,5 +59,12 @@ impl Spellings {
             Some(name) => name.as_slice(),
             None => b"".as_slice(),
         }
+    }
+    /// The names in order.
+    pub fn as_slice(&self) -> &[Vec<u8>]
+        ensures all { map (λ name. name.items) result.now ≡ self.now }
+        ensures apart { AreApart self.now }
+    {
+        self.set.as_slice()
     }
 }

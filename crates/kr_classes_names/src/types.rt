@@ -1,5 +1,5 @@
 // All types by their numbers.
-ghost use Rattle.std.specs.Prelude.{◌≡◌, ◌<◌, ◌⊎◌, ◌∷◌, ◌++◌, [], Some, slice_get, slice_index_or, length, IfOk, OnErr};
+ghost use Rattle.std.specs.Prelude.{◌≡◌, ◌<◌, ◌≤◌, ◌⊎◌, ◌∷◌, ◌++◌, [], Some, slice_get, slice_index_or, length, IfOk, OnErr};
 ghost use Rattle.kr_classes_table.specs.Types.{IntType, BooleanType, NullType, VoidType, InferredType, UnknownType, is_same, is_known, is_element, is_collection, is_reference};
 ghost use Rattle.kr_classes_table.specs.Table.{applied};
 ghost use Rattle.kr_classes_names.specs.declared.form.TypeForm.TheVariants.{Int, Boolean, Null, Void, Inferred, Unknown, Applied};
@@ -83,6 +83,13 @@ impl Types {
         ensures { result ≡ count self.now }
     {
         self.forms.len()
+    }
+
+    /// For more types than have numbers.
+    pub fn at_limit(&self) -> NoMemory
+        requires { 4294967295 ≤ count self.now }
+    {
+        self.forms.at_limit()
     }
 
     /// The form of a type.
@@ -232,7 +239,7 @@ impl Types {
         let is_known = self.is_known_form(form);
         let number = add_form(&mut self.forms, &mut self.known, form, is_known)?;
         if number >= 0xffff_ffff {
-            return Err(NoMemory::at_limit(number as u64));
+            return Err(self.at_limit());
         }
         Ok(number as u32)
     }

@@ -48,6 +48,10 @@ closed : (files : List Tree) → IsClosed (table_of files)
 unfolding table_of
 closed files c d e = let hs = headings_of files in subst (λ n. d < n) (sym (long hs 0 hs)) (at_from hs 0 hs c d e)
 
+pub first_none : (x : Option Fault) (os : List (Option Fault)) → first_of (x ∷ os) ≡ None → x ≡ None
+first_none None os e = refl
+first_none (Some f) os e = absurd (cc (e))
+
 third_none : (x y z : Option Fault) (os : List (Option Fault)) → first_of (x ∷ y ∷ z ∷ os) ≡ None → z ≡ None
 third_none None None None os e = refl
 third_none None None (Some f) os e = absurd (cc (e))

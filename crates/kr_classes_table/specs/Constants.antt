@@ -63,7 +63,7 @@ class_meant t c _ = None
 
 -- ---- evaluation
 
--- a constant, by the place of its name, and its value
+-- a value that is known, by the place of the node that it is of: a constant's, by that of its name
 pub record Known : Type 0 where
   pub place : Place
   pub value : Value

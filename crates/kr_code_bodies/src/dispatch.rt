@@ -48,7 +48,7 @@ fn dispatch_row(
 {
     let count = members.len();
     if count > 0xffff_ffff {
-        return Err(NoMemory::at_limit(count as u64));
+        return Err(members.at_limit());
     }
     let mut row = Vec::new(alloc);
     for class in 0..count as u32 {

@@ -39,13 +39,13 @@ impl ObjectFields {
     {
         let count = members.len();
         if count > 0xffff_ffff {
-            return Err(NoMemory::at_limit(count as u64));
+            return Err(members.at_limit());
         }
         let mut classes = Vec::new(alloc);
         for class in 0..count as u32 {
             let fields = members.fields_of(alloc, class)?;
             if fields.len() > 0xffff_ffff {
-                return Err(NoMemory::at_limit(fields.len() as u64));
+                return Err(NoMemory::at_limit(fields.as_slice()));
             }
             classes.push(fields)?;
         }

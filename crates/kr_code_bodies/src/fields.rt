@@ -77,7 +77,7 @@ pub(crate) fn add_initialisers(
     let start = links.len();
     for initialiser in initialisers {
         if nodes.len() >= 0xffff_ffff {
-            return Err(NoMemory::at_limit(nodes.len() as u64));
+            return Err(NoMemory::at_limit(nodes.as_slice()));
         }
         links.push(nodes.len() as u32)?;
         nodes.push(CodeNode::Initialiser(*initialiser))?;

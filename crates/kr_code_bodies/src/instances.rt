@@ -20,13 +20,14 @@ use std::alloc::Global;
 fn heirs(alloc: Global, members: &Members, class: ClassId) -> Result<Vec<bool>, NoMemory>
     ensures { (files : List Arena) → AreMembers files members.now → IfOk result (λ row. IsRow false (λ c b. b ≡ is_below (table_in files) c class) row.items) }
 {
-    let columns = members.len().max(class as usize + 1);
-    if columns > 0xffff_ffff {
-        return Err(NoMemory::at_limit(columns as u64));
+    let count = members.len();
+    if count > 0xffff_ffff {
+        return Err(members.at_limit());
     }
+    let columns = count.max(class as usize + 1);
     let mut row = Vec::new(alloc);
-    for column in 0..columns as u32 {
-        row.push(members.is_below(column, class))?;
+    for column in 0..columns {
+        row.push(members.is_below(column as u32, class))?;
     }
     Ok(row)
 }
@@ -58,7 +59,7 @@ pub(crate) fn instances(
 {
     let count = types.len();
     if count > 0xffff_ffff {
-        return Err(NoMemory::at_limit(count as u64));
+        return Err(types.at_limit());
     }
     let mut rows = Vec::new(alloc);
     for number in 0..count as u32 {

@@ -46,7 +46,7 @@ fn add_values(
     let start = values.len() as u32;
     for field in fields {
         if values.len() >= 0xffff_ffff {
-            return Err(NoMemory::at_limit(values.len() as u64));
+            return Err(NoMemory::at_limit(values.as_slice()));
         }
         values.push(field_default(program, *field))?;
     }

@@ -76,7 +76,7 @@ pub(crate) fn declarator_at(
     let text = site.text(program, name);
     let number = own_number(program, site.at(initial), text);
     if number >= 0xffff_ffff {
-        return Err(NoMemory::at_limit(number as u64));
+        return Err(NoMemory::at_sum(number as u64, 1));
     }
     Ok(Declarator {
         local: number as u32,

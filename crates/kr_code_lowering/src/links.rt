@@ -44,7 +44,7 @@ impl Links {
     {
         let count = self.items.len();
         if count >= 0xffff_ffff {
-            return Err(NoMemory::at_limit(count as u64));
+            return Err(NoMemory::at_limit(self.items.as_slice()));
         }
         self.items.push(node)?;
         Ok(())

@@ -107,7 +107,7 @@ pub fn resolve_nodes(
 {
     let mut names = Names::new(alloc)?;
     let mut links = Links::new(alloc);
-    let mut nodes = Vec::new(alloc);
+    let mut nodes = Vec::with_capacity(alloc, program.nodes() as usize)?;
     let files = program.trees.len() as u32;
     for file in 0..files {
         add_file(

@@ -1,17 +1,16 @@
 -- The class table by the headings, and the numbers of names.
-use Rattle.std.proofs.Common.{◌≡◌, refl, sym, ap, ◌∙◌, subst, ℕ, zero, suc, ◌+◌, ◌^◌, ◌<◌, Bool, true, false, List, [], ◌∷◌, ◌++◌, length, map, take, get_or, append-nil, zero-add, bytes_eq, if◌then◌else◌, arith}
+use Rattle.std.proofs.Common.{◌≡◌, refl, sym, ap, ◌∙◌, subst, ℕ, zero, suc, ◌+◌, ◌^◌, ◌<◌, Bool, false, List, [], ◌∷◌, ◌++◌, length, map, take, get_or, append-nil, zero-add, bytes_eq, if◌then◌else◌, arith}
 use Rattle.std.specs.Prelude.{Option, Some, None, flat_map, option_and_then, option_to_list}
 use Rattle.std.proofs.lemmas.Bool.{or_parts}
 use Rattle.std.proofs.lemmas.List.{length-map, take_more}
 use Rattle.std.proofs.lemmas.Grind.{flat_map-append}
 use Rattle.std.proofs.lemmas.List.Folds.{flat_map-map}
-use Rattle.std.proofs.lemmas.Slice.Eq.{bytes_eq-Decides}
 use Rattle.kr_base.specs.declared.place.Place.{Place}
 use Rattle.kr_ast.specs.Arena.{Arena, root}
 use Rattle.kr_classes_table.specs.Table.{Table, Class, Method, Heading, class_at, class_of, classes_from, constructors_in, fields_in, headings_from, items, methods_in, number_from, number_of, own_fields, table_of}
-use Rattle.kr_classes_table.specs.Rules.{Fault, C1, C2, C3, C4, C5, C6, C7, C8, break_if, class_fault, each_class, first_of, is_name_among, least, repeated}
+use Rattle.kr_classes_table.specs.Rules.{Fault, C1, C2, C3, C4, C5, C6, C7, C8, break_if, class_fault, each_class, is_name_among, least, repeated}
 use Rattle.kr_classes_table.proofs.Least.{is_least}
-use Rattle.kr_classes_table.proofs.Tables.{long, unbroken}
+use Rattle.kr_classes_table.proofs.Tables.{long, unbroken, first_none}
 use Rattle.kr_classes_names.specs.Shown.{heading_shown}
 use Rattle.kr_classes.proofs.ByClass as ByClass
 use Rattle.kr_classes.proofs.ByClass.{at_index}
@@ -23,6 +22,7 @@ use Rattle.kr_classes_members.specs.Rosters.{methods_of_class}
 use Rattle.kr_code_members.specs.Nodes.{table}
 use Rattle.kr_code_members.specs.Walk.{heading_numbered, no_heading}
 use Rattle.kr_base.proofs.ListLemmas.{append_is_nil}
+use Rattle.kr_classes_names.proofs.Same.{itself}
 
 -- ---- the table's parts
 
@@ -71,10 +71,6 @@ methods_more p c d l =
 
 -- ---- a class's name has its number
 
-first_none : (x : Option Fault) (os : List (Option Fault)) → first_of (x ∷ os) ≡ None → x ≡ None
-first_none None os e = refl
-first_none (Some f) os e = absurd (cc (e))
-
 abbrev named_at : Heading → List ℕ × Place
 named_at h = (h.name, h.place)
 
@@ -87,12 +83,9 @@ unseen r seen (h ∷ hs) (suc c) d e l =
     let n = (get_or hs c d).name in
     (or_parts (bytes_eq n h.name) (is_name_among n seen) (unseen r (h.name ∷ seen) hs c d rest (omega (arith, l)))).1
 
-same_bytes : (n : List ℕ) → bytes_eq n n ≡ true
-same_bytes n = grind (arith, bytes_eq-Decides n n)
-
 numbered : (r : ℕ) (seen : List (List ℕ)) (k : ℕ) (hs : List Heading) (c : ℕ) (d : Heading) → repeated r seen (map named_at hs) ≡ [] → c < length hs → number_from k hs (get_or hs c d).name ≡ Some (k + c)
 numbered r seen k [] c d e l = absurd (omega (arith, l))
-numbered r seen k (h ∷ hs) zero d e l = ap (λ (b : Bool). if b then Some k else number_from (k + 1) hs h.name) (same_bytes h.name) ∙ ap (λ (n : ℕ). Some n) (omega arith)
+numbered r seen k (h ∷ hs) zero d e l = ap (λ (b : Bool). if b then Some k else number_from (k + 1) hs h.name) (itself h.name) ∙ ap (λ (n : ℕ). Some n) (omega arith)
 numbered r seen k (h ∷ hs) (suc c) d e l =
     let rest = (append_is_nil (break_if (is_name_among h.name seen) r h.place) (repeated r (h.name ∷ seen) (map named_at hs)) e).1 in
     let n = (get_or hs c d).name in

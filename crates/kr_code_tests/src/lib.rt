@@ -4,16 +4,4 @@
 #![tactic(auto)]
 
 #[cfg(test)]
-mod effects;
-#[cfg(test)]
-mod field;
-#[cfg(test)]
-mod found;
-#[cfg(test)]
-mod layers;
-#[cfg(test)]
-mod purity;
-#[cfg(test)]
-mod runnable;
-#[cfg(test)]
-mod tables;
+mod tests;

@@ -2,7 +2,7 @@
 ghost use Rattle.std.specs.Prelude.{◌≡◌, ◌==◌, [], ◌∷◌, ◌++◌, length, OnOk, OnErr, IfOk, true, MatchOption};
 ghost use Rattle.kr_mean.specs.Collections.{has_member, without};
 
-use crate::search::position_of;
+use crate::search::{position_of, remove_member};
 use kr_base::NoMemory;
 use kr_heap::Members;
 use kr_value::Value;
@@ -48,13 +48,7 @@ impl<'a> ListObj<'a> {
         ensures answer { result ≡ has_member member self.old.members.now }
         ensures removed { self.new.members.now ≡ without member self.old.members.now }
     {
-        match position_of(self.members.as_slice(), member) {
-            None => false,
-            Some(at) => {
-                self.members.remove(at);
-                true
-            }
-        }
+        remove_member(self.members, member)
     }
 
     /// Removes the first member; none if the list is empty.

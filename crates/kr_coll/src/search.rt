@@ -1,10 +1,11 @@
-// The position of a member.
+// Members that are the same as a value.
 ghost use Rattle.std.specs.Prelude.{◌≡◌, MatchOption};
 ghost use Rattle.std.specs.List.{position};
-ghost use Rattle.kr_mean.specs.Collections.{has_member as is_member, is_same_value};
+ghost use Rattle.kr_mean.specs.Collections.{has_member as is_member, is_same_value, without};
 ghost use Rattle.kr_value.specs.declared.value.Value.TheVariants.{Ref as Reference};
 ghost use Rattle.kr_coll.specs.Positions.{IsAbsent, IsFirstAt};
 
+use kr_heap::Members;
 use kr_value::{Obj, Value};
 
 /// Whether two values are the same.
@@ -71,4 +72,19 @@ pub fn has_member(members: &[Value], member: Value) -> bool
     ensures { result ≡ is_member member members.now }
 {
     position_of(members, member).is_some()
+}
+
+/// Removes the first member that is the same, and reports whether there was one.
+#[inline(always)]
+pub(crate) fn remove_member(members: &mut Members, member: Value) -> bool
+    ensures answer { result ≡ is_member member members.old }
+    ensures removed { members.new ≡ without member members.old }
+{
+    match position_of(members.as_slice(), member) {
+        None => false,
+        Some(at) => {
+            members.remove(at);
+            true
+        }
+    }
 }

@@ -3,7 +3,7 @@ ghost use Rattle.std.specs.Prelude.{◌≡◌, ◌==◌, length, not, OnOk, OnEr
 ghost use Rattle.kr_mean.specs.Collections.{has_member, without};
 ghost use Rattle.kr_coll.specs.Identities.{with_member};
 
-use crate::search::position_of;
+use crate::search::{position_of, remove_member};
 use kr_base::NoMemory;
 use kr_heap::Members;
 use kr_value::Value;
@@ -53,13 +53,7 @@ impl<'a> SetObj<'a> {
         ensures answer { result ≡ has_member member self.old.members.now }
         ensures removed { self.new.members.now ≡ without member self.old.members.now }
     {
-        match position_of(self.members.as_slice(), member) {
-            None => false,
-            Some(at) => {
-                self.members.remove(at);
-                true
-            }
-        }
+        remove_member(self.members, member)
     }
 
     #[inline(always)]

@@ -165,7 +165,7 @@ pub(crate) fn check_all(
     let mut number: u32 = 0;
     'nodes: for node in nodes {
         if number == u32::MAX {
-            return Err(NoMemory::at_limit(u64::from(number)));
+            return Err(NoMemory::at_limit(nodes));
         }
         number += 1;
         match check(alloc, code, world, stack, *node, Verdict::Ensures(number))? {

@@ -13,7 +13,7 @@ use crate::heap::{Kept, bring};
 use crate::start::begin;
 use crate::trial::test;
 use kr_base::NoMemory;
-use kr_judge::{Predicate, blank_world};
+use kr_judge::{Predicate, blank_world, release_made};
 use kr_judge_prepared::{Contract, Prepared};
 use kr_mean::Verdict;
 use kr_run_frames::Stack;
@@ -92,7 +92,7 @@ fn judge(
         fuel,
         &mut rooms.world,
     )?;
-    test(
+    let verdict = test(
         alloc,
         &predicate.code,
         root,
@@ -101,7 +101,10 @@ fn judge(
         &mut rooms.stack,
         &mut rooms.olds,
         &mut rooms.arguments,
-    )
+    );
+    rooms.stack.release();
+    release_made(alloc, &mut rooms.world.made);
+    verdict
 }
 
 /// The verdict on a candidate, with so much fuel, where a method is tested.

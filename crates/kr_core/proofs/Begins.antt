@@ -6,12 +6,12 @@ use Rattle.kr_base.specs.declared.span.Span.{Span}
 use Rattle.kr_base.specs.declared.entry.Entry.{Entry}
 use Rattle.kr_base.specs.Bounds.{less}
 use Rattle.kr_base.specs.Entries.{within, NoneSpent}
-use Rattle.kr_base.proofs.Bounds.{irreflexive, transitive}
+use Rattle.kr_base.proofs.Bounds.{irreflexive, transitive, asymmetric}
 use Rattle.kr_core.specs.declared.segment.Segment.{Segment}
 use Rattle.kr_base.specs.Causes.{capped}
 use Rattle.kr_core.specs.Openings.{AscendBetween, AreInside, untouched, segments_at, end_of, opening}
 use Rattle.kr_core.specs.Kept.{first_after}
-use Rattle.kr_core.proofs.Spent.{not_both, within-none}
+use Rattle.kr_core.proofs.Spent.{within-none}
 use Rattle.kr_core.proofs.Chains.{IsLink, Lacks, FreeIs, Chain}
 use Rattle.kr_core.proofs.Runs.{Holds}
 
@@ -22,10 +22,10 @@ AscendTo a (c ∷ cs) e = (less a (At c) ≡ true) × AscendTo (At c) cs e
 
 ascend-between : (a upto : Bound) (cuts : List (List ℕ)) → less upto a ≡ false → AscendBetween a cuts upto → AscendTo a cuts upto
 ascend-between a upto [] n h = n
-ascend-between a upto (c ∷ cs) n h = (h.0, ascend-between (At c) upto cs (not_both (At c) upto h.1) h.2)
+ascend-between a upto (c ∷ cs) n h = (h.0, ascend-between (At c) upto cs (asymmetric (At c) upto h.1) h.2)
 
 ascend-end : (a upto : Bound) (cuts : List (List ℕ)) (t : Bool) → less a upto ≡ t → AscendBetween a cuts upto → AscendTo a cuts (cond t upto a)
-ascend-end a upto cuts true is h = ascend-between a upto cuts (not_both a upto is) h
+ascend-end a upto cuts true is h = ascend-between a upto cuts (asymmetric a upto is) h
 ascend-end a upto [] false is h = irreflexive a
 ascend-end a upto (c ∷ cs) false is h = absurd (cc (sym is ∙ transitive a (At c) upto h.0 h.1))
 
@@ -51,7 +51,7 @@ opens {R} P es next k a e (c ∷ cs) last f room fit =
     let link : IsLink P es next a (untouched k a (At c)) = record {
       adjoins = refl;
       low = irreflexive a;
-      high = not_both a (At c) fit.0;
+      high = asymmetric a (At c) fit.0;
       remains = λ q. absurd (cc (q));
       numbered = omega (arith, room);
       tried = λ p. ap (λ (xs : List (Entry R)). capped (length xs)) (sym none);

@@ -7,7 +7,7 @@ use Rattle.kr_base.specs.declared.span.Bound.TheVariants.{At}
 use Rattle.kr_base.specs.declared.entry.Entry.{Entry}
 use Rattle.kr_base.specs.Bounds.{less}
 use Rattle.kr_base.specs.Entries.{Ascends, within}
-use Rattle.kr_base.proofs.Bounds.{irreflexive, not_above}
+use Rattle.kr_base.proofs.Bounds.{irreflexive, not_above, asymmetric}
 use Rattle.kr_core.specs.declared.segment.Segment.{Segment}
 use Rattle.kr_core.specs.declared.event.Event.{Event}
 use Rattle.kr_core.specs.declared.event.Event.TheVariants.{Take, Steal, Report, GiveUp, Drain, StopAt, Look}
@@ -15,7 +15,7 @@ use Rattle.kr_core.specs.declared.event.Reply.{Reply}
 use Rattle.kr_core.specs.States.{State, is_closed, segment_of, change}
 use Rattle.kr_core.specs.Steps.{Step, may_report, owned, lowered, stolen, scanned, left, stopped}
 use Rattle.kr_core.specs.Beside.{grown, parted, fronts, emptied, first_alone, beside, gathered, Others, Measures}
-use Rattle.kr_core.proofs.Spent.{not_both, within-append, within-none}
+use Rattle.kr_core.proofs.Spent.{within-append, within-none}
 use Rattle.kr_core.proofs.Chains.{Chain}
 use Rattle.kr_core.proofs.Steps.{reaches}
 use Rattle.kr_core.proofs.Runs.{Holds, closed-mark}
@@ -57,7 +57,7 @@ joined-reach : {R M : Type 0} (op : M → M → M) (none : M) (val : List (Entry
     → less mark a ≡ false → less mark reach ≡ true → x ≡ val (within a mark es) → more ≡ val (within mark reach es) → op x more ≡ val (within a reach es)
 joined-reach {R} {M} op none val m es a mark reach x more asc low up is more_is =
     ap (λ (y : M). op y more) is ∙ (ap (λ (y : M). op (val (within a mark es)) y) more_is
-    ∙ (sym (m.joins (within a mark es) (within mark reach es)) ∙ ap val (within-append a mark reach es asc low (not_both mark reach up))))
+    ∙ (sym (m.joins (within a mark es) (within mark reach es)) ∙ ap val (within-append a mark reach es asc low (asymmetric mark reach up))))
 
 -- what is known of the segment that a report is of
 abbrev Reported : {R M : Type 0} → (List (Entry R) → M) → List (Entry R) → Bound → M → Segment → Type 0

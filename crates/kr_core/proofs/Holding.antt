@@ -3,6 +3,7 @@ use Rattle.std.proofs.Common.{◌≡◌, ◌≢◌, ℕ, ◌+◌, ◌<◌, List,
 use Rattle.std.specs.Prelude.{◌-◌, ◌^◌, nat_lt, nat_le, if◌then◌else◌}
 use Rattle.std.specs.Option.{option_map}
 use Rattle.std.proofs.lemmas.Bool.Decides.{nat_tests}
+use Rattle.std.proofs.lemmas.Bool.{eqb-true, not-true, eq-eqb}
 use Rattle.kr_base.specs.declared.span.Bound.{Bound}
 use Rattle.kr_base.specs.declared.span.Bound.TheVariants.{At}
 use Rattle.kr_base.specs.Bounds.{less, is_cut}
@@ -18,19 +19,13 @@ use Rattle.kr_core.specs.Openings.{segments_at, end_of, opening}
 use Rattle.kr_core.specs.Steps.{Step, after, may_take, may_steal, may_report, may_give_up, may_stop, owned, lowered, stolen, scanned, left, stopped, IsLease, IsLeased, IsReported}
 use Rattle.kr_core.specs.Kept.{Runs, NumbersDiffer, IsKept}
 use Rattle.kr_core.specs.Leases.{holder_after, holder_of, ends_after, ends_of, upto_of, opening_end, IsToldBy, OwnersLaw, IsHeld, IsFree, IsGranted, GoesOn, Leases, LeasesLaw, ExclusiveLaw}
-use Rattle.kr_core.proofs.Bools.{and-left, and-right, not-true, owner_known}
+use Rattle.kr_core.proofs.Bools.{and-left, and-right, owner_known}
 use Rattle.kr_core.proofs.Chains.{Change}
 use Rattle.kr_core.proofs.Places.{segment_of_change, segment_of_cut}
 use Rattle.kr_core.proofs.Ends.{kept_law}
 use Rattle.kr_core.proofs.Keeping.{step_keeps}
 
 -- lists of segments
-
-equal : (a b : ℕ) → (a == b) ≡ true → a ≡ b
-equal a b h = grind (arith, nat_tests)
-
-is-equal : (a b : ℕ) → a ≡ b → (a == b) ≡ true
-is-equal a b h = grind (arith, nat_tests)
 
 is-other : (a b : ℕ) → (a ≡ b → ⊥) → (a == b) ≡ false
 is-other a b h = grind (arith, nat_tests)
@@ -47,7 +42,7 @@ found-number : (n : ℕ) (ss : List Segment) (s : Segment) → segment_of n ss �
 found-number n [] s found = absurd (cc (found))
 found-number n (t ∷ ss) s found =
     elim (t.number == n) as (λ b. (t.number == n) ≡ b → cond b (Some t) (segment_of n ss) ≡ Some s → s.number ≡ n) [
-      | true ↦ λ e q. let same : t ≡ s = cc (q) in subst (λ (u : Segment). u.number ≡ n) same (equal t.number n e)
+      | true ↦ λ e q. let same : t ≡ s = cc (q) in subst (λ (u : Segment). u.number ≡ n) same (eqb-true t.number n e)
       | false ↦ λ e q. found-number n ss s q
     ] refl found
 
@@ -67,10 +62,10 @@ each-change P Q n f s (t ∷ ss) differ found other here h =
     elim (t.number == n) as (λ b. (t.number == n) ≡ b → cond b (Some t) (segment_of n ss) ≡ Some s → Each Q (cond b (f t ss) (t ∷ change n f ss))) [
       | true ↦ λ e q.
           let same : t ≡ s = cc (q) in
-          let at : t.number ≡ n = equal t.number n e in
+          let at : t.number ≡ n = eqb-true t.number n e in
           let rest : Each Q ss = each-zip (λ u. u.number ≢ t.number) P Q (λ u d p. other u (λ x. d (x ∙ sym at)) p) ss differ.0 h.1 in
           subst (λ (u : Segment). Each Q (f u ss)) (sym same) (here ss rest)
-      | false ↦ λ e q. (other t (λ x. absurd (cc (sym e ∙ is-equal t.number n x))) h.0, each-change P Q n f s ss differ.1 q other here h.1)
+      | false ↦ λ e q. (other t (λ x. absurd (cc (sym e ∙ eq-eqb t.number n x))) h.0, each-change P Q n f s ss differ.1 q other here h.1)
     ] refl found
 
 each-left : (P : Segment → Type 0) → ((s : Segment) → P s → P (record s { rows = 0 })) → (ss : List Segment) → Each P ss → Each P (left ss)
@@ -110,7 +105,7 @@ told-remains true o owner h own = (refl, h)
 told-remains false o owner h own = absurd (cc (sym own ∙ ap is_owned h))
 
 if-same : {A : Type 0} (n m : ℕ) (a b : A) → n ≡ m → cond (n == m) a b ≡ a
-if-same n m a b h = ap (λ (c : Bool). cond c a b) (is-equal n m h)
+if-same n m a b h = ap (λ (c : Bool). cond c a b) (eq-eqb n m h)
 
 if-other : {A : Type 0} (n m : ℕ) (a b : A) → (n ≡ m → ⊥) → cond (n == m) a b ≡ b
 if-other n m a b h = ap (λ (c : Bool). cond c a b) (is-other n m h)
@@ -223,7 +218,7 @@ told-after : (holder : ℕ → Option ℕ) (ends : ℕ → Bound) (old : State) 
 told-after holder ends old (Take seat n) reply new k step h = told-take holder ends seat n old.segments (segment_of n old.segments) k.differ refl step.fit h
 told-after holder ends old (Steal seat victim c n) reply new k step h =
     let may = and-left (may_steal c (segment_of victim old.segments)) ((n == old.next) && nat_lt n (2 ^ 64 - 1)) step.fit in
-    let same : n ≡ old.next = equal n old.next (and-left (n == old.next) _ (and-right (may_steal c (segment_of victim old.segments)) ((n == old.next) && nat_lt n (2 ^ 64 - 1)) step.fit)) in
+    let same : n ≡ old.next = eqb-true n old.next (and-left (n == old.next) _ (and-right (may_steal c (segment_of victim old.segments)) ((n == old.next) && nat_lt n (2 ^ 64 - 1)) step.fit)) in
     told-steal holder ends seat victim c n old.segments (segment_of victim old.segments) k.differ (subst (λ (m : ℕ). Each (λ g. g.number < m) old.segments) (sym same) k.numbered) refl may h
 told-after holder ends old (Report seat n reach rows tried spent) reply new k step h = told-report holder ends seat n reach rows tried spent old.segments (segment_of n old.segments) k.differ refl step.fit h
 told-after holder ends old (GiveUp seat n) reply new k step h = told-give_up holder ends seat n old.segments (segment_of n old.segments) k.differ refl step.fit h
@@ -251,7 +246,7 @@ told-runs holder ends old (event ∷ events) new k runs h =
 each-own : (ss : List Segment) → NumbersDiffer ss → Each (λ g. segment_of g.number ss ≡ Some g) ss
 each-own [] d = tt
 each-own (s ∷ ss) d = (
-  ap (λ (b : Bool). cond b (Some s) (segment_of s.number ss)) (is-equal s.number s.number refl),
+  ap (λ (b : Bool). cond b (Some s) (segment_of s.number ss)) (eq-eqb s.number s.number refl),
   each-zip (λ t. t.number ≢ s.number) (λ t. segment_of t.number ss ≡ Some t) (λ t. segment_of t.number (s ∷ ss) ≡ Some t)
       (λ t other own. ap (λ (b : Bool). cond b (Some s) (segment_of t.number ss)) (is-other s.number t.number (λ x. other (sym x))) ∙ own) ss d.0 (each-own ss d.1),
 )
@@ -278,7 +273,7 @@ owners_law span cuts events new inside runs =
 
 owner-is : (seat : ℕ) (o : Option ℕ) → is_owned_by seat o ≡ true → o ≡ Some seat
 owner-is seat None h = absurd (cc (h))
-owner-is seat (Some other) h = ap (λ (n : ℕ). Some n) (equal other seat h)
+owner-is seat (Some other) h = ap (λ (n : ℕ). Some n) (eqb-true other seat h)
 
 owner-none : (o : Option ℕ) → is_owned o ≡ false → o ≡ None
 owner-none None h = refl
@@ -321,7 +316,7 @@ rest-found seat victim c n (t ∷ ss) s numbered found =
       | true ↦ λ q.
           let same : t ≡ s = cc (q) in
           ap (λ (b : Bool). cond b (Some (lowered c t)) (cond (n == n) (Some (stolen seat c n t)) (segment_of n ss))) apart
-          ∙ (ap (λ (b : Bool). cond b (Some (stolen seat c n t)) (segment_of n ss)) (is-equal n n refl) ∙ ap (λ (u : Segment). Some (stolen seat c n u)) same)
+          ∙ (ap (λ (b : Bool). cond b (Some (stolen seat c n t)) (segment_of n ss)) (eq-eqb n n refl) ∙ ap (λ (u : Segment). Some (stolen seat c n u)) same)
       | false ↦ λ q.
           ap (λ (b : Bool). cond b (Some t) (segment_of n (change victim (λ u rest. lowered c u ∷ (stolen seat c n u ∷ rest)) ss))) apart ∙ rest-found seat victim c n ss s numbered.1 q
     ] found
@@ -367,7 +362,7 @@ leases : (old : State) (event : Event) (reply : Reply) (new : State) → IsKept 
 leases old (Take seat n) reply new k step = leases-take seat n old.segments (segment_of n old.segments) new reply refl step.fit (ap (λ (s : State). s.segments) step.new_is) step.reply_is
 leases old (Steal seat victim c n) reply new k step =
     let may = and-left (may_steal c (segment_of victim old.segments)) ((n == old.next) && nat_lt n (2 ^ 64 - 1)) step.fit in
-    let same : n ≡ old.next = equal n old.next (and-left (n == old.next) _ (and-right (may_steal c (segment_of victim old.segments)) ((n == old.next) && nat_lt n (2 ^ 64 - 1)) step.fit)) in
+    let same : n ≡ old.next = eqb-true n old.next (and-left (n == old.next) _ (and-right (may_steal c (segment_of victim old.segments)) ((n == old.next) && nat_lt n (2 ^ 64 - 1)) step.fit)) in
     leases-steal seat victim c n old.segments (segment_of victim old.segments) new reply (subst (λ (m : ℕ). Each (λ g. g.number < m) old.segments) (sym same) k.numbered) refl may
     (ap (λ (s : State). s.segments) step.new_is) step.reply_is
 leases old (Report seat n reach rows tried spent) reply new k step =
@@ -395,7 +390,7 @@ other-owner seat other o is apart = ap (is_owned_by other) is ∙ is-other seat 
 pub exclusive_law : ExclusiveLaw
 exclusive_law seat n s lease h =
     let g = h.segment in
-    let own : is_owned_by seat g.owner ≡ true = ap (is_owned_by seat) h.owner ∙ is-equal seat seat refl in
+    let own : is_owned_by seat g.owner ≡ true = ap (is_owned_by seat) h.owner ∙ eq-eqb seat seat refl in
     record {
       reports = λ reach rows tried spent above below counts.
           ap (may_report seat reach rows tried spent) h.found

@@ -4,6 +4,7 @@ pub mod Fronts
 pub mod LeaseFacts
 pub mod Reports
 pub mod Openings
+pub mod Cuts
 pub mod Spent
 pub mod Chains
 pub mod Steps

@@ -3,7 +3,7 @@ use Rattle.std.proofs.Common.{◌≡◌, ℕ, ◌+◌, List, [], ◌∷◌, ◌+
 use Rattle.std.specs.Prelude.{if◌then◌else◌, map}
 use Rattle.std.specs.List.{sum_by, flat_map}
 use Rattle.std.proofs.lemmas.List.Sums.{sum_by-cons, sum_by-append}
-use Rattle.std.proofs.lemmas.Bool.Decides.{nat_tests}
+use Rattle.std.proofs.lemmas.Bool.{eqb-true}
 use Rattle.kr_base.specs.declared.span.Bound.{Bound}
 use Rattle.kr_base.specs.declared.span.Bound.TheVariants.{At}
 use Rattle.kr_base.specs.declared.entry.Entry.{Entry}
@@ -129,16 +129,13 @@ measures-front es from d e [] xs same h = h
 measures-front es from d e (s ∷ ss) [] same h = h
 measures-front es from d e (s ∷ ss) (x ∷ xs) same h = (same x ∙ h.0, h.1)
 
-eqb-eq : (a b : ℕ) → (a == b) ≡ true → a ≡ b
-eqb-eq a b h = grind (arith, nat_tests)
-
 out-same : (old : State) (event : Event) (d : ℕ) → fits old event ≡ true → (y : ℕ) → plus (d + drains event) y ≡ plus (taken_out plus 0 old event (rows_in old.segments) d) y
 out-same old (Take seat n) d fit y = omega arith
 out-same old (Steal seat victim c n) d fit y = omega arith
 out-same old (Report seat n reach rows tried spent) d fit y = omega arith
 out-same old (GiveUp seat n) d fit y = omega arith
 out-same old (Drain rows) d fit y =
-    let is : rows ≡ capped (sum_by (λ g. g.rows) (front old.segments)) = eqb-eq rows _ fit in
+    let is : rows ≡ capped (sum_by (λ g. g.rows) (front old.segments)) = eqb-true rows _ fit in
     let sum = front-rows old.segments in
     omega (arith, is, sum)
 out-same old (StopAt c) d fit y = omega arith

@@ -4,6 +4,7 @@ use Rattle.std.specs.Prelude.{nat_lt, ◌||◌, if◌then◌else◌}
 use Rattle.std.specs.List.{sum_by}
 use Rattle.std.proofs.lemmas.List.Sums.{sum_by-cons}
 use Rattle.std.proofs.lemmas.Bool.Decides.{nat_tests}
+use Rattle.std.proofs.lemmas.Bool.{eqb-true, not-true}
 use Rattle.kr_base.specs.declared.span.Bound.{Bound}
 use Rattle.kr_base.specs.declared.span.Bound.TheVariants.{At}
 use Rattle.kr_base.specs.declared.entry.Entry.{Entry}
@@ -19,13 +20,10 @@ use Rattle.kr_core.specs.States.{State, has_remainder, is_owned, is_closed, segm
 use Rattle.kr_core.specs.Steps.{Step, may_take, may_steal, may_report, may_give_up, may_stop, gone, left, stopped, owned, scanned, lowered, stolen}
 use Rattle.kr_core.specs.Kept.{Runs}
 use Rattle.kr_core.specs.Counts.{EndsSpent, TellsFrom, IsHonest, HonestRuns}
-use Rattle.kr_core.proofs.Bools.{and-left, and-right, not-true, owner_known}
+use Rattle.kr_core.proofs.Bools.{and-left, and-right, owner_known}
 use Rattle.kr_core.proofs.Spent.{within-append, within-length, NoneSpent-append}
 use Rattle.kr_core.proofs.Chains.{IsLink, Lacks, EndsAs, Chain, Front}
 use Rattle.kr_core.proofs.Steps.{kept-take, kept-give_up, kept-steal, reaches, kept-report, kept-report_spent, chain-up}
-
-eqb-eq : (a b : ℕ) → (a == b) ≡ true → a ≡ b
-eqb-eq a b h = grind (arith, nat_tests)
 
 -- a closed segment's mark is its upto
 pub closed-mark : {R : Type 0} (P : Type 0) (es : List (Entry R)) (next : ℕ) (a : Bound) (s : Segment) → IsLink P es next a s → is_closed s ≡ true → s.mark ≡ s.upto
@@ -149,7 +147,7 @@ steal-at : {R : Type 0} (P : Type 0) (es : List (Entry R)) (from top : Bound) (o
 steal-at P es from top old seat victim c n None found may k = absurd (cc (may))
 steal-at P es from top old seat victim c n (Some s) found may k =
     let cut = and-left (may_steal c (Some s)) ((n == old.next) && nat_lt n (2 ^ 64 - 1)) may in
-    let same : n ≡ old.next = eqb-eq n old.next (and-left (n == old.next) _ (and-right (may_steal c (Some s)) ((n == old.next) && nat_lt n (2 ^ 64 - 1)) may)) in
+    let same : n ≡ old.next = eqb-true n old.next (and-left (n == old.next) _ (and-right (may_steal c (Some s)) ((n == old.next) && nat_lt n (2 ^ 64 - 1)) may)) in
     let own = and-left (is_owned s.owner) _ cut in
     let ends = and-right (is_owned s.owner) (less s.mark (At c) && less (At c) s.upto) cut in
     subst (λ (m : ℕ). Holds P es from top (record old { segments = change victim (λ t ss. lowered c t ∷ (stolen seat c m t ∷ ss)) old.segments; next = old.next + 1 })) (sym same)

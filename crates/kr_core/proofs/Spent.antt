@@ -7,13 +7,9 @@ use Rattle.kr_base.specs.declared.span.Bound.TheVariants.{At}
 use Rattle.kr_base.specs.declared.entry.Entry.{Entry}
 use Rattle.kr_base.specs.Bounds.{less}
 use Rattle.kr_base.specs.Entries.{Ascends, within, through_spent, NoneSpent}
-use Rattle.kr_base.proofs.Bounds.{irreflexive, transitive, not_above_less}
+use Rattle.kr_base.proofs.Bounds.{not_above_less}
 use Rattle.kr_base.proofs.Spans.{within_two, through_append}
 use Rattle.kr_core.specs.Counts.{EndsSpent, IsSpentFlag}
-
-pub not_both : (a b : Bound) → less a b ≡ true → less b a ≡ false
-not_both a b p =
-    elim (less b a) as (λ t. less b a ≡ t → t ≡ false) [ true ↦ λ q. absurd (cc (sym (transitive a b a p q) ∙ irreflexive a)) | false ↦ λ q. refl ] refl
 
 pub within-append : {R : Type 0} (a m b : Bound) (es : List (Entry R)) → Ascends es → less m a ≡ false → less b m ≡ false
     → within a m es ++ within m b es ≡ within a b es

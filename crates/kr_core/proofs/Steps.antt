@@ -1,19 +1,20 @@
 -- Each event keeps what holds of the segments: Take, GiveUp, Steal and Report.
 use Rattle.std.proofs.Common.{◌≡◌, ℕ, ◌+◌, ◌<◌, ◌≤◌, List, [], ◌∷◌, Bool, true, false, ◌&&◌, not, ◌==◌, length, refl, sym, ap, ◌∙◌, subst, arith, Option, Some, None, cond}
+use Rattle.std.proofs.lemmas.Bool.{not-true, not-false}
 use Rattle.kr_base.specs.declared.span.Bound.{Bound}
 use Rattle.kr_base.specs.declared.span.Bound.TheVariants.{At}
 use Rattle.kr_base.specs.declared.entry.Entry.{Entry}
 use Rattle.kr_base.specs.Bounds.{less}
 use Rattle.kr_base.specs.Entries.{Ascends, within, NoneSpent}
-use Rattle.kr_base.proofs.Bounds.{irreflexive, not_above}
+use Rattle.kr_base.proofs.Bounds.{irreflexive, not_above, asymmetric}
 use Rattle.kr_core.specs.declared.segment.Segment.{Segment}
 use Rattle.kr_base.specs.Causes.{capped}
 use Rattle.kr_core.specs.States.{has_remainder, is_owned, is_owned_by, is_closed, segment_of, change}
 use Rattle.kr_core.specs.Steps.{may_report, owned, lowered, stolen, scanned}
 use Rattle.kr_core.specs.Kept.{first_after}
 use Rattle.kr_core.specs.Counts.{EndsSpent}
-use Rattle.kr_core.proofs.Bools.{and-left, and-right, not-true, not-false, owner_known}
-use Rattle.kr_core.proofs.Spent.{not_both, within-append, within-length, within-none, NoneSpent-append, EndsSpent-append}
+use Rattle.kr_core.proofs.Bools.{and-left, and-right, owner_known}
+use Rattle.kr_core.proofs.Spent.{within-append, within-length, within-none, NoneSpent-append, EndsSpent-append}
 use Rattle.kr_core.proofs.Chains.{IsLink, Lacks, Free, EndsAs, Chain, Front, Change, chain-change}
 
 -- another segment for the last one
@@ -120,16 +121,16 @@ reaches seat s reach rows tried spent h =
 reach-tried : {R : Type 0} (P : Type 0) (es : List (Entry R)) (next : ℕ) (a : Bound) (s : Segment) (reach : Bound) (tried : ℕ) → Ascends es → IsLink P es next a s → less s.mark reach ≡ true
     → P → tried ≡ capped (length (within s.mark reach es)) → capped (s.tried + tried) ≡ capped (length (within s.after reach es))
 reach-tried P es next a s reach tried asc l above p is =
-    omega (arith, l.tried p, is, within-length s.after s.mark reach es asc l.low (not_both s.mark reach above))
+    omega (arith, l.tried p, is, within-length s.after s.mark reach es asc l.low (asymmetric s.mark reach above))
 
 reach-free : {R : Type 0} (P : Type 0) (es : List (Entry R)) (next : ℕ) (a : Bound) (s : Segment) (reach : Bound) → Ascends es → IsLink P es next a s → less s.mark reach ≡ true
     → NoneSpent (within s.after s.mark es) → NoneSpent (within s.mark reach es) → NoneSpent (within s.after reach es)
 reach-free {R} P es next a s reach asc l above f g =
-    subst (λ (xs : List (Entry R)). NoneSpent xs) (within-append s.after s.mark reach es asc l.low (not_both s.mark reach above))
+    subst (λ (xs : List (Entry R)). NoneSpent xs) (within-append s.after s.mark reach es asc l.low (asymmetric s.mark reach above))
     (NoneSpent-append (within s.after s.mark es) (within s.mark reach es) f g)
 
 reach-low : (s : Segment) (reach : Bound) → less s.mark s.after ≡ false → less s.mark reach ≡ true → less reach s.after ≡ false
-reach-low s reach low above = not_above s.after s.mark reach low (not_both s.mark reach above)
+reach-low s reach low above = not_above s.after s.mark reach low (asymmetric s.mark reach above)
 
 -- who owns the segment after a report has something left to scan
 remains-behind : (reach : Bound) (s : Segment) (b : Bool) → not (less reach s.upto) ≡ b → is_owned (cond b None s.owner) ≡ true → less reach s.upto ≡ true
@@ -206,7 +207,7 @@ end-here {R} P es next flag s e reach rows tried asc r count ends last a ss h =
             refl,
             (
               ap not stays,
-              λ p. subst (λ (xs : List (Entry R)). EndsSpent reach xs) (within-append s.after s.mark reach es asc l.low (not_both s.mark reach r.above))
+              λ p. subst (λ (xs : List (Entry R)). EndsSpent reach xs) (within-append s.after s.mark reach es asc l.low (asymmetric s.mark reach r.above))
                   (EndsSpent-append reach (within s.after s.mark es) (within s.mark reach es) (f p) (ends p)),
             ),
           ),
@@ -249,7 +250,7 @@ cut-here {R} P es next flag s e seat c own low high last a ss h =
     let rest = more-numbers P es next flag (Some s) s.upto ss e h.1.1.1 in (
       h.0,
       (
-        record { adjoins = l.adjoins; low = l.low; high = not_both s.mark (At c) low; remains = λ _. low; numbered = omega (arith, l.numbered); tried = l.tried },
+        record { adjoins = l.adjoins; low = l.low; high = asymmetric s.mark (At c) low; remains = λ _. low; numbered = omega (arith, l.numbered); tried = l.tried },
         (
           (λ q. absurd (omega (arith, l.numbered, q)), h.1.1.0),
           (
@@ -258,7 +259,7 @@ cut-here {R} P es next flag s e seat c own low high last a ss h =
               record {
                 adjoins = refl;
                 low = irreflexive (At c);
-                high = not_both (At c) s.upto high;
+                high = asymmetric (At c) s.upto high;
                 remains = λ _. high;
                 numbered = omega arith;
                 tried = λ p. ap (λ (xs : List (Entry R)). capped (length xs)) (sym none);

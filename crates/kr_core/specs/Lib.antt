@@ -1,5 +1,6 @@
 pub mod States
 pub mod Openings
+pub mod Cutting
 pub mod Steps
 pub mod Reaches
 pub mod Refusals

@@ -3,6 +3,7 @@
 #![tactic(auto)]
 
 mod bounds;
+mod cutting;
 mod edits;
 mod event;
 mod fits;
@@ -12,6 +13,7 @@ mod machine;
 mod opens;
 mod segment;
 
+pub use cutting::{cuts_for, first_level};
 pub use event::{Event, Lease, Reply};
 pub use laws::{
     counting_law, exclusive_law, growth_law, kept_law, leases_law, owners_law, replay_law,

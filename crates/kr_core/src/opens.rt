@@ -53,9 +53,9 @@ pub fn segments_at(
     Ok(segments)
 }
 
-// Whether a cut is above one and below a bound.
+/// Whether a cut is above one and below a bound.
 #[tactic(auto, unfolding(kr_base::specs::Bounds::less))]
-fn is_between(begin: &Cut, cut: &Cut, upto: &Bound) -> bool
+pub(crate) fn is_between(begin: &Cut, cut: &Cut, upto: &Bound) -> bool
     ensures { result ≡ (less (Bound.At begin.now) (Bound.At cut.now) && less (Bound.At cut.now) upto.now) }
 {
     begin.is_below(cut) && upto.is_above_cut(cut)

@@ -1,16 +1,15 @@
 -- Spans that adjoin.
-use Rattle.std.proofs.Common.{◌≡◌, ◌⊎◌, inl, inr, ℕ, zero, suc, ◌+◌, ◌<◌, ◌≤◌, List, [], ◌∷◌, ◌++◌, Bool, true, false, ◌&&◌, not, refl, sym, ap, ◌∙◌, subst, arith}
-use Rattle.std.specs.Prelude.{◌||◌}
+use Rattle.std.proofs.Common.{◌≡◌, ◌⊎◌, inl, inr, ℕ, ◌+◌, ◌<◌, List, [], ◌∷◌, ◌++◌, Bool, true, false, ◌&&◌, not, refl, sym, ap, ◌∙◌, subst, arith}
 use Rattle.kr_base.specs.declared.span.Bound.{Bound}
-use Rattle.kr_base.specs.declared.span.Bound.TheVariants.{At, End}
+use Rattle.kr_base.specs.declared.span.Bound.TheVariants.{At}
 use Rattle.kr_base.specs.declared.span.Span.{Span}
 use Rattle.kr_base.specs.Bounds.{less}
 use Rattle.kr_base.specs.Entries.{is_within}
-use Rattle.kr_base.proofs.Bounds.{irreflexive, transitive, connected, not_above, not_above_less}
-use Rattle.kr_survey.specs.Spans.{one, how_many, is_ahead, has_key, covering, Adjoins}
-use Rattle.kr_deque.specs.Breaks.{begins_at, ends_at, goes_over}
+use Rattle.kr_base.proofs.Bounds.{irreflexive, transitive, connected, not_above, asymmetric}
+use Rattle.kr_survey.specs.Spans.{one, how_many, has_key, covering, Adjoins}
+use Rattle.kr_deque.specs.Breaks.{ends_at}
 use Rattle.kr_deque_hands.specs.Pieces.{AllAhead}
-use Rattle.kr_deque_hands.proofs.Covers.{two_parts, Stand, below, same, above, stand, not_both}
+use Rattle.kr_deque_hands.proofs.Covers.{two_parts, Stand, below, same, above, stand}
 use Rattle.kr_deque.proofs.Counts.{IsIn}
 
 -- a list of spans that adjoin comes to a bound that isn't before its start
@@ -19,7 +18,7 @@ comes a b [] h k = ap (λ (x : Bound). less x a) (sym k) ∙ irreflexive a
 comes a b (s ∷ ss) h k =
     let later : less b s.upto ≡ false = comes s.upto b ss h.1 k.1 in
     let up : less a s.upto ≡ true = ap (λ (x : Bound). less x s.upto) (sym k.0) ∙ h.0 in
-    not_both a b (passes (stand s.upto b) up later)
+    asymmetric a b (passes (stand s.upto b) up later)
   where
     passes : Stand s.upto b → less a s.upto ≡ true → less b s.upto ≡ false → less a b ≡ true
     passes (below p q) up later = transitive a s.upto b up p
@@ -38,7 +37,7 @@ pub covers : (a b : Bound) (ss : List Span) (key : List ℕ) → AllAhead ss →
 covers a b [] key h k = sym (ap one (ap (λ (x : Bound). is_within a x key) (sym k) ∙ nowhere a key))
 covers a b (s ∷ ss) key h k =
     let here : one (has_key key s) ≡ one (is_within a s.upto key) = ap (λ (x : Bound). one (is_within x s.upto key)) k.0 in
-    let up : less s.upto a ≡ false = not_both a s.upto (ap (λ (x : Bound). less x s.upto) (sym k.0) ∙ h.0) in
+    let up : less s.upto a ≡ false = asymmetric a s.upto (ap (λ (x : Bound). less x s.upto) (sym k.0) ∙ h.0) in
     omega (arith, here, covers s.upto b ss key h.1 k.1, two_parts a s.upto b key up (comes s.upto b ss h.1 k.1))
 
 -- each of them is inside
@@ -48,7 +47,7 @@ lies a b (t ∷ ss) s h k (inl e) =
     subst (λ (u : Span). (less (At u.after) a ≡ false) × (less b u.upto ≡ false)) e (ap (λ (x : Bound). less x a) k.0 ∙ irreflexive a, comes t.upto b ss h.1 k.1)
 lies a b (t ∷ ss) s h k (inr i) =
     let r = lies t.upto b ss s h.1 k.1 i in
-    let up : less t.upto a ≡ false = not_both a t.upto (ap (λ (x : Bound). less x t.upto) (sym k.0) ∙ h.0) in
+    let up : less t.upto a ≡ false = asymmetric a t.upto (ap (λ (x : Bound). less x t.upto) (sym k.0) ∙ h.0) in
     (not_above a t.upto (At s.after) up r.0, r.1)
 
 -- they come to their start, or one ends where they come to

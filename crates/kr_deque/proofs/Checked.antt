@@ -1,21 +1,22 @@
 -- Spans in order, checked one after another: where the first break is.
-use Rattle.std.proofs.Common.{◌≡◌, ◌⊎◌, inl, inr, ℕ, zero, suc, ◌+◌, ◌<◌, ◌≤◌, List, [], ◌∷◌, ◌++◌, Bool, true, false, ◌&&◌, ◌==◌, not, refl, sym, ap, ◌∙◌, subst, arith}
+use Rattle.std.proofs.Common.{◌≡◌, ◌⊎◌, inl, inr, ℕ, ◌+◌, ◌<◌, ◌≤◌, List, [], ◌∷◌, ◌++◌, Bool, true, false, ◌&&◌, ◌==◌, not, refl, sym, ap, ◌∙◌, subst, arith}
 use Rattle.std.specs.Prelude.{◌||◌, nat_lt, IsPermutation}
 use Rattle.std.proofs.lemmas.List.{append-nil}
+use Rattle.std.proofs.lemmas.Bool.{and_parts, lt-ltb, le-ltb}
 use Rattle.kr_base.specs.declared.span.Bound.{Bound}
-use Rattle.kr_base.specs.declared.span.Bound.TheVariants.{At, End}
+use Rattle.kr_base.specs.declared.span.Bound.TheVariants.{At}
 use Rattle.kr_base.specs.declared.span.Span.{Span}
 use Rattle.kr_base.specs.Bounds.{less, is_same}
 use Rattle.kr_base.specs.Entries.{is_within}
-use Rattle.kr_base.proofs.Bounds.{irreflexive, transitive, connected, not_above, not_above_less}
+use Rattle.kr_base.proofs.Bounds.{irreflexive, transitive, connected, not_above, not_above_less, asymmetric}
 use Rattle.kr_deque.specs.declared.joining.JoinRefusal.{JoinRefusal}
 use Rattle.kr_deque.specs.declared.joining.JoinRefusal.TheVariants.{Gap, Double, NoMemory}
-use Rattle.kr_survey.specs.Spans.{one, how_many, is_ahead, has_key, covering, Adjoins}
-use Rattle.kr_deque.specs.Breaks.{begins_at, ends_at, goes_over, is_gap, is_wrong, is_double, is_break, NoneBefore, Refuses, NoBreak}
+use Rattle.kr_survey.specs.Spans.{one, how_many, is_ahead, covering, Adjoins}
+use Rattle.kr_deque.specs.Breaks.{begins_at, ends_at, goes_over, is_gap, is_wrong, is_double, is_break, Refuses, NoBreak}
 use Rattle.kr_deque_hands.specs.Pieces.{AllAhead}
-use Rattle.kr_deque_hands.proofs.Covers.{not_both, Stand, below, same, above, stand, counted_append}
-use Rattle.kr_deque.proofs.Counts.{next, less_next, step_all, over_next, over_all, IsIn, counted_one, counted_none, counted_permutation, ahead_in, and-left, and-right, begins_there}
-use Rattle.kr_deque.proofs.Parts.{none-by, neither, one-most, lt-false, lt-is, GapAt, gap_says, gap_is}
+use Rattle.kr_deque_hands.proofs.Covers.{Stand, below, same, above, stand, counted_append}
+use Rattle.kr_deque.proofs.Counts.{next, less_next, step_all, over_all, IsIn, counted_one, counted_none, counted_permutation, ahead_in, begins_there}
+use Rattle.kr_deque.proofs.Parts.{none-by, neither, one-most, gap_says, gap_is}
 use Rattle.kr_deque.proofs.Chains.{covers, lies, last_ends, in_two}
 
 -- what is below one that isn't above another is below that
@@ -69,7 +70,7 @@ module _ (asked : Span) (xs ys : List Span) (at : Bound) (ahead : AllAhead xs) (
       let b = counted_append (begins_at d) xs ys in
       let e = counted_append (ends_at d) xs ys in
       let s = step_all d xs ahead in
-      let back : less at (At d) ≡ false = not_both (At d) at up in
+      let back : less at (At d) ≡ false = asymmetric (At d) at up in
       go (stand (At asked.after) (At d)) g.begun (omega (arith, b, g.none)) e s up back)
     where
       go : Stand (At asked.after) (At d) → (is_same (At asked.after) (At d) ≡ true) ⊎ (0 < how_many (ends_at d) (xs ++ ys)) → how_many (begins_at d) xs ≡ 0
@@ -102,16 +103,16 @@ module _ (asked : Span) (xs ys : List Span) (at : Bound) (ahead : AllAhead xs) (
       let l = lies (At asked.after) at xs s ahead k i in
       let first : less (At d) (At asked.after) ≡ false = ap (λ (x : Bound). less x (At asked.after)) (sym (begins_there d s b)) ∙ l.0 in
       neither (less (At d) (At asked.after)) (less asked.upto s.upto || nat_lt 1 (how_many (goes_over d) (xs ++ ys))) first
-      (neither (less asked.upto s.upto) (nat_lt 1 (how_many (goes_over d) (xs ++ ys))) (not_above s.upto at asked.upto l.1 low) (lt-false 1 (how_many (goes_over d) (xs ++ ys)) few))
+      (neither (less asked.upto s.upto) (nat_lt 1 (how_many (goes_over d) (xs ++ ys))) (not_above s.upto at asked.upto l.1 low) (le-ltb 1 (how_many (goes_over d) (xs ++ ys)) few))
 
   right_one : (s : Span) → IsIn s xs ⊎ IsIn s ys → is_wrong asked (xs ++ ys) d s ≡ false
   right_one s (inl i) = none-by (is_wrong asked (xs ++ ys) d s) (λ h.
       let rest = less (At d) (At asked.after) || (less asked.upto s.upto || nat_lt 1 (how_many (goes_over d) (xs ++ ys))) in
-      cc (sym (and-right (begins_at d s) rest h) ∙ fits s i (and-left (begins_at d s) rest h)))
+      cc (sym (and_parts (begins_at d s) rest h).1 ∙ fits s i (and_parts (begins_at d s) rest h).0))
   right_one s (inr i) = rw (begins_later d s (far s i)) refl
 
   clean_double : is_double asked (xs ++ ys) d ≡ false
-  clean_double = lt-false 0 (how_many (is_wrong asked (xs ++ ys) d) (xs ++ ys)) (omega (arith, counted_none (is_wrong asked (xs ++ ys) d) (xs ++ ys) (λ s i. right_one s (in_two xs ys s i))))
+  clean_double = le-ltb 0 (how_many (is_wrong asked (xs ++ ys) d) (xs ++ ys)) (omega (arith, counted_none (is_wrong asked (xs ++ ys) d) (xs ++ ys) (λ s i. right_one s (in_two xs ys s i))))
 
   -- no break before what is left
   clean : (less (At d) at ≡ true) ⊎ (less (At d) asked.upto ≡ false) → is_break asked (xs ++ ys) d ≡ false
@@ -122,7 +123,7 @@ module _ (asked : Span) (xs ys : List Span) (at : Bound) (ahead : AllAhead xs) (
 pub gap_here : (asked : Span) (xs ys : List Span) (at : Bound) (c : List ℕ) → AllAhead xs → AllAhead ys → Adjoins (At asked.after) xs at → at ≡ At c → less at asked.upto ≡ true
     → ((z : Span) → IsIn z ys → less at (At z.after) ≡ true) → Refuses asked (xs ++ ys) (Gap c)
 gap_here asked xs ys at c ahead later k e up far =
-    let low : less asked.upto at ≡ false = not_both at asked.upto up in
+    let low : less asked.upto at ≡ false = asymmetric at asked.upto up in
     let k' : Adjoins (At asked.after) xs (At c) = subst (λ (b : Bound). Adjoins (At asked.after) xs b) e k in
     let far' : (z : Span) → IsIn z ys → less (At c) (At z.after) ≡ true = λ z i. ap (λ (b : Bound). less b (At z.after)) (sym e) ∙ far z i in
     let earlier : (s : Span) → IsIn s xs → begins_at c s ≡ false = λ s i.
@@ -151,7 +152,7 @@ pub double_here : (asked : Span) (xs : List Span) (y : Span) (ys : List Span) (a
     → (less (At y.after) at ≡ true) ⊎ ((less asked.upto y.upto ≡ true) × ((at ≡ At y.after) ⊎ (less at asked.upto ≡ false)))
     → Refuses asked (xs ++ y ∷ ys) (Double y.after)
 double_here asked xs y ys at ahead later k low order why = (
-  lt-is 0 (how_many (is_wrong asked all c) all) (counted_one (is_wrong asked all c) y all (in_middle xs ys y) (rw begins (wrong why))),
+  lt-ltb 0 (how_many (is_wrong asked all c) all) (counted_one (is_wrong asked all c) y all (in_middle xs ys y) (rw begins (wrong why))),
   λ d before. clean asked xs (y ∷ ys) at ahead later k low d (λ z i. below_later (At d) (At c) (At z.after) before (order z i)) (reach d before why),
 )
   where
@@ -169,7 +170,7 @@ double_here asked xs y ys at ahead later k low order why = (
         let own : one (goes_over c y) ≡ 1 = rw (irreflexive (At c), later.0) refl in
         let a : one (is_within (At asked.after) at (next c)) ≡ 1 = rw (less_next (At asked.after) c, less_next at c, p, up) refl in
         let n = covers (At asked.after) at xs (next c) ahead k in
-        lt-is 1 (how_many (goes_over c) all) (omega (arith, counted_append (goes_over c) xs (y ∷ ys), own, a, n, over_all c xs))
+        lt-ltb 1 (how_many (goes_over c) all) (omega (arith, counted_append (goes_over c) xs (y ∷ ys), own, a, n, over_all c xs))
 
     wrong : (less (At c) at ≡ true) ⊎ ((less asked.upto y.upto ≡ true) × ((at ≡ At c) ⊎ (less at asked.upto ≡ false)))
         → (less (At c) (At asked.after) || (less asked.upto y.upto || nat_lt 1 (how_many (goes_over c) all))) ≡ true

@@ -1,22 +1,21 @@
 -- Counting spans at a cut and right behind it.
-use Rattle.std.proofs.Common.{◌≡◌, ◌⊎◌, inl, inr, ℕ, zero, suc, ◌+◌, ◌<◌, ◌≤◌, List, [], ◌∷◌, ◌++◌, Bool, true, false, ◌&&◌, not, refl, sym, ap, ◌∙◌, subst, arith}
-use Rattle.std.specs.Prelude.{◌||◌, nat_lt, IsPermutation}
+use Rattle.std.proofs.Common.{◌≡◌, ◌⊎◌, inl, inr, ℕ, ◌+◌, ◌<◌, List, [], ◌∷◌, ◌++◌, Bool, true, false, ◌&&◌, not, refl, sym, ap, ◌∙◌, subst, arith}
+use Rattle.std.specs.Prelude.{IsPermutation}
 use Rattle.std.specs.List.{sum_by}
 use Rattle.std.proofs.lemmas.List.Sums.{sum_by-cons}
 use Rattle.std.proofs.lemmas.List.Sorted.{sum_by-IsPermutation}
-use Rattle.std.proofs.lemmas.Bool.Decides.{nat_tests}
+use Rattle.std.proofs.lemmas.Bool.{and_parts, not-true}
 use Rattle.kr_base.specs.declared.span.Bound.{Bound}
 use Rattle.kr_base.specs.declared.span.Bound.TheVariants.{At, End}
 use Rattle.kr_base.specs.declared.span.Span.{Span}
 use Rattle.kr_base.specs.Cuts.{Before, is_before}
-use Rattle.kr_base.specs.Bounds.{less, is_same}
-use Rattle.kr_base.specs.Entries.{is_within}
+use Rattle.kr_base.specs.Bounds.{less}
 use Rattle.kr_base.proofs.Orders.{before_from_test, test_from_before, test_transitive, test_connected}
-use Rattle.kr_base.proofs.Bounds.{irreflexive, transitive, connected, not_above, not_above_less}
+use Rattle.kr_base.proofs.Bounds.{irreflexive, transitive, connected}
 use Rattle.kr_survey.specs.Spans.{one, how_many, is_ahead, has_key, covering}
 use Rattle.kr_deque.specs.Breaks.{begins_at, ends_at, goes_over}
 use Rattle.kr_deque_hands.specs.Pieces.{AllAhead}
-use Rattle.kr_deque_hands.proofs.Covers.{Stand, below, same, above, stand, not_both}
+use Rattle.kr_deque_hands.proofs.Covers.{Stand, below, same, above, stand}
 
 -- the first cut behind one
 abbrev pub next : List ℕ → List ℕ
@@ -114,23 +113,11 @@ ahead_in s [] h i = absurd i
 ahead_in s (t ∷ ss) h (inl e) = subst (λ (u : Span). is_ahead u ≡ true) e h.0
 ahead_in s (t ∷ ss) h (inr i) = ahead_in s ss h.1 i
 
-pub and-left : (a b : Bool) → (a && b) ≡ true → a ≡ true
-and-left true b e = refl
-and-left false b e = cc
-
-pub and-right : (a b : Bool) → (a && b) ≡ true → b ≡ true
-and-right true b e = e
-and-right false b e = absurd (cc (e))
-
-pub not-true : (b : Bool) → not b ≡ true → b ≡ false
-not-true true e = cc
-not-true false e = refl
-
 -- what begins at a cut is a span from there
 pub begins_there : (c : List ℕ) (s : Span) → begins_at c s ≡ true → At s.after ≡ At c
 begins_there c s h =
-    connected (At s.after) (At c) (not-true (less (At s.after) (At c)) (and-left (not (less (At s.after) (At c))) (not (less (At c) (At s.after))) h))
-    (not-true (less (At c) (At s.after)) (and-right (not (less (At s.after) (At c))) (not (less (At c) (At s.after))) h))
+    connected (At s.after) (At c) (not-true (less (At s.after) (At c)) (and_parts (not (less (At s.after) (At c))) (not (less (At c) (At s.after))) h).0)
+    (not-true (less (At c) (At s.after)) (and_parts (not (less (At s.after) (At c))) (not (less (At c) (At s.after))) h).1)
 
 -- and one that is ahead has the next cut
 pub has_next : (c : List ℕ) (s : Span) → begins_at c s ≡ true → is_ahead s ≡ true → has_key (next c) s ≡ true

@@ -1,17 +1,15 @@
 -- The next piece behind those that adjoin.
-use Rattle.std.proofs.Common.{◌≡◌, ◌⊎◌, inl, inr, ℕ, zero, suc, ◌+◌, ◌<◌, ◌≤◌, List, [], ◌∷◌, ◌++◌, Bool, true, false, length, map, take, drop, get_or, refl, sym, ap, ◌∙◌, subst, arith}
+use Rattle.std.proofs.Common.{◌≡◌, ◌⊎◌, inl, inr, ℕ, suc, ◌+◌, ◌<◌, ◌≤◌, List, [], ◌∷◌, ◌++◌, Bool, true, false, length, take, drop, get_or, refl, sym, ap, ◌∙◌, subst, arith}
 use Rattle.std.specs.Prelude.{IsSortedBy}
-use Rattle.std.specs.Ordering.{is_lt, nat_cmp}
-use Rattle.std.specs.Cmp.Lexicographic.{slice_cmp}
 use Rattle.std.proofs.lemmas.Cmp.{nat_list_cmp_total}
-use Rattle.std.proofs.lemmas.List.{append-nil, take-append-drop, drop_more, take_all, get_or-drop, get_or_default, length-drop, map-append, take_more}
+use Rattle.std.proofs.lemmas.List.{take-append-drop, drop_more, take_all, get_or-drop, get_or_default, length-drop, map-append, take_more}
 use Rattle.std.proofs.lemmas.List.Sorted.{ranks_by, sorted_far}
 use Rattle.kr_base.specs.declared.span.Bound.{Bound}
 use Rattle.kr_base.specs.declared.span.Bound.TheVariants.{At, End}
 use Rattle.kr_base.specs.declared.span.Span.{Span}
 use Rattle.kr_base.specs.Cuts.{is_before}
 use Rattle.kr_base.specs.Bounds.{less}
-use Rattle.kr_base.proofs.Bounds.{irreflexive, transitive, connected, not_above, not_above_less}
+use Rattle.kr_base.proofs.Bounds.{transitive, connected, not_above_less}
 use Rattle.kr_deque.specs.declared.joining.JoinRefusal.{JoinRefusal}
 use Rattle.kr_deque.specs.declared.joining.JoinRefusal.TheVariants.{Gap, Double, NoMemory}
 use Rattle.kr_survey.specs.declared.piece.Piece.{Piece}
@@ -19,7 +17,6 @@ use Rattle.kr_survey.specs.Spans.{is_ahead, Adjoins}
 use Rattle.kr_deque.specs.Breaks.{Refuses}
 use Rattle.kr_deque.specs.Checking.{Follows, Ends, Checks}
 use Rattle.kr_deque_hands.specs.Pieces.{spans_of, AllAhead}
-use Rattle.kr_deque_hands.proofs.Covers.{not_both}
 use Rattle.kr_deque.proofs.Counts.{IsIn}
 use Rattle.kr_deque.proofs.Chains.{ahead_two, adjoins_more}
 use Rattle.kr_deque.proofs.Checked.{below_later, gap_here, double_here, gap_last}

@@ -1,26 +1,22 @@
 -- The listing of pieces that adjoin is the survey's.
-use Rattle.std.proofs.Common.{◌≡◌, ◌⊎◌, inl, inr, ℕ, zero, suc, ◌+◌, ◌<◌, ◌≤◌, List, [], ◌∷◌, ◌++◌, Bool, true, false, ◌&&◌, not, Option, Some, None, length, map, refl, sym, ap, ◌∙◌, subst, arith, length-append, append_assoc}
-use Rattle.std.specs.Prelude.{if◌then◌else◌, is_some, IsPermutation}
-use Rattle.std.specs.List.{flat_map}
+use Rattle.std.proofs.Common.{◌≡◌, ℕ, ◌+◌, List, [], ◌∷◌, ◌++◌, Bool, true, false, ◌&&◌, not, Option, Some, None, length, refl, sym, ap, ◌∙◌, subst, arith, length-append}
+use Rattle.std.specs.Prelude.{if◌then◌else◌, is_some}
 use Rattle.std.proofs.lemmas.List.{append-nil}
 use Rattle.std.proofs.lemmas.List.Concat.{flat_map-append}
 use Rattle.kr_base.specs.Causes.{capped}
 use Rattle.kr_base.specs.declared.span.Bound.{Bound}
-use Rattle.kr_base.specs.declared.span.Bound.TheVariants.{At, End}
-use Rattle.kr_base.specs.declared.span.Span.{Span}
+use Rattle.kr_base.specs.declared.span.Bound.TheVariants.{At}
 use Rattle.kr_base.specs.declared.entry.Entry.{Entry}
 use Rattle.kr_base.specs.Bounds.{less}
-use Rattle.kr_base.specs.Entries.{Ascends, is_spent, is_within, within, through_spent, entries_in, NoneSpent}
-use Rattle.kr_base.proofs.Bounds.{irreflexive}
+use Rattle.kr_base.specs.Entries.{Ascends, is_spent, within, through_spent, entries_in, NoneSpent}
+use Rattle.kr_base.proofs.Bounds.{asymmetric}
 use Rattle.kr_base.proofs.Spans.{within_two, resumption}
-use Rattle.kr_survey.specs.declared.part.Listing.{Listing}
 use Rattle.kr_survey.specs.Scans.{row_of, rows_of}
 use Rattle.kr_survey.specs.declared.piece.Piece.{Piece}
-use Rattle.kr_survey.specs.Spans.{is_ahead, Adjoins}
-use Rattle.kr_survey.specs.Listings.{spent_in, listed_in, Lists, IsPieceOf, through, rows_in, tried_in, key_in, IsListingOf}
+use Rattle.kr_survey.specs.Spans.{Adjoins}
+use Rattle.kr_survey.specs.Listings.{spent_in, listed_in, through, rows_in, tried_in, key_in}
 use Rattle.kr_deque_hands.specs.Pieces.{spans_of, AllAhead, ArePiecesOf}
-use Rattle.kr_deque.specs.Joined.{IsJoined, JoinedLaw}
-use Rattle.kr_deque_hands.proofs.Covers.{not_both}
+use Rattle.kr_deque.specs.Joined.{JoinedLaw}
 use Rattle.kr_deque.proofs.Chains.{comes}
 use Rattle.kr_deque.proofs.Orders.{ahead_permutation, pieces_permutation}
 
@@ -85,7 +81,7 @@ together {R} all a b (p ∷ ps) asc ahead honest k = go (together all p.span.upt
     is = ap (λ (x : Bound). entries_in x p.span.upto all) k.0
 
     up : less p.span.upto a ≡ false
-    up = not_both a p.span.upto (ap (λ (x : Bound). less x p.span.upto) (sym k.0) ∙ ahead.0)
+    up = asymmetric a p.span.upto (ap (λ (x : Bound). less x p.span.upto) (sym k.0) ∙ ahead.0)
 
     later : less b p.span.upto ≡ false
     later = comes p.span.upto b (spans_of ps) ahead.1 k.1

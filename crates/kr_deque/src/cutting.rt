@@ -8,18 +8,10 @@ ghost use Rattle.kr_deque_hands.specs.Building.{EachAhead};
 ghost use Rattle.kr_deque.specs.Cutting.{IsLaidOut};
 
 use kr_base::{Bound, Cut, NoMemory, Span};
+use kr_core::first_level;
 use kr_deque_hands::copy;
-use kr_survey::is_before;
 use std::alloc::Global;
 use std::mem;
-
-// The cut 0.k.
-fn first_level(alloc: Global, number: u32) -> Result<Cut, NoMemory> {
-    let mut numbers = Vec::new(alloc);
-    numbers.push(0)?;
-    numbers.push(number)?;
-    Ok(Cut::new(numbers))
-}
 
 // Adds a list of one span.
 #[tactic(auto, using(crate::proofs::Cuts::added_joined, crate::proofs::Cuts::added_ahead))]
@@ -46,7 +38,7 @@ fn cut_at(
     ensures count { OnOk result (length spans.new.items ≤ length spans.old.items + 1) }
 {
     let cut = first_level(alloc, number)?;
-    if rest.after.is_below(&cut) && is_before(&cut, &rest.upto) {
+    if rest.after.is_below(&cut) && rest.upto.is_above_cut(&cut) {
         let after = cut.try_clone()?;
         let before = mem::replace(&mut rest.after, after);
         return add_one(

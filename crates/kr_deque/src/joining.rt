@@ -14,7 +14,7 @@ ghost use Rattle.kr_deque.specs.Joined.{Joins};
 mod summing;
 
 use kr_base::{Bound, Cut, NoMemory, Span};
-use kr_survey::{Listing, Piece, is_before, is_behind};
+use kr_survey::{Listing, Piece};
 use std::alloc::Global;
 use std::cmp::Ordering;
 use summing::listing_of;
@@ -53,13 +53,13 @@ fn check_next(asked: &Span, at: &Bound, next: &Span) -> Result<(), JoinRefusal>
     requires { is_ahead next.now ≡ true }
     ensures { Follows asked.now at.now next.now result }
 {
-    if is_behind(&next.after, at) && at.is_below(&asked.upto) {
+    if at.is_below_cut(&next.after) && at.is_below(&asked.upto) {
         return match cut_of(at) {
             Ok(cut) => Err(JoinRefusal::Gap(cut)),
             Err(why) => Err(JoinRefusal::NoMemory(why)),
         };
     }
-    if is_before(&next.after, at) || asked.upto.is_below(&next.upto) {
+    if at.is_above_cut(&next.after) || asked.upto.is_below(&next.upto) {
         return match next.after.try_clone() {
             Ok(cut) => Err(JoinRefusal::Double(cut)),
             Err(why) => Err(JoinRefusal::NoMemory(why)),

@@ -14,7 +14,7 @@ use crate::{JoinRefusal, join_pieces, joined_law, parts_law};
 use kr_base::{NoMemory, Span};
 use kr_deque_hands::{Gathered, Hand, Work, scan_piece, work_at};
 use kr_io::Gate;
-use kr_survey::{Listing, Piece, Rows, Survey, is_before};
+use kr_survey::{Listing, Piece, Rows, Survey};
 use std::alloc::Global;
 use std::sync::Wait;
 use std::thread;
@@ -185,7 +185,7 @@ pub fn list_deque<S: Survey<Row: Drop + Send> + Sync, G: Gate + Sync, W: Threads
     requires workers { (0 < workers) × (workers ≤ 64) }
     ensures { IfOk result (Lists (listed_in (S.all survey.now) span)) }
 {
-    if !is_before(&span.after, &span.upto) {
+    if !span.upto.is_above_cut(&span.after) {
         return Ok(nothing(alloc));
     }
     let pieces = pieces_of(rt, alloc, survey, &span, workers, gate)?;

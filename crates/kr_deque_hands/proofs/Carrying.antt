@@ -13,7 +13,7 @@ use Rattle.kr_survey.specs.declared.piece.Piece.{Piece}
 use Rattle.kr_survey.specs.Spans.{one, is_ahead, has_key, covering}
 use Rattle.kr_survey.specs.Listings.{IsPieceOf}
 use Rattle.kr_deque_hands.specs.Pieces.{spans_of, AllAhead, ArePiecesOf}
-use Rattle.kr_deque_hands.proofs.Covers.{not_both, counted_append}
+use Rattle.kr_deque_hands.proofs.Covers.{counted_append}
 use Rattle.kr_deque_hands.proofs.Covers.{two_parts}
 use Rattle.kr_deque_hands.specs.declared.rule.Log.{Log}
 use Rattle.kr_deque_hands.specs.declared.hand.Hand.{Hand}
@@ -24,6 +24,7 @@ use Rattle.kr_deque_hands.specs.Logs.{popped_more, pushed_more, spans_among, IsP
 use Rattle.kr_deque_hands.specs.declared.task.Task.{Task}
 use Rattle.kr_deque_hands.specs.declared.task.Task.TheVariants.{Whole, Mark}
 use Rattle.kr_deque_hands.specs.declared.rule.View.{View}
+use Rattle.kr_base.proofs.Bounds.{asymmetric}
 
 pub ahead_append : (xs ys : List Span) → AllAhead xs → AllAhead ys → AllAhead (xs ++ ys)
 ahead_append [] ys h k = k
@@ -37,8 +38,8 @@ pub split_key : (key : List ℕ) (whole first : Span) (rest : Option Span) → i
 split_key key whole first None a s = ap (λ (x : Span). covering key (x ∷ [])) s
 split_key key whole first (Some rest) a s =
     let low : less (At rest.after) (At whole.after) ≡ false =
-    not_both (At whole.after) (At rest.after) (ap (λ (x : List ℕ). less (At x) (At rest.after)) (sym s.0) ∙ (ap (λ (x : Bound). less (At first.after) x) (sym s.1) ∙ s.3)) in
-    let up : less whole.upto (At rest.after) ≡ false = not_both (At rest.after) whole.upto (ap (λ (x : Bound). less (At rest.after) x) (sym s.2) ∙ s.4) in
+    asymmetric (At whole.after) (At rest.after) (ap (λ (x : List ℕ). less (At x) (At rest.after)) (sym s.0) ∙ (ap (λ (x : Bound). less (At first.after) x) (sym s.1) ∙ s.3)) in
+    let up : less whole.upto (At rest.after) ≡ false = asymmetric (At rest.after) whole.upto (ap (λ (x : Bound). less (At rest.after) x) (sym s.2) ∙ s.4) in
     let a : one (has_key key first) ≡ one (is_within (At whole.after) (At rest.after) key) = ap (λ (x : List ℕ). one (is_within (At x) first.upto key)) s.0 ∙ ap (λ (x : Bound). one (is_within (At whole.after) x key)) s.1 in
     let b : one (has_key key rest) ≡ one (is_within (At rest.after) whole.upto key) = ap (λ (x : Bound). one (is_within (At rest.after) x key)) s.2 in
     omega (arith, a, b, two_parts (At whole.after) (At rest.after) whole.upto key low up)

@@ -1,15 +1,11 @@
 -- What spans cover.
-use Rattle.std.proofs.Common.{◌≡◌, ℕ, ◌+◌, ◌<◌, List, [], ◌∷◌, ◌++◌, Bool, true, false, ◌&&◌, not, refl, sym, ap, ◌∙◌, arith}
+use Rattle.std.proofs.Common.{◌≡◌, ℕ, ◌+◌, List, [], ◌∷◌, ◌++◌, Bool, true, false, ◌&&◌, not, refl, arith}
 use Rattle.kr_base.specs.declared.span.Bound.{Bound}
-use Rattle.kr_base.specs.declared.span.Bound.TheVariants.{At, End}
+use Rattle.kr_base.specs.declared.span.Bound.TheVariants.{At}
 use Rattle.kr_base.specs.Bounds.{less}
 use Rattle.kr_base.specs.Entries.{is_within}
-use Rattle.kr_base.proofs.Bounds.{irreflexive, transitive, not_above, not_above_less}
+use Rattle.kr_base.proofs.Bounds.{not_above, not_above_less, asymmetric}
 use Rattle.kr_survey.specs.Spans.{one, how_many}
-
-pub not_both : (a b : Bound) → less a b ≡ true → less b a ≡ false
-not_both a b p =
-    elim (less b a) as (λ t. less b a ≡ t → t ≡ false) [ true ↦ λ q. absurd (cc (sym (transitive a b a p q) ∙ irreflexive a)) | false ↦ λ q. refl ] refl
 
 -- how two bounds stand to each other
 pub data Stand (a b : Bound) : Type 0 where
@@ -20,7 +16,7 @@ pub data Stand (a b : Bound) : Type 0 where
 pub stand : (a b : Bound) → Stand a b
 stand a b =
     elim (less a b) as (λ t. less a b ≡ t → Stand a b) [
-      | true ↦ λ p. below p (not_both a b p)
+      | true ↦ λ p. below p (asymmetric a b p)
       | false ↦ λ p. elim (less b a) as (λ t. less b a ≡ t → Stand a b) [ true ↦ λ q. above p q | false ↦ λ q. same p q ] refl
     ] refl
 

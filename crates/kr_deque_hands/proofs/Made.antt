@@ -56,7 +56,7 @@ lists_more : (vs : List (Vec Span Global)) (v : Vec Span Global) → lists (vs +
 lists_more [] v = refl
 lists_more (x ∷ vs) v = ap (λ (l : List (List Span)). x.items ∷ l) (lists_more vs v)
 
-length_lists : (vs : List (Vec Span Global)) → length (lists vs) ≡ length vs
+pub length_lists : (vs : List (Vec Span Global)) → length (lists vs) ≡ length vs
 length_lists [] = refl
 length_lists (v ∷ vs) = ap suc (length_lists vs)
 

@@ -4,7 +4,7 @@ use mathlib.Core.Option.{some, some-ne-none}
 use Rattle.std.specs.Prelude.{if◌then◌else◌, ◌==◌}
 use lib.ListN.{get_elem?}
 use Rattle.std.proofs.lemmas.List.{append-nil}
-use Rattle.std.proofs.lemmas.Bool.Decides.{nat_tests}
+use Rattle.std.proofs.lemmas.Bool.{eqb-true}
 use Rattle.crossbeam_deque.specs.Tasks.{Pushes, Takes, Finds, Learns, Forks, Merges}
 use Rattle.crossbeam_deque.proofs.Lists.{at_set, at_snoc}
 use Rattle.kr_base.specs.declared.span.Span.{Span}
@@ -126,9 +126,6 @@ numbered_given n s (Mark k ∷ ts) z h = absurd (omega (arith, z, h.0))
 not_true : (b : Bool) → (b ≡ true → ⊥) → b ≡ false
 not_true true n = absurd (n refl)
 not_true false n = refl
-
-test_true : (a b : ℕ) → (a == b) ≡ true → a ≡ b
-test_true a b h = grind (arith, nat_tests)
 
 front_is : (t : Task) (ts : List Task) → t ∷ ts ≡ [] → ⊥
 front_is t ts e = cc (e)
@@ -287,7 +284,7 @@ pops port v may (Mark k ∷ []) items views least most h at =
     let mine = h.fits port v at in
     let m = mine.0 may in
     let last : (k + 1 == turn v) ≡ true → items ≡ [] = λ p.
-    let t = test_true (k + 1) (turn v) p in
+    let t = eqb-true (k + 1) (turn v) p in
     let a = ap (λ (l : List Span). length l) m.2 in
     h.numbered.1 (omega (arith, t, a, m.4)) in (
       w,

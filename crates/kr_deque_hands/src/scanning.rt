@@ -7,7 +7,7 @@ ghost use Rattle.kr_survey.specs.Listings.{IsPieceOf};
 ghost use Rattle.kr_deque_hands.specs.Turns.{Splits, Halves, Ends, IsPart};
 
 use kr_base::{Bound, Cut, NoMemory, Span, Steps, inside_law};
-use kr_survey::{Part, Piece, Survey, is_before, scan_law};
+use kr_survey::{Part, Piece, Survey, scan_law};
 use std::marker::Brand;
 use std::sync::ledger::{Blank, Ledger};
 
@@ -70,7 +70,7 @@ fn end_of(
             if spent {
                 return Ok((whole, Some(key), None));
             }
-            if !is_before(&key, &whole.upto) {
+            if !whole.upto.is_above_cut(&key) {
                 return Ok((whole, None, None));
             }
             let after = key.try_clone()?;

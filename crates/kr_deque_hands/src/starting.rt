@@ -15,6 +15,7 @@ use crate::work::Work;
 use kr_base::{NoMemory, Span};
 use std::alloc::Global;
 use std::mem;
+use std::sync::Condvar;
 use std::sync::atomic::AtomicU64;
 
 // Gives a deque a span, for which it has room.
@@ -55,7 +56,7 @@ fn deque_of(alloc: Global, spans: Vec<Span>) -> Result<Owner, NoMemory>
 {
     let count = spans.len();
     if count > 0xffff_ffff {
-        return Err(NoMemory::at_limit(count as u64));
+        return Err(NoMemory::at_limit(spans.as_slice()));
     }
     match Owner::fifo_as(alloc, count + 8096) {
         Ok(deque) => {
@@ -202,6 +203,7 @@ fn work_of(alloc: Global, fronts: Vec<Front>) -> Work
         alloc,
         fronts,
         busy: AtomicU64::new(0),
+        bed: Condvar::new(),
     }
 }
 

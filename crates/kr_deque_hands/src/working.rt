@@ -15,7 +15,6 @@ use kr_base::{NoMemory, Span};
 use kr_io::Gate;
 use kr_survey::{Piece, Survey};
 use std::sync::Wait;
-use std::thread;
 
 /// How often a hand looks again where no hand is at work: one may not have begun yet.
 const LOOKS_AGAIN: u32 = 100;
@@ -166,9 +165,9 @@ fn scan_all<S: Survey<Row: Drop>, W: Wait>(
 }
 
 // Makes sure that nothing lies on the hand's own deque: it pushes a mark there and takes it back. Where a thief took the mark, it
-// pushes one more. A span that comes before the mark is answered. With no mark left, which takes 4,000 of them, it waits.
+// pushes one more. A span that comes before the mark is answered. With no mark left, which takes 4,000 of them, it sleeps.
 #[tactic(auto, using(crate::proofs::Carrying::works_none))]
-fn shut<R: Drop, W: Wait>(rt: &W, hand: &mut Hand<R>) -> Option<Span>
+fn shut<R: Drop, W: Wait>(rt: &W, work: &Work, hand: &mut Hand<R>) -> Option<Span>
     requires unmarked { hand.old.refused ≡ None }
     ensures works { (all : _) → Works all hand.old [] hand.new (listed result) }
     ensures unmarked { IfSome result (λ _. hand.new.refused ≡ None) }
@@ -180,7 +179,7 @@ fn shut<R: Drop, W: Wait>(rt: &W, hand: &mut Hand<R>) -> Option<Span>
     }
     for _ in rt.forever() {
         match hand.mark() {
-            None => {}
+            None => work.sleep(rt),
             Some(number) => match hand.take() {
                 Some(Task::Whole(span)) => return Some(span),
                 Some(Task::Mark(taken)) => {
@@ -222,8 +221,8 @@ fn idle_looks(work: &Work, looks: u32) -> u32 {
     }
 }
 
-// The first span of the next hand's deque. Where there is none, it looks again as long as another hand is at work, and so may
-// wait.
+// The first span of the next hand's deque. Where there is none, it looks again as long as another hand is at work, and sleeps
+// between two looks after a while.
 fn seek<R: Drop, W: Wait>(rt: &W, work: &Work, hand: &mut Hand<R>) -> Option<Span>
     requires hand { IsHandOf work.now hand.old }
     ensures works { (all : _) → Works all hand.old [] hand.new (listed result) }
@@ -231,6 +230,7 @@ fn seek<R: Drop, W: Wait>(rt: &W, work: &Work, hand: &mut Hand<R>) -> Option<Spa
     ensures ahead { AllAhead (listed result) }
 {
     let mut looks: u32 = 0;
+    let mut pauses: u32 = 0;
     work.rest();
     for _ in rt.forever() {
         match steal_next(rt, work, hand) {
@@ -244,7 +244,8 @@ fn seek<R: Drop, W: Wait>(rt: &W, work: &Work, hand: &mut Hand<R>) -> Option<Spa
                     work.begin();
                     return None;
                 }
-                thread::yield_now();
+                work.pause(rt, pauses);
+                pauses = pauses.saturating_add(1);
             }
         }
     }
@@ -264,7 +265,7 @@ fn obtain<R: Drop, W: Wait>(rt: &W, work: &Work, hand: &mut Hand<R>) -> Option<S
         Some(span) => Some(span),
         None => match seek(rt, work, hand) {
             Some(span) => Some(span),
-            None => shut(rt, hand),
+            None => shut(rt, work, hand),
         },
     }
 }

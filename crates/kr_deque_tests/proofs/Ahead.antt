@@ -1,14 +1,11 @@
 -- A piece more whose span begins before it ends.
-use Rattle.std.proofs.Common.{◌≡◌, List, [], ◌∷◌, ◌++◌, true, sym, subst, ◌∙◌, ap}
+use Rattle.std.proofs.Common.{◌≡◌, List, [], ◌∷◌, ◌++◌, true, sym, subst}
 use Rattle.std.proofs.lemmas.List.{map-append}
 use Rattle.kr_base.specs.declared.span.Span.{Span}
 use Rattle.kr_survey.specs.declared.piece.Piece.{Piece}
 use Rattle.kr_survey.specs.Spans.{is_ahead}
 use Rattle.kr_deque_hands.specs.Pieces.{AllAhead, spans_of}
-
-ahead_append : (xs ys : List Span) → AllAhead xs → AllAhead ys → AllAhead (xs ++ ys)
-ahead_append [] ys h k = k
-ahead_append (x ∷ xs) ys h k = (h.0, ahead_append xs ys h.1 k)
+use Rattle.kr_deque_hands.proofs.Carrying.{ahead_append}
 
 pub pieces_more : {R : Type 0} (old new : List (Piece R)) (piece : Piece R) (span : Span) → new ≡ old ++ piece ∷ [] → piece.span ≡ span → is_ahead span ≡ true → AllAhead (spans_of old) → AllAhead (spans_of new)
 pieces_more {R} old new piece span e s a h =

@@ -1,5 +1,5 @@
 -- Two hands, taken from the back.
-use Rattle.std.proofs.Common.{Vec, Global, ◌≡◌, ℕ, zero, suc, ◌+◌, ◌<◌, List, [], ◌∷◌, ◌++◌, Bool, true, Option, Some, length, refl, sym, ap, ◌∙◌, arith, length-append}
+use Rattle.std.proofs.Common.{Vec, Global, ◌≡◌, ℕ, zero, suc, ◌+◌, ◌<◌, List, [], ◌∷◌, ◌++◌, true, Some, length, refl, ap, ◌∙◌, arith, length-append}
 use Rattle.std.specs.Prelude.{slice_get, nat_lt, Result, Ok, Err, IfOk}
 use Rattle.std.proofs.lemmas.Bool.Decides.{nat_tests}
 use Rattle.kr_base.specs.declared.span.Span.{Span}
@@ -8,6 +8,7 @@ use Rattle.kr_deque_hands.specs.Building.{givens}
 use Rattle.kr_deque_hands.specs.declared.hand.Hand.{Hand}
 use Rattle.kr_deque_hands.specs.declared.work.Work.{Work}
 use Rattle.kr_deque_hands.specs.Hands.{IsHandOf, AreHandsOf}
+use Rattle.kr_deque_hands.proofs.Made.{length_lists}
 
 get_here : {A : Type 0} (xs ys : List A) (y : A) → slice_get (xs ++ y ∷ ys) (length xs) ≡ Some y
 get_here [] ys y = refl
@@ -30,10 +31,6 @@ first_hand {R} work hs one two x y mine e f =
 
 pub two_is : {R : Type 0} (work : Work) (hs : List (Hand R)) → AreHandsOf work hs → length hs ≡ 2 → nat_lt 1 (length work.fronts.items) ≡ true
 two_is work hs a n = let c = a.count in grind (arith, nat_tests)
-
-length_lists : (vs : List (Vec Span Global)) → length (lists vs) ≡ length vs
-length_lists [] = refl
-length_lists (v ∷ vs) = ap suc (length_lists vs)
 
 length_givens : {R : Type 0} (hs : List (Hand R)) → length (givens hs) ≡ length hs
 length_givens [] = refl

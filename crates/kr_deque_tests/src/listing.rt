@@ -123,6 +123,25 @@ fn two_scans_at_once(rt: HostRuntime) -> Result<(), Fail> {
     Ok(())
 }
 
+// Whether a worker that has nothing to do takes from the other's deque: of the first four scans the last two meet, where the
+// first span has one key.
+fn rest_is_stolen<W: Threads + Wait + Sync + Abort>(
+    rt: &W,
+    alloc: Global,
+) -> Result<bool, NoMemory> {
+    let mut survey = keys(rt, alloc, 2000, 3000, 0)?;
+    survey.meets_later = true;
+    let gate = gate_for(0);
+    let listing = list(rt, alloc, &survey, 2, &gate)?;
+    Ok(is_listing(&listing, 2000, 2000) && survey.apart.load(Ordering::SeqCst) == 0)
+}
+
+#[test]
+fn a_rest_is_stolen(rt: HostRuntime) -> Result<(), Fail> {
+    assert!(rt; rest_is_stolen(&rt, rt.alloc())?);
+    Ok(())
+}
+
 // Whether so many workers list so many keys, of which one is spent, with an unruly gate; and where none is spent, no key
 // was scanned twice.
 fn listed<W: Threads + Wait + Sync + Abort>(

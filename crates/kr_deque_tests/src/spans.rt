@@ -3,7 +3,6 @@ ghost use Rattle.std.specs.Prelude.{◌≡◌, true, IfOk};
 ghost use Rattle.kr_survey.specs.Spans.{is_ahead};
 
 use kr_base::{Bound, Cut, NoMemory, Span};
-use kr_survey::is_before;
 use std::alloc::Global;
 use std::process::Abort;
 
@@ -32,7 +31,7 @@ pub(crate) fn ahead_of(
     ensures { IfOk result (λ span. is_ahead span ≡ true) }
 {
     let span = span_of(alloc, after, upto)?;
-    assert!(rt; is_before(&span.after, &span.upto));
+    assert!(rt; span.upto.is_above_cut(&span.after));
     Ok(span)
 }
 

@@ -12,7 +12,7 @@ use std::sync::atomic::{AtomicU64, Ordering};
 use std::sync::ledger::Ledger;
 
 /// A list whose first scans are refused memory, and which counts the keys that were scanned. Where they are to meet, the first
-/// two scans go on only when the other has begun; those that waited in vain are counted.
+/// two scans, or the two after them, go on only when the other has begun; those that waited in vain are counted.
 #[derive(Drop)]
 pub(crate) struct Watched {
     pub(crate) list: ListSurvey,
@@ -20,7 +20,21 @@ pub(crate) struct Watched {
     pub(crate) begun: AtomicU64,
     pub(crate) scanned: AtomicU64,
     pub(crate) meets: bool,
+    pub(crate) meets_later: bool,
     pub(crate) apart: AtomicU64,
+}
+
+impl Watched {
+    // How many scans have begun where the scan of this number goes on.
+    fn waits_for(&self, number: u64) -> u64 {
+        if self.meets && number < 2 {
+            2
+        } else if self.meets_later && 2 <= number && number < 4 {
+            4
+        } else {
+            0
+        }
+    }
 }
 
 impl Survey for Watched {
@@ -49,7 +63,7 @@ impl Survey for Watched {
         if number < self.refused {
             return Err(NoMemory::from(AllocError));
         }
-        if self.meets && number < 2 && !comes_to(&self.begun, 2) {
+        if !comes_to(&self.begun, self.waits_for(number)) {
             self.apart.fetch_add(1, Ordering::SeqCst);
         }
         let part = self.list.scan(after, upto, most, runs)?;
@@ -119,6 +133,7 @@ pub(crate) fn keys(
         begun: AtomicU64::new(0),
         scanned: AtomicU64::new(0),
         meets: false,
+        meets_later: false,
         apart: AtomicU64::new(0),
     })
 }

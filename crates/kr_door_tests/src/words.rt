@@ -1,7 +1,7 @@
 // The words of a call, run once each way.
 
 use kr_args::command;
-use kr_args::forms::{ArgRefusal, Ask, Command, Pool};
+use kr_args::forms::{ArgRefusal, Ask, Command, Pool, Search};
 use kr_base::{Bound, Words};
 use std::alloc::Global;
 use std::test::Fail;
@@ -27,6 +27,13 @@ fn pool_name(pool: Pool) -> &'static str {
     match pool {
         Pool::Board => "board",
         Pool::Deque => "deque",
+    }
+}
+
+fn is_end(bound: &Bound) -> bool {
+    match bound {
+        Bound::End => true,
+        Bound::At(_) => false,
     }
 }
 
@@ -58,18 +65,37 @@ fn shown_ask(alloc: Global, name: &str, ask: &Ask) -> Result<String, Fail> {
 /// A command, or why there is none, in one line.
 fn shown(alloc: Global, answer: &Result<Command, ArgRefusal>) -> Result<String, Fail> {
     match answer {
-        Ok(Command::List(ask)) => shown_ask(alloc, "list", ask),
-        Ok(Command::Test { method, ask }) => shown_ask(alloc, method.as_str(), ask),
+        Ok(Command::Search(Search::List(ask))) => shown_ask(alloc, "list", ask),
+        Ok(Command::Search(Search::Test { method, ask })) => shown_ask(alloc, method.as_str(), ask),
         Ok(Command::Check { fin, sources }) => {
             let fin = fin.as_str();
             let count = sources.len();
             Ok(format!(in alloc; "check {fin} {count}")?)
         }
-        Ok(Command::Demo { n, workers }) => Ok(format!(in alloc; "demo {n} {workers}")?),
-        Ok(Command::Shard(ask)) => shown_ask(alloc, "shard", ask),
+        Ok(Command::Search(Search::Demo { n, workers })) => Ok(format!(in alloc;
+            "demo {n} {workers}"
+        )?),
+        Ok(Command::Search(Search::Shard(ask))) => shown_ask(alloc, "shard", ask),
         Ok(Command::Merge(names)) => {
             let count = names.len();
             Ok(format!(in alloc; "merge {count}")?)
+        }
+        Ok(Command::Upgrade(fin)) => {
+            let fin = fin.as_str();
+            Ok(format!(in alloc; "upgrade {fin}")?)
+        }
+        Ok(
+            Command::Trace {
+                file,
+                from,
+                to,
+                workers,
+            },
+        ) => {
+            let file = file.as_str();
+            let from = from.numbers();
+            let is_whole = is_end(to);
+            Ok(format!(in alloc; "trace {file} {from:?} {is_whole} {workers}")?)
         }
         Err(ArgRefusal::Usage) => Ok(String::from_str(alloc, "usage")?),
         Err(ArgRefusal::NoMemory(_)) => Ok(String::from_str(alloc, "memory")?),
@@ -132,6 +158,8 @@ fn commands(rt: HostRuntime) -> Result<(), Fail> {
         ),
         ("shard f a --from 1 --to 1", "usage"),
         ("merge s2 s1", "merge 2"),
+        ("upgrade f", "upgrade f"),
+        ("trace f --from 1 --workers 3", "trace f [1] true 3"),
     ] {
         assert!(rt; is_command(rt.alloc(), line, wanted)?, "{line}");
     }

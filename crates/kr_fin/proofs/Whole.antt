@@ -16,7 +16,7 @@ within_limit n limit told e above = elim (cases_Bool (leb n limit)) [
   | inr long ↦ absurd (false≢true (sym e ∙ above (leb-false n limit long)))
 ]
 
-table_at_ok : (bytes : List ℕ) (ms : Members) → IsUtf8 bytes → parse_document bytes ≡ Some ms → table_in bytes ≡ Some ms
+pub table_at_ok : (bytes : List ℕ) (ms : Members) → IsUtf8 bytes → parse_document bytes ≡ Some ms → table_in bytes ≡ Some ms
 table_at_ok bytes ms utf8 parsed = rw (is_utf8-from_IsUtf8 bytes utf8, parsed) refl
 
 no_table : (bytes : List ℕ) → (IsUtf8 bytes → parse_document bytes ≡ None) → table_in bytes ≡ None

@@ -5,5 +5,6 @@ pub mod Shapes
 pub mod Version
 pub mod Faults
 pub mod Document
+pub mod Ascending
 pub mod Meaning
 pub mod Laws

@@ -18,3 +18,4 @@ pub use least::{Least, Ranked};
 pub use list::Listed;
 pub use reading::{MAX_FIN_BYTES, is_too_long, read_fin};
 pub use refusal::{FinRefusal, FinRule};
+pub use shapes::is_domain_name;

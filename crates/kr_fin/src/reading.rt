@@ -4,6 +4,7 @@ ghost use Rattle.toml.specs.Data.{as_integer, get_member, no_members};
 ghost use Rattle.kr_fin.specs.Shapes.{counts, fuels};
 ghost use Rattle.toml.specs.Errors.{IsMemory};
 ghost use Rattle.toml.specs.View.{view, table_view, array_view};
+ghost use Rattle.kr_fin.specs.Ascending.{AreBounds, AreCounts, AreDomains, IsInOrder};
 ghost use Rattle.kr_fin.specs.Document as spec;
 ghost use Rattle.kr_fin.specs.Meaning.{Refuses, document_in, meaning};
 ghost use Rattle.kr_fin.specs.Version as versions;
@@ -144,7 +145,8 @@ fn domain_of(alloc: Global, value: Option<&Value>) -> Result<Domain, NoMemory>
 }
 
 fn counts_of(alloc: Global, table: &Table) -> Result<Listed<Count>, NoMemory>
-    ensures { IfOk result (λ all. all ≡ spec.counts_of (table_view table.now)) }
+    ensures all { IfOk result (λ all. all ≡ spec.counts_of (table_view table.now)) }
+    ensures ordered { IfOk result AreCounts }
 {
     let mut counts = Listed::new(alloc);
     for (key, value) in table {
@@ -180,7 +182,8 @@ fn object_domain_at(alloc: Global, key: &str, value: &Value) -> Result<Count, No
 }
 
 fn object_domains_of(alloc: Global, table: &Table) -> Result<Listed<Count>, NoMemory>
-    ensures { IfOk result (λ all. all ≡ spec.object_domains_of (table_view table.now)) }
+    ensures all { IfOk result (λ all. all ≡ spec.object_domains_of (table_view table.now)) }
+    ensures ordered { IfOk result AreCounts }
 {
     let mut domains = Listed::new(alloc);
     for (key, value) in table {
@@ -192,7 +195,8 @@ fn object_domains_of(alloc: Global, table: &Table) -> Result<Listed<Count>, NoMe
 
 // The objects that a table of either version has.
 fn objects_of(alloc: Global, section: Section, table: &Table) -> Result<Listed<Count>, NoMemory>
-    ensures { IfOk result (λ all. all ≡ spec.objects_of section (table_view table.now)) }
+    ensures all { IfOk result (λ all. all ≡ spec.objects_of section (table_view table.now)) }
+    ensures ordered { IfOk result AreCounts }
 {
     match section {
         Section::Domains => object_domains_of(alloc, table),
@@ -228,7 +232,8 @@ fn bound_at(alloc: Global, key: &str, value: &Value) -> Result<ArrayBound, NoMem
 }
 
 fn bounds_of(alloc: Global, table: &Table) -> Result<Listed<ArrayBound>, NoMemory>
-    ensures { IfOk result (λ all. all ≡ spec.bounds_of (table_view table.now)) }
+    ensures all { IfOk result (λ all. all ≡ spec.bounds_of (table_view table.now)) }
+    ensures ordered { IfOk result AreBounds }
 {
     let mut bounds = Listed::new(alloc);
     for (key, value) in table {
@@ -239,7 +244,8 @@ fn bounds_of(alloc: Global, table: &Table) -> Result<Listed<ArrayBound>, NoMemor
 }
 
 fn domains_of(alloc: Global, table: &Table) -> Result<Listed<NamedDomain>, NoMemory>
-    ensures { IfOk result (λ all. all ≡ spec.domains_of (table_view table.now)) }
+    ensures all { IfOk result (λ all. all ≡ spec.domains_of (table_view table.now)) }
+    ensures ordered { IfOk result AreDomains }
 {
     let mut domains = Listed::new(alloc);
     for (key, value) in table {
@@ -261,7 +267,8 @@ fn section_of(document: &Table, section: Section) -> Option<&Table>
 }
 
 fn objects_in(alloc: Global, document: &Table) -> Result<Listed<Count>, NoMemory>
-    ensures { IfOk result (λ all. all ≡ spec.objects_of (versions.objects_section (table_view document.now)) (spec.table_of (versions.objects_section (table_view document.now)) (table_view document.now))) }
+    ensures all { IfOk result (λ all. all ≡ spec.objects_of (versions.objects_section (table_view document.now)) (spec.table_of (versions.objects_section (table_view document.now)) (table_view document.now))) }
+    ensures ordered { IfOk result AreCounts }
 {
     let section = objects_section(document);
     match section_of(document, section) {
@@ -277,7 +284,8 @@ fn version_of(document: &Table) -> u32
 }
 
 fn arrays_in(alloc: Global, document: &Table) -> Result<Listed<ArrayBound>, NoMemory>
-    ensures { IfOk result (λ all. all ≡ spec.bounds_of (spec.table_of Section.Arrays (table_view document.now))) }
+    ensures all { IfOk result (λ all. all ≡ spec.bounds_of (spec.table_of Section.Arrays (table_view document.now))) }
+    ensures ordered { IfOk result AreBounds }
 {
     match section_of(document, Section::Arrays) {
         Some(table) => bounds_of(alloc, table),
@@ -290,7 +298,8 @@ fn domains_in(
     document: &Table,
     section: Section,
 ) -> Result<Listed<NamedDomain>, NoMemory>
-    ensures { IfOk result (λ all. all ≡ spec.domains_of (spec.table_of section (table_view document.now))) }
+    ensures all { IfOk result (λ all. all ≡ spec.domains_of (spec.table_of section (table_view document.now))) }
+    ensures ordered { IfOk result AreDomains }
 {
     match section_of(document, section) {
         Some(table) => domains_of(alloc, table),
@@ -301,7 +310,8 @@ fn domains_in(
 // The contents of a table.
 #[tactic(auto, unfolding(crate::specs::Document::document_of))]
 fn document_of(alloc: Global, document: &Table) -> Result<FinDoc, NoMemory>
-    ensures { IfOk result (λ doc. doc ≡ spec.document_of (table_view document.now)) }
+    ensures all { IfOk result (λ doc. doc ≡ spec.document_of (table_view document.now)) }
+    ensures ordered { IfOk result IsInOrder }
 {
     let version = version_of(document);
     let root = text_of(alloc, value_at(document, "root"))?;
@@ -333,7 +343,8 @@ fn broken(alloc: Global, rule: FinRule, item: &str) -> FinRefusal
 // The document of a table, or its least fault.
 #[tactic(auto, unfolding(crate::specs::Meaning::document_in))]
 fn judge(alloc: Global, table: &Table) -> Result<FinDoc, FinRefusal>
-    ensures { MatchResult result (λ doc. document_in (table_view table.now) ≡ Ok doc) (Refuses (document_in (table_view table.now))) }
+    ensures read { MatchResult result (λ doc. document_in (table_view table.now) ≡ Ok doc) (Refuses (document_in (table_view table.now))) }
+    ensures ordered { IfOk result IsInOrder }
 {
     match least_fault(alloc, table) {
         Ok(None) => {}
@@ -346,21 +357,19 @@ fn judge(alloc: Global, table: &Table) -> Result<FinDoc, FinRefusal>
     }
 }
 
-/// Out of memory, as the reader of TOML reports it: it hands on no error of the allocator, so one is made by asking for more
-/// than there can be.
-fn lacking(alloc: Global, error: &toml::de::Error) -> NoMemory
+/// Out of memory, as the reader of TOML reports it: it hands on no error of the allocator.
+fn lacking(error: &toml::de::Error) -> NoMemory
     requires { IsMemory error.now }
 {
-    match Vec::<u64>::with_capacity(alloc, usize::MAX) {
-        Ok(all) => NoMemory::at_limit(all.capacity() as u64),
-        Err(why) => NoMemory::from(why),
-    }
+    let _ = error;
+    NoMemory::reported()
 }
 
 /// The document that the bytes are, or the rule that they break first.
 pub fn read_fin(alloc: Global, bytes: &[u8]) -> Result<FinDoc, FinRefusal>
     ensures read { IfOk result (λ document. meaning bytes.now ≡ Ok document) }
     ensures refused { IfErr result (Refuses (meaning bytes.now)) }
+    ensures ordered { IfOk result IsInOrder }
 {
     if is_too_long(bytes) {
         return Err(broken(alloc, FinRule::TooLong, "size"));
@@ -369,7 +378,7 @@ pub fn read_fin(alloc: Global, bytes: &[u8]) -> Result<FinDoc, FinRefusal>
         Ok(table) => judge(alloc, &table),
         Err(error) => {
             if error.is_memory() {
-                Err(FinRefusal::NoMemory(lacking(alloc, &error)))
+                Err(FinRefusal::NoMemory(lacking(&error)))
             } else {
                 Err(broken(alloc, FinRule::NotToml, "toml"))
             }

@@ -144,7 +144,7 @@ pub(crate) fn is_pair(key: &[u8]) -> bool
 }
 
 /// Whether an object domain may have the name: an identifier other than `null`.
-pub(crate) fn is_domain_name(key: &str) -> bool
+pub fn is_domain_name(key: &str) -> bool
     ensures { result ≡ spec.is_domain_name key.now }
 {
     is_identifier(key) && key != "null"

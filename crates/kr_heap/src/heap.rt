@@ -1,5 +1,5 @@
 // The objects of a running program, by their numbers.
-ghost use Rattle.std.specs.Prelude.{◌≡◌, [], ◌∷◌, ◌++◌, length, map, ◌<◌, ◌≤◌, take, OnOk, OnErr, IfOk};
+ghost use Rattle.std.specs.Prelude.{◌≡◌, [], ◌∷◌, ◌++◌, length, map, ◌+◌, ◌<◌, ◌≤◌, take, OnOk, OnErr, IfOk};
 ghost use Rattle.kr_heap.specs.Shown.{shown};
 ghost use Rattle.std.specs.Borrow.{sem};
 ghost use Rattle.kr_value.specs.Heaps.{object_in};
@@ -89,6 +89,20 @@ impl Heap {
         self.objects.len()
     }
 
+    /// For more objects than have numbers.
+    pub fn at_limit(&self) -> NoMemory
+        requires { 4294967295 ≤ length self.now }
+    {
+        NoMemory::at_limit(self.objects.as_slice())
+    }
+
+    /// For more objects than have numbers, where those of another heap are numbered before them.
+    pub fn at_limit_after(&self, others: &Heap) -> NoMemory
+        requires { 4294967295 ≤ length others.now + length self.now }
+    {
+        NoMemory::at_common_limit(others.objects.as_slice(), self.objects.as_slice())
+    }
+
     /// The class of an object.
     #[inline(always)]
     pub fn class_of(&self, object: Obj) -> Class
@@ -161,7 +175,7 @@ impl Heap {
     {
         let count = self.objects.len();
         let Ok(number) = u32::try_from(count) else {
-            return Err(NoMemory::at_limit(count as u64));
+            return Err(NoMemory::at_limit(self.objects.as_slice()));
         };
         let values = Members::from_vec(values);
         self.objects.push(Object { class, values })?;

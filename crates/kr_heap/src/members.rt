@@ -12,7 +12,7 @@ use std::marker::Model;
 pub fn too_many(values: &[Value]) -> NoMemory
     requires { 2147483647 ≤ length values.now }
 {
-    NoMemory::at_limit(values.len() as u64 * 2 + 1)
+    NoMemory::at_int_limit(values)
 }
 
 /// The fields, elements or members of an object: at most 2147483647, so that a length is an int. Removing the first one

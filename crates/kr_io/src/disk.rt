@@ -22,7 +22,7 @@ pub struct DiskFiles<'a, R: rt::Files> {
 }
 
 impl<'a, R: rt::Files> DiskFiles<'a, R> {
-    ghost use Rattle.kr_io.specs.Outside.{disk_faults, disk_last};
+    ghost use Rattle.kr_io.specs.Outside.{Notes, disk_faults, disk_last};
 
     /// Files of the operating system.
     pub fn new(rt: &'a R, alloc: Global) -> Self
@@ -34,6 +34,26 @@ impl<'a, R: rt::Files> DiskFiles<'a, R> {
             alloc,
             faults: 0,
             last: None,
+        }
+    }
+
+    /// What a read of a file of this name has found. A failed one is counted, and its name is kept.
+    fn noted(
+        &mut self,
+        name: String,
+        found: Result<Vec<u8>, ReadRefusal>,
+    ) -> Result<Vec<u8>, ReadRefusal>
+        ensures found { result ≡ found }
+        ensures noted { Notes self.old.faults self.new.faults (option_map string_bytes self.old.last) (option_map string_bytes self.new.last) (string_bytes name) result }
+    {
+        match found {
+            Ok(bytes) => Ok(bytes),
+            Err(ReadRefusal::NoMemory(why)) => Err(ReadRefusal::NoMemory(why)),
+            Err(ReadRefusal::Failed) => {
+                self.faults = self.faults.saturating_add(1);
+                self.last = Some(name);
+                Err(ReadRefusal::Failed)
+            }
         }
     }
 }
@@ -93,8 +113,13 @@ fn read_through<S: Read>(
     Ok(bytes)
 }
 
-/// The first bytes that a reader gives, at most so many.
-fn read_front<S: Read>(alloc: Global, source: &mut S, most: usize) -> Result<Vec<u8>, ReadRefusal>
+/// The first bytes that a reader gives, at most so many. Of an opened file the kit tells no bytes, so that the contract of
+/// `DiskFiles` tells none either: that `read_file` calls this on the file that it opens, only tests show.
+pub fn read_front<S: Read>(
+    alloc: Global,
+    source: &mut S,
+    most: usize,
+) -> Result<Vec<u8>, ReadRefusal>
     ensures short { IfOk result (λ v. length v.items ≤ most) }
     ensures bytes { IfOk result (λ v. IfSome (S.remaining source.old) (λ all. v.items ≡ take most all)) }
 {
@@ -111,10 +136,7 @@ fn read_file<R: rt::Files>(
     ensures { IfOk result (λ v. length v.items ≤ most) }
 {
     match fs::open(rt, name) {
-        Ok(file) => {
-            let mut file = file;
-            read_front(alloc, &mut file, most)
-        }
+        Ok(mut file) => read_front(alloc, &mut file, most),
         Err(_) => Err(ReadRefusal::Failed),
     }
 }
@@ -129,14 +151,7 @@ impl<'a, R: rt::Files> Files for DiskFiles<'a, R> {
     fn read(&mut self, name: &str, most: usize) -> Result<Vec<u8>, ReadRefusal> {
         // The name comes first, so that a fault never lacks memory for it.
         let kept = name_of(self.alloc, name)?;
-        match read_file(self.rt, self.alloc, name, most) {
-            Ok(bytes) => Ok(bytes),
-            Err(ReadRefusal::NoMemory(why)) => Err(ReadRefusal::NoMemory(why)),
-            Err(ReadRefusal::Failed) => {
-                self.faults = self.faults.saturating_add(1);
-                self.last = Some(kept);
-                Err(ReadRefusal::Failed)
-            }
-        }
+        let found = read_file(self.rt, self.alloc, name, most);
+        self.noted(kept, found)
     }
 }

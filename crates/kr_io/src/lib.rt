@@ -10,7 +10,7 @@ mod output;
 mod signals;
 mod sinks;
 
-pub use disk::DiskFiles;
+pub use disk::{DiskFiles, read_front};
 pub use files::{Files, ReadRefusal};
 pub use gate::{Gate, OpenGate};
 pub use kr_base::{Failed, Sink};

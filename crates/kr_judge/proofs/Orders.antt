@@ -12,7 +12,7 @@ use Rattle.kr_laws_slots.proofs.Membership.{Has}
 use Rattle.kr_laws_slots.proofs.Reached.{has_flat}
 use Rattle.kr_laws_slots.proofs.SlotForks.{added, distinct_append}
 use Rattle.kr_run_state.specs.Noting.{is_read, with_read, noted_once}
-use Rattle.kr_build.specs.Visits.{IsMarked}
+use Rattle.kr_space_layout.specs.Marks.{IsMarked}
 use Rattle.kr_judge.specs.Orders.{AreMarked, with_slot, with_slots}
 use Rattle.kr_laws_slots.proofs.Places.{same_spots}
 

@@ -7,6 +7,7 @@ ghost use Rattle.kr_mean.specs.Program.{Program};
 ghost use Rattle.kr_mean.specs.Runs.{hold_all as hold_all_step};
 ghost use Rattle.kr_run_state.specs.Worlds.{state_of};
 
+use kr_base::Permit;
 use kr_code::Code;
 use kr_mean::Stop;
 use kr_run::evaluate;
@@ -47,14 +48,16 @@ fn hold(alloc: Global, code: &Code, world: &mut World, conditions: &[u32]) -> Re
 }
 
 /// Whether the conditions at these nodes hold, the world that they leave, and the places that
-/// were read, each where it is read first; or how the run ends.
+/// were read, each where it is read first; or how the run ends. It uses up the permit of the run.
 pub(crate) fn hold_all(
     alloc: Global,
     code: &Code,
     world: &mut World,
     conditions: &[u32],
+    permit: Permit,
 ) -> Result<bool, Halt>
     ensures { (program : Program) (n : Numbering) → IsCodeOf program code.now n → MeansAs result world.new world.old.reads (hold_all_step program (map n.origin conditions.now) (state_of world.old)) }
 {
+    drop(permit);
     hold(alloc, code, world, conditions)
 }

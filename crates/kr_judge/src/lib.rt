@@ -14,4 +14,4 @@ mod start;
 pub use accesses::Accesses;
 pub use judge::Judge;
 pub use predicate::Predicate;
-pub use start::{begin, blank_world};
+pub use start::{begin, blank_world, release_made};

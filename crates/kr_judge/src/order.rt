@@ -5,7 +5,7 @@ ghost use Rattle.kr_mean.specs.Runs.{contains_number};
 ghost use Rattle.kr_judge.specs.Orders.{AreMarked, EachOnce, with_slot};
 
 use kr_base::NoMemory;
-use kr_build::{is_marked, mark};
+use kr_space_layout::{is_marked, mark};
 use std::alloc::Global;
 use std::marker::Model;
 

@@ -42,13 +42,14 @@ pub fn run_predicate<L: Ledger>(
     ensures run { IfOk result (λ run. (program : Program) (n : Numbering) → IsPredicateOf (problem_with program layout.now) predicate.now n → IsRunOf (problem_with program layout.now) vector.now run) }
     ensures runs { runs.new ≡ runs.old + 1 }
 {
-    runs.tick();
+    let permit = runs.tick();
     let mut world = world_of(alloc, layout, vector, false)?;
     let answer = hold_all(
         alloc,
         &predicate.code,
         &mut world,
         predicate.conditions.as_slice(),
+        permit,
     );
     let end = ended(answer)?;
     Ok(Ran {

@@ -1,5 +1,5 @@
 // The world that a candidate's run begins in.
-ghost use Rattle.std.specs.Prelude.{◌≡◌, ◌<◌, ◌^◌, ◌∷◌, [], IfOk, OnOk, length, map};
+ghost use Rattle.std.specs.Prelude.{◌≡◌, ◌<◌, ◌≤◌, ◌^◌, ◌∷◌, [], IfOk, OnOk, length, map};
 ghost use Rattle.kr_mean.specs.Places.{This};
 ghost use Rattle.kr_mean.specs.Problem.{slots};
 ghost use Rattle.kr_mean.specs.Heaps.{heap_of, value_at};
@@ -31,6 +31,15 @@ pub fn blank_world(alloc: Global) -> World {
         is_frozen: true,
         fuel: 0,
         reads: Reads::new(alloc),
+    }
+}
+
+/// Drops what a run has made, with its room, where that is much.
+pub fn release_made(alloc: Global, made: &mut Heap)
+    ensures { length made.new ≤ 1024 }
+{
+    if made.len() > 1_024 {
+        *made = Heap::new(alloc);
     }
 }
 

@@ -21,7 +21,7 @@ fn add_call(problem: &Problem, subject: &Subject, nodes: &mut Vec<Node>) -> Resu
 {
     let next = nodes.len() as u64 + 1;
     let Ok(object) = u32::try_from(next) else {
-        return Err(NoMemory::at_limit(next));
+        return Err(NoMemory::at_limit(nodes.as_slice()));
     };
     let call = rep_ok_call(&problem.program, rep_ok(problem, subject), object);
     nodes.push(Node::Expression(call))?;

@@ -32,7 +32,7 @@ pub(crate) fn fields_of_classes(
 {
     let count = members.len();
     let Ok(classes) = u32::try_from(count) else {
-        return Err(NoMemory::at_limit(count as u64));
+        return Err(members.at_limit());
     };
     fields_before(alloc, members, classes)
 }

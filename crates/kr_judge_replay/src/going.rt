@@ -1,5 +1,5 @@
 // A run that goes on from its position, with a checkpoint before each first read.
-ghost use Rattle.std.specs.Prelude.{◌≡◌, ◌<◌, ◌≤◌, ◌^◌, ◌∷◌, [], ℕ, List, ◌+◌, IfOk, IfSome, OnOk, Some, false, length, slice_get, take, true};
+ghost use Rattle.std.specs.Prelude.{◌≡◌, ◌<◌, ◌≤◌, ◌^◌, ◌∷◌, [], ℕ, List, ◌+◌, IfOk, IfSome, MatchOption, None, OnOk, Some, false, length, slice_get, take, true};
 ghost use Rattle.std.specs.List.{All};
 ghost use Rattle.kr_code.specs.Resolved.{Numbering};
 ghost use Rattle.kr_mean.specs.Heaps.{heap_of};
@@ -21,7 +21,7 @@ ghost use Rattle.kr_judge_replay.specs.Kept.{AreShared, GoesOn, Kept, Shares};
 use crate::checks::{Checks, Start};
 use crate::fresh::{refresh, restore};
 use crate::pauses::pause_of;
-use kr_base::{NoMemory, Steps};
+use kr_base::{Countdown, NoMemory, Permit, Steps};
 use kr_judge::{Accesses, Predicate, begin};
 use kr_mean::Stop;
 use kr_run::{Step, advance};
@@ -95,8 +95,9 @@ fn give(
     ensures kept { All (Kept input.entry.layout.now input.entry.predicate.now input.entry.vector.now) checks.new }
 {
     let mut next = task;
-    let mut count: u64 = 0;
-    'steps: for step in 0..u64::MAX {
+    let mut left = Countdown::start();
+    'steps: while !left.is_over() {
+        left.count();
         match advance(alloc, &input.predicate.code, world, stack, &mut next) {
             Err(halt) => return Err(halt),
             Ok(stepped) => match stepped {
@@ -105,11 +106,11 @@ fn give(
             },
         }
         match consider(alloc, input, world, checks, condition, &next, stack) {
-            Ok(()) => count += 1,
+            Ok(()) => {}
             Err(why) => return Err(Halt::Memory(why)),
         }
     }
-    Err(Halt::Memory(NoMemory::at_limit(count)))
+    Err(Halt::Memory(left.at_end()))
 }
 
 /// The node of a condition, if there is one.
@@ -127,7 +128,28 @@ fn first_condition(predicate: &Predicate) -> u32
     predicate.conditions[0]
 }
 
-/// Runs on: whether all conditions hold.
+/// A condition: its position, and its node.
+#[derive(Clone, Copy)]
+struct Condition {
+    at: usize,
+    node: u32,
+}
+
+/// The condition after the one at a position, if there is one.
+fn condition_after(predicate: &Predicate, condition: usize) -> Option<Condition>
+    ensures { MatchOption result (slice_get predicate.now.conditions.items (condition + 1) ≡ None) (λ following. (following.at ≡ condition + 1) × (slice_get predicate.now.conditions.items following.at ≡ Some following.node)) }
+{
+    if condition >= predicate.conditions.len() {
+        return None;
+    }
+    let at = condition + 1;
+    match predicate.conditions.get(at) {
+        None => None,
+        Some(node) => Some(Condition { at, node: *node }),
+    }
+}
+
+/// Runs on: whether all conditions hold. It uses up the permit of the run.
 fn go_on(
     alloc: Global,
     input: Input<'_>,
@@ -136,6 +158,7 @@ fn go_on(
     condition: usize,
     task: Task,
     stack: &mut Stack,
+    permit: Permit,
 ) -> Result<bool, Halt>
     requires well { IsWellFormed (bare input.layout.now) }
     requires vector { IsVector (space_of (bare input.layout.now)) input.vector.now }
@@ -145,10 +168,12 @@ fn go_on(
     ensures stays { Stays input.entry.layout.now input.entry.vector.now result world.new }
     ensures kept { All (Kept input.entry.layout.now input.entry.predicate.now input.entry.vector.now) checks.new }
 {
+    drop(permit);
     let mut at = condition;
     let mut next = task;
-    let mut count: u64 = 0;
-    'conditions: for round in 0..u64::MAX {
+    let mut left = Countdown::start();
+    'conditions: while !left.is_over() {
+        left.count();
         match give(alloc, input, world, checks, at, next, stack) {
             Err(halt) => return Err(halt),
             Ok(given) => match given {
@@ -156,16 +181,12 @@ fn go_on(
                     if !truth {
                         return Ok(false);
                     }
-                    let Some(following) = at.checked_add(1) else {
-                        return Err(Halt::Memory(NoMemory::at_limit(at as u64)));
-                    };
-                    match condition_at(input.predicate, following) {
+                    match condition_after(input.predicate, at) {
                         None => return Ok(true),
-                        Some(node) => {
-                            at = following;
-                            next = Task::Evaluate(node);
+                        Some(following) => {
+                            at = following.at;
+                            next = Task::Evaluate(following.node);
                             stack.clear();
-                            count += 1;
                         }
                     }
                 }
@@ -175,7 +196,7 @@ fn go_on(
             },
         }
     }
-    Err(Halt::Memory(NoMemory::at_limit(count)))
+    Err(Halt::Memory(left.at_end()))
 }
 
 /// The checkpoints alone that a candidate holds to, if what they are of is known.
@@ -291,6 +312,7 @@ fn attempt(
     checks: &mut Checks,
     world: &mut World,
     stack: &mut Stack,
+    permit: Permit,
 ) -> Result<Went, NoMemory>
     requires well { IsWellFormed (bare input.layout.now) }
     requires vector { IsVector (space_of (bare input.layout.now)) input.vector.now }
@@ -333,6 +355,7 @@ fn attempt(
         start.condition,
         start.task,
         stack,
+        permit,
     );
     let end = ended(answer)?;
     restore(
@@ -372,6 +395,6 @@ pub(crate) fn run<L: Ledger>(
     ensures long { length known.new ≡ length known.old }
     ensures runs { runs.new ≡ runs.old + 1 }
 {
-    runs.tick();
-    attempt(alloc, input, last, known, checks, world, stack)
+    let permit = runs.tick();
+    attempt(alloc, input, last, known, checks, world, stack, permit)
 }

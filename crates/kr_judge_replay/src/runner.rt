@@ -16,7 +16,7 @@ use crate::checks::Checks;
 use crate::going::{Input, Last, run};
 use kr_base::{NoMemory, Steps};
 use kr_iso::{Object, Slots};
-use kr_judge::{Accesses, Predicate, blank_world};
+use kr_judge::{Accesses, Predicate, blank_world, release_made};
 use kr_judge_prepared::Prepared;
 use kr_mean::Stop;
 use kr_run_frames::Stack;
@@ -192,6 +192,8 @@ impl<'s> Runner<'s> {
         self.fresh = self.accesses.order.len();
         self.low = u32::MAX;
         self.high = 0;
+        self.stack.release();
+        release_made(self.alloc, &mut self.world.made);
         Ok(went.end)
     }
 }

@@ -23,7 +23,7 @@ use Rattle.kr_space_meaning.specs.Bounds.{Setting, setting_of, bounded, domains_
 use Rattle.kr_space_meaning.specs.Faults.{is_predicate}
 use Rattle.kr_fin.specs.Least.{IsLeast}
 use Rattle.kr_space_meaning.specs.Meaning.{faults_of, unless, meaning}
-use Rattle.kr_space_meaning.specs.Order.{Fault, least, rank_of}
+use Rattle.kr_space_meaning.specs.Order.{Fault, least, space_rank}
 use Rattle.kr_space_meaning.proofs.Each.{unbroken}
 use Rattle.kr_fin.proofs.Leasts.{least_of_all}
 use Rattle.kr_space_meaning.proofs.WellFormed.{well_formed}
@@ -71,7 +71,7 @@ posed files document mode problem e = go (least (faults_of files document mode))
     inside (Err f) = problem
 
     go : (o : Option Fault) → least (faults_of files document mode) ≡ o → unless o (problem_of files document mode) ≡ Ok problem → IsPosed files document mode problem
-    go None n e = record { unbroken = subst (λ (o : Option Fault). MatchOption o (faults_of files document mode ≡ []) (IsLeast rank_of (faults_of files document mode))) n (least_of_all rank_of (faults_of files document mode)); is = ap inside e }
+    go None n e = record { unbroken = subst (λ (o : Option Fault). MatchOption o (faults_of files document mode ≡ []) (IsLeast space_rank (faults_of files document mode))) n (least_of_all space_rank (faults_of files document mode)); is = ap inside e }
     go (Some f) n e = absurd (cc (e))
 
 -- its program is that of the files, with more array types

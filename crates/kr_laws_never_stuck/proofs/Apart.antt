@@ -12,7 +12,8 @@ use Rattle.kr_ast.specs.Tree.{Tree}
 use Rattle.kr_classes_table.specs.Nodes.{nodes}
 use Rattle.kr_classes_table.specs.Table.{Field, table_of}
 use Rattle.kr_laws_never_stuck.specs.Grown.{IsGrown, AreGrown}
-use Rattle.kr_laws_never_stuck.specs.Apart.{one_if, one_at, node_at, nodes_at, all_fields, fields_at, ApartLaw, FieldsLaw}
+use Rattle.kr_laws_never_stuck.specs.Apart.{one_at, node_at, nodes_at, all_fields, fields_at, ApartLaw, FieldsLaw}
+use Rattle.kr_lex.specs.Cursors.{one_if}
 use Rattle.kr_laws_never_stuck.proofs.Weights as weights
 use Rattle.kr_laws_never_stuck.proofs.Spelled.{placed, once, elsewhere, star, star_of, stars, no_stars}
 use Rattle.kr_laws_never_stuck.proofs.DeclaredFields.{F, fields_less}

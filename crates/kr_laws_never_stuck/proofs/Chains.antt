@@ -5,8 +5,9 @@ use Rattle.std.proofs.lemmas.Bool.{eq-eqb, eqb-true, or_cases, or_right, or_left
 use Rattle.kr_classes_table.specs.Table.{Table, Class, class_at, super_of, line_within, ancestors, line_of, is_among, is_below}
 use Rattle.kr_classes_table.specs.Ancestors.{IsWhole}
 use Rattle.kr_laws_safety.specs.Typed.{first_class, IsLine}
-use Rattle.kr_laws_never_stuck.proofs.Unbroken.{Unbroken, not_broken}
+use Rattle.kr_laws_never_stuck.proofs.Unbroken.{Unbroken}
 use Rattle.kr_laws_runs.proofs.Overriders.{no_line}
+use Rattle.kr_classes_table.proofs.Tables.{unbroken}
 
 -- ---- booleans
 
@@ -77,7 +78,7 @@ module _ (t : Table) (rules : Unbroken t) (whole : IsWhole t) where
     where
       go : (o : Option ℕ) → super_of t c ≡ o → is_among c (line_within (length t.classes) t o) ≡ true → ⊥
       go None e h = cc (ap (is_among c) (sym (no_line (length t.classes) t)) ∙ h)
-      go (Some s) e h = let d = super_class_at c s e in cc (not_broken (is_among c (ancestors t c)) 3 d.0.place (rules.C3 c d.0 d.1), ap (λ (o : Option ℕ). is_among c (line_within (length t.classes) t o)) e ∙ h)
+      go (Some s) e h = let d = super_class_at c s e in cc (unbroken (is_among c (ancestors t c)) 3 d.0.place (rules.C3 c d.0 d.1), ap (λ (o : Option ℕ). is_among c (line_within (length t.classes) t o)) e ∙ h)
 
   -- there is a class, so a line has room for one
   some_classes : (c : ℕ) (d : Class) (ds : List Class) → class_at ds c ≡ Some d → (m : ℕ) × (length ds ≡ suc m)

@@ -11,7 +11,7 @@ use Rattle.kr_classes_table.specs.Types.{JavaType, VoidType}
 use Rattle.kr_classes_table.specs.Table.{Table, Class, Field, Method, Heading, items, table_of, headings_of, classes_from, class_of, class_at, declared_in, fields_in, method_with, methods_in, own_fields, own_methods, is_instance, fields_of, field_named, ancestors, line_of, is_among, is_below}
 use Rattle.kr_classes_table.specs.Rules.{break_if, is_name_among, repeated}
 use Rattle.kr_mean.specs.Purity.{IsOneOf}
-use Rattle.kr_laws_never_stuck.proofs.Unbroken.{not_broken, Unbroken}
+use Rattle.kr_laws_never_stuck.proofs.Unbroken.{Unbroken}
 use Rattle.kr_classes_table.specs.Ancestors.{IsWhole}
 use Rattle.kr_mean.specs.Program.{Program, position_from}
 use Rattle.kr_laws_safety.specs.Steps.{IsFieldAt, HasField}
@@ -19,6 +19,7 @@ use Rattle.kr_laws_never_stuck.specs.ClassRules.{IsDeclared}
 use Rattle.kr_laws_never_stuck.proofs.Chains.{Chain, chain, onward}
 use Rattle.kr_laws_runs.proofs.Overriders.{one_front, one_back}
 use Rattle.kr_base.proofs.ListLemmas.{append_is_nil}
+use Rattle.kr_classes_table.proofs.Tables.{unbroken}
 
 -- ---- membership
 
@@ -185,7 +186,7 @@ name_among n g (x ∷ gs) (inr i) e = or_right (bytes_eq n x.name) _ (name_among
 -- a name that isn't repeated isn't one of those before it
 unseen : (r : ℕ) (seen : List (List ℕ)) (fs : List Field) (f : Field) → repeated r seen (map named_at fs) ≡ [] → IsOneOf f fs → is_name_among f.name seen ≡ false
 unseen r seen [] f e h = absurd h
-unseen r seen (x ∷ fs) f e (inl i) = ap (λ (g : Field). is_name_among g.name seen) (sym i) ∙ not_broken (is_name_among x.name seen) r x.place (append_is_nil (break_if (is_name_among x.name seen) r x.place) (repeated r (x.name ∷ seen) (map named_at fs)) e).0
+unseen r seen (x ∷ fs) f e (inl i) = ap (λ (g : Field). is_name_among g.name seen) (sym i) ∙ unbroken (is_name_among x.name seen) r x.place (append_is_nil (break_if (is_name_among x.name seen) r x.place) (repeated r (x.name ∷ seen) (map named_at fs)) e).0
 unseen r seen (x ∷ fs) f e (inr i) = later (bytes_eq f.name x.name) (is_name_among f.name seen) (unseen r (x.name ∷ seen) fs f (append_is_nil (break_if (is_name_among x.name seen) r x.place) (repeated r (x.name ∷ seen) (map named_at fs)) e).1 i)
   where
     later : (a b : Bool) → (a || b) ≡ false → b ≡ false

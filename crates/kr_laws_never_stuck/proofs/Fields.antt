@@ -13,14 +13,16 @@ use Rattle.kr_types_meaning.specs.Typing.{IsWellTyped}
 use Rattle.kr_mean.specs.Purity.{IsOneOf}
 use Rattle.kr_space_meaning.specs.Bounds.{class_name}
 use Rattle.kr_laws_never_stuck.specs.Apart as apart
-use Rattle.kr_laws_never_stuck.specs.Apart.{one_if, one_at, all_fields, fields_at}
-use Rattle.kr_laws_never_stuck.proofs.Unbroken.{not_broken, unbroken}
+use Rattle.kr_laws_never_stuck.specs.Apart.{one_at, all_fields, fields_at}
+use Rattle.kr_lex.specs.Cursors.{one_if}
+use Rattle.kr_laws_never_stuck.proofs.Unbroken.{unbroken}
 use Rattle.kr_laws_never_stuck.proofs.Declared.{one_split, one_part, no_more, own_field, names_equal, equal_names}
 use Rattle.kr_laws_never_stuck.specs.WellTyped.{AreApart, AreFiles}
 use Rattle.kr_laws_never_stuck.proofs.Files.{heading_at, class_good_at}
 use Rattle.kr_laws_never_stuck.specs.Keys.{IsKeyed}
 use Rattle.kr_laws_runs.proofs.Overriders.{one_front, one_back}
 use Rattle.kr_base.proofs.ListLemmas.{append_is_nil}
+use Rattle.kr_classes_table.proofs.Tables.{unbroken as not_broken}
 
 -- ---- places
 

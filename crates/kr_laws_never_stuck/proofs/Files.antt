@@ -7,16 +7,16 @@ use Rattle.kr_ast.specs.Tree as trees
 use Rattle.kr_ast.specs.Tree.{Tree}
 use Rattle.kr_classes_table.specs.Table.{Heading, Table, Class, items, heading_of, with_nested, headings_from, headings_of, number_from, number_of, table_of, class_of, classes_from, class_at}
 use Rattle.kr_classes_table.specs.Constants.{values_of}
-use Rattle.kr_classes_table.specs.Rules.{Fault, class_fault, break_if, is_name_among, repeated, C1, first_of, least, each_class, C2, C3, C4, C5, C6, C7, C8}
+use Rattle.kr_classes_table.specs.Rules.{Fault, class_fault, break_if, is_name_among, repeated, C1, least, each_class, C2, C3, C4, C5, C6, C7, C8}
 use Rattle.kr_classes_table.proofs.Least.{is_least}
 use Rattle.kr_types_meaning.specs.Scopes.{Scope, scope_of, in_class, after}
 use Rattle.kr_types_meaning.specs.Typing.{judged, judge, class_rule, has_constructor, outside, IsWellTyped}
 use Rattle.kr_laws_shapes.specs.Shapes.{IsMember, IsClass, AreClasses}
 use Rattle.kr_laws_runs.proofs.Respects.{AllOf, all_both}
-use Rattle.kr_laws_never_stuck.proofs.Unbroken.{not_broken}
 use Rattle.kr_laws_never_stuck.proofs.Declared.{equal_names}
 use Rattle.kr_laws_never_stuck.specs.WellTyped.{AreFiles}
 use Rattle.kr_base.proofs.ListLemmas.{append_is_nil}
+use Rattle.kr_classes_table.proofs.Tables.{first_none, unbroken}
 
 -- ---- members
 
@@ -111,7 +111,7 @@ unseen : (all : List Heading) (k : ℕ) (seen : List (List ℕ)) (hs : List Head
 unseen all k seen [] c h e q = absurd (cc (q))
 unseen all k seen (x ∷ hs) zero h e q =
     let i : x ≡ h = ap (λ (o : Option Heading). elim o as (λ y. Heading) [ Some y ↦ y | None ↦ x ]) q in
-    ap (λ (z : Heading). is_name_among z.name seen) (sym i) ∙ not_broken (is_name_among x.name seen) 1 x.place (append_is_nil (break_if (is_name_among x.name seen) 1 x.place) (repeated 1 (x.name ∷ seen) (map class_name (classes_from all (k + 1) hs))) e).0
+    ap (λ (z : Heading). is_name_among z.name seen) (sym i) ∙ unbroken (is_name_among x.name seen) 1 x.place (append_is_nil (break_if (is_name_among x.name seen) 1 x.place) (repeated 1 (x.name ∷ seen) (map class_name (classes_from all (k + 1) hs))) e).0
 unseen all k seen (x ∷ hs) (suc c) h e q = later (bytes_eq h.name x.name) (is_name_among h.name seen) (unseen all (k + 1) (x.name ∷ seen) hs c h (append_is_nil (break_if (is_name_among x.name seen) 1 x.place) (repeated 1 (x.name ∷ seen) (map class_name (classes_from all (k + 1) hs))) e).1 q)
   where
     later : (a b : Bool) → (a || b) ≡ false → b ≡ false
@@ -151,10 +151,6 @@ pub record IsGoodAt (files : List Tree) (c : ℕ) (d : Class) : Type 0 where
   pub members : heading.members ≡ items tree
   pub all : AllOf (IsGoodMember (scope_of (table_of files) (values_of (table_of files)) c)) (items tree)
   pub rule : (judge heading.place (class_rule (has_constructor (scope_of (table_of files) (values_of (table_of files)) c)) (scope_of (table_of files) (values_of (table_of files)) c)) (judged (scope_of (table_of files) (values_of (table_of files)) c) tree).faults).faults ≡ []
-
-first_none : (x : Option Fault) (os : List (Option Fault)) → first_of (x ∷ os) ≡ None → x ≡ None
-first_none None os e = refl
-first_none (Some f) os e = absurd (cc (e))
 
 names_apart : (files : List Tree) → class_fault (table_of files) ≡ None → C1 (table_of files) ≡ []
 unfolding class_fault

@@ -14,7 +14,8 @@ use Rattle.kr_mean.specs.Code.{Node, code}
 use Rattle.kr_mean.specs.Verdicts.{OldNode, old_in}
 use Rattle.kr_laws_safety.specs.Triples.{type_of_old}
 use Rattle.kr_laws_safety.specs.Tested.{old_type, old_types}
-use Rattle.kr_laws_never_stuck.specs.Apart.{one_if, one_at, nodes_at}
+use Rattle.kr_laws_never_stuck.specs.Apart.{one_at, nodes_at}
+use Rattle.kr_lex.specs.Cursors.{one_if}
 use Rattle.kr_laws_never_stuck.proofs.Parts.{nodes_append}
 use Rattle.kr_laws_never_stuck.proofs.Walks.{Shape}
 

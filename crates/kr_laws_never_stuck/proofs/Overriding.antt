@@ -6,7 +6,7 @@ use Rattle.kr_classes_table.specs.Types.{JavaType, NullType, ClassType, SetType,
 use Rattle.kr_classes_table.specs.Table.{Table, Class, Parameter, Method, table_of, class_at, own_methods, method_on, method_named, ancestors, line_of, is_among, is_below, is_subtype}
 use Rattle.kr_classes_table.specs.Rules.{break_if, repeated, same_types, overrides, result_fits}
 use Rattle.kr_classes_table.specs.Ancestors.{IsWhole}
-use Rattle.kr_classes_table.proofs.Tables.{table_law}
+use Rattle.kr_classes_table.proofs.Tables.{table_law, unbroken as not_broken}
 use Rattle.kr_mean.specs.Program.{Program, program_with}
 use Rattle.kr_mean.specs.Purity.{IsOneOf}
 use Rattle.kr_laws_safety.proofs.Heaps.{same_type}
@@ -15,7 +15,7 @@ use Rattle.kr_laws_safety.proofs.Steps.{below_itself}
 use Rattle.kr_laws_safety.specs.Typed.{types_in}
 use Rattle.kr_laws_safety.proofs.Targets.{assignable_through}
 use Rattle.kr_laws_never_stuck.specs.ClassRules.{IsOverrider, ClassRulesLaw}
-use Rattle.kr_laws_never_stuck.proofs.Unbroken.{not_broken, Unbroken, unbroken}
+use Rattle.kr_laws_never_stuck.proofs.Unbroken.{Unbroken, unbroken}
 use Rattle.kr_laws_never_stuck.proofs.Chains.{Chain, chain, onward, line}
 use Rattle.kr_laws_never_stuck.proofs.Declared.{one_part, no_more, found_one, own_field, own_method, names_equal, declared}
 use Rattle.kr_base.proofs.ListLemmas.{append_is_nil}

@@ -20,7 +20,8 @@ use Rattle.kr_lex.proofs.Listing.{is_symbol}
 use Rattle.kr_lex.proofs.Classes.{start_ascii, symbol_facts, token_shape, token_some}
 use Rattle.kr_lex.proofs.Unique.{name_byte, token_no_white}
 use Rattle.kr_classes_table.specs.Constants.{is_at_place}
-use Rattle.kr_laws_never_stuck.specs.Apart.{one_if, one_at}
+use Rattle.kr_laws_never_stuck.specs.Apart.{one_at}
+use Rattle.kr_lex.specs.Cursors.{one_if}
 use Rattle.kr_laws_never_stuck.proofs.Positions.{IsBefore, before_trans, onward, Starts, passes}
 
 -- ---- the first byte of a token

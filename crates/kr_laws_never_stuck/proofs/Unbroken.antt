@@ -1,15 +1,10 @@
 -- Where no class rule is broken, none is of any class.
-use Rattle.std.proofs.Common.{◌≡◌, refl, ap, subst, ℕ, zero, suc, ◌+◌, Bool, true, false, List, [], ◌∷◌, arith}
+use Rattle.std.proofs.Common.{◌≡◌, refl, ap, subst, ℕ, zero, suc, ◌+◌, List, [], ◌∷◌, arith}
 use Rattle.std.specs.Prelude.{Option, Some, None}
-use Rattle.kr_base.specs.declared.place.Place.{Place}
 use Rattle.kr_classes_table.specs.Table.{Table, Class, class_at}
-use Rattle.kr_classes_table.specs.Rules.{Fault, class_fault, least, each_class, break_if, first_of, C1, C2, C3, C4, C5, C6, C7, C8}
+use Rattle.kr_classes_table.specs.Rules.{Fault, class_fault, least, each_class, first_of, C1, C2, C3, C4, C5, C6, C7, C8}
 use Rattle.kr_classes_table.proofs.Least.{is_least}
 use Rattle.kr_base.proofs.ListLemmas.{append_is_nil}
-
-pub not_broken : (b : Bool) (r : ℕ) (p : Place) → break_if b r p ≡ [] → b ≡ false
-not_broken true r p e = absurd (cc (e))
-not_broken false r p e = refl
 
 -- all of several rules
 abbrev AllNone : List (Option Fault) → Type 0

@@ -1,17 +1,14 @@
 -- Between crates: declarators, fields and `\old`s have places of their own.
-use Rattle.std.specs.Prelude.{◌≡◌, ◌≤◌, ◌+◌, ℕ, Bool, true, false, List, [], ◌∷◌, flat_map, bytes_eq, codes}
+use Rattle.std.specs.Prelude.{◌≡◌, ◌≤◌, ◌+◌, ℕ, false, List, [], ◌∷◌, flat_map, bytes_eq, codes}
 use Rattle.std.specs.List.{AllByRecursion}
 use Rattle.kr_base.specs.declared.place.Place.{Place}
+use Rattle.kr_lex.specs.Cursors.{one_if}
 use Rattle.kr_ast.specs.Tree as trees
 use Rattle.kr_ast.specs.Tree.{Tree}
 use Rattle.kr_classes_table.specs.Nodes.{nodes}
 use Rattle.kr_classes_table.specs.Table.{Table, Field, table_of}
 use Rattle.kr_classes_table.specs.Constants.{is_at_place}
 use Rattle.kr_laws_never_stuck.specs.Grown.{AreGrown}
-
-abbrev pub one_if : Bool → ℕ
-one_if true = 1
-one_if false = 0
 
 -- 1 for a place that is this one
 abbrev pub one_at : Place → Place → ℕ

@@ -33,8 +33,9 @@ use Rattle.kr_laws_types.proofs.Expressions.{after_expression}
 use Rattle.kr_laws_types.specs.Expressions.{plain}
 use Rattle.kr_laws_safety.specs.Typed.{types_in, IsMethod, IsTypedProgram}
 use Rattle.kr_laws_safety.specs.Claims.{this_of, types_of, is_target, GivesAs, IsScope}
-use Rattle.kr_laws_safety.specs.Tested.{type_or_none, old_type, old_types, AreOldNodes, AreConditions, HasContracts, AreNotStuck, IsTestable}
+use Rattle.kr_laws_safety.specs.Tested.{type_or_none, old_type, old_types, AreOldNodes, AreConditions, HasContracts, GivesTruth, GiveTruths, IsTestable}
 use Rattle.kr_laws_safety.proofs.Targets.{value_not_void, assignable_itself}
+use Rattle.kr_laws_safety.proofs.Operators.{boolean_known}
 use Rattle.kr_laws_safety.proofs.Glue.{safe_next, typed_at}
 use Rattle.kr_laws_safety.proofs.Calls.{method_run, parameter_types, parameter_variables}
 use Rattle.kr_laws_safety.proofs.Statements.{parts_safe}
@@ -50,6 +51,13 @@ olds_keep program (o ∷ os) s = keeps_then (value program o.scope o.tree) _ (va
 -- the end of a run that gave a value
 fine_ok : (program : Program) (fixed : Fixed) (types : List JavaType) (this : Option ℕ) (ls : List JavaType) {A : Type 0} (Q : List JavaType → List JavaType → A → Type 0) (r : Result A Stop) (t : State) (a : A) → Fine program fixed types this ls Q r t → r ≡ Ok a → Fine program fixed types this ls Q (Ok a) t
 fine_ok program fixed types this ls Q r t a h e = subst (λ (x : Result _ Stop). Fine program fixed types this ls Q x t) e h
+
+-- the end of a run whose value, if it gives one, is boolean
+truth_given : (program : Program) (fixed : Fixed) (facts : IsTypedProgram program) (types : List JavaType) (this : Option ℕ) (ls : List JavaType) (o : Outcome Value) → Fine program fixed types this ls (Boolean program fixed facts ls) o.said o.after → GivesTruth o
+truth_given program fixed facts types this ls o f = (
+  fine_said program fixed types this ls _ o.said o.after f,
+  λ v e. let g = fine_ok program fixed types this ls (Boolean program fixed facts ls) o.said o.after v f e in boolean_known program fixed g.0 o.after v g.3.heap g.4.1,
+)
 
 olds_more : (program : Program) (types more : List JavaType) (ps : List (Place × JavaType)) (os : List Old) → Extends types more → AreOlds program.table types ps os → AreOlds program.table more ps os
 olds_more program types more [] os x h = tt
@@ -89,13 +97,13 @@ module _ (program : Program) (fixed : Fixed) (facts : IsTypedProgram program) wh
   abbrev All : Option ℕ → List JavaType → List Node → Type 0
   All this ls ns = AllBoolean program fixed facts this ls ns
 
-  checked : (this : Option ℕ) (ls : List JavaType) (ns : List Node) → All this ls ns → (types : List JavaType) (s : State) → IsStateOf program fixed types this ls s → AreNotStuck program ns s
+  checked : (this : Option ℕ) (ls : List JavaType) (ns : List Node) → All this ls ns → (types : List JavaType) (s : State) → IsStateOf program fixed types this ls s → GiveTruths program ns s
   checked this ls [] h types s k = tt
   checked this ls (n ∷ ns) h types s k =
       let f = (h.0 types).by s k in
-      (fine_said program fixed types this ls _ (value program n.scope n.tree s).said (value program n.scope n.tree s).after f, λ v e. next v (fine_ok program fixed types this ls _ (value program n.scope n.tree s).said (value program n.scope n.tree s).after v f e) (λ more t j. checked this ls ns h.1 more t j))
+      (truth_given program fixed facts types this ls (value program n.scope n.tree s) f, λ v e. next v (fine_ok program fixed types this ls _ (value program n.scope n.tree s).said (value program n.scope n.tree s).after v f e) (λ more t j. checked this ls ns h.1 more t j))
     where
-      next : (v : Value) → Fine program fixed types this ls (Boolean program fixed facts ls) (Ok v) (value program n.scope n.tree s).after → ((more : List JavaType) (t : State) → IsStateOf program fixed more this ls t → AreNotStuck program ns t) → AreNotStuck program ns (value program n.scope n.tree s).after
+      next : (v : Value) → Fine program fixed types this ls (Boolean program fixed facts ls) (Ok v) (value program n.scope n.tree s).after → ((more : List JavaType) (t : State) → IsStateOf program fixed more this ls t → GiveTruths program ns t) → GiveTruths program ns (value program n.scope n.tree s).after
       next v f rest = rest f.0 (value program n.scope n.tree s).after (subst (λ (z : List JavaType). IsStateOf program fixed f.0 this z (value program n.scope n.tree s).after) f.4.0 f.3)
 
 -- ---- the nodes of a contract are in its scope
@@ -311,7 +319,7 @@ module _ (problem : Problem) (facts : IsTypedProgram problem.program) (contracts
   testable = record {
     olds = fine_said problem.program before_body types own ls _ valued_on.said valued_on.after (olds_run.by first started);
     body = λ os e. let f = valued_as os e in fine_said problem.program before_body f.0 own ls _ body_then.said body_then.after (body_fine os f);
-    predicate = λ os r e g. let f = valued_as os e in let b = fine_ok problem.program before_body f.0 own ls _ body_then.said body_then.after r (body_fine os f) g in fine_said problem.program before_body b.0 (Some root) ls _ checked_then.said checked_then.after (predicate_fine os f r b);
+    predicate = λ os r e g. let f = valued_as os e in let b = fine_ok problem.program before_body f.0 own ls _ body_then.said body_then.after r (body_fine os f) g in truth_given problem.program before_body facts b.0 (Some root) ls checked_then (predicate_fine os f r b);
     ensures = λ os r v e g h.
         let f = valued_as os e in
         let b = fine_ok problem.program before_body f.0 own ls _ body_then.said body_then.after r (body_fine os f) g in

@@ -1,7 +1,8 @@
 -- Between crates: what typing gives of the predicate of a problem, and of the contract of the method under test.
-use Rattle.std.specs.Prelude.{◌≡◌, ℕ, true, false, List, [], ◌∷◌, map, Option, Some, None, Ok, Err, codes}
+use Rattle.std.specs.Prelude.{◌≡◌, ℕ, Bool, true, false, List, [], ◌∷◌, map, Option, Some, None, Ok, Err, codes}
 use Rattle.kr_base.specs.declared.place.Place.{Place}
 use Rattle.kr_value.specs.declared.value.Value.{Value}
+use Rattle.kr_value.specs.declared.value.Value.TheVariants.{Bool as Truth}
 use Rattle.kr_classes_table.specs.Types.{JavaType, BooleanType, VoidType}
 use Rattle.kr_classes_table.specs.Table.{Method, method_named}
 use Rattle.kr_types_meaning.specs.Typing.{judged, type_in}
@@ -70,10 +71,17 @@ pub record HasContracts (problem : Problem) : Type 0 where
 abbrev pub IsNotStuck : {A : Type 0} → Outcome A → Type 0
 IsNotStuck o = o.said ≡ Err Stuck → ⊥
 
+abbrev pub IsTruth : Value → Type 0
+IsTruth v = (b : Bool) × (v ≡ Truth b)
+
+-- such a run, which gives a truth value where it gives a value
+abbrev pub GivesTruth : Outcome Value → Type 0
+GivesTruth o = IsNotStuck o × ((v : Value) → o.said ≡ Ok v → IsTruth v)
+
 -- conditions one after another, whatever those before them give
-abbrev pub AreNotStuck : Program → List Node → State → Type 0
-AreNotStuck program [] s = Unit {0}
-AreNotStuck program (e ∷ es) s = IsNotStuck (value program e.scope e.tree s) × ((v : Value) → (value program e.scope e.tree s).said ≡ Ok v → AreNotStuck program es (value program e.scope e.tree s).after)
+abbrev pub GiveTruths : Program → List Node → State → Type 0
+GiveTruths program [] s = Unit {0}
+GiveTruths program (e ∷ es) s = GivesTruth (value program e.scope e.tree s) × ((v : Value) → (value program e.scope e.tree s).said ≡ Ok v → GiveTruths program es (value program e.scope e.tree s).after)
 
 -- the parts of a test one after another: the values of `\old`s, the body, the predicate, the postconditions
 abbrev pub valued : Problem → Method → State → Outcome (List Old)
@@ -88,6 +96,6 @@ predicate_on problem u = value problem.program (rep_ok_node problem).scope (rep_
 pub record IsTestable (problem : Problem) (m : Method) (s : State) : Type 0 where
   pub olds : IsNotStuck (valued problem m s)
   pub body : (os : List Old) → (valued problem m s).said ≡ Ok os → IsNotStuck (body_on problem m (valued problem m s).after)
-  pub predicate : (os : List Old) (r : Value) → (valued problem m s).said ≡ Ok os → (body_on problem m (valued problem m s).after).said ≡ Ok r → IsNotStuck (predicate_on problem (body_on problem m (valued problem m s).after).after)
+  pub predicate : (os : List Old) (r : Value) → (valued problem m s).said ≡ Ok os → (body_on problem m (valued problem m s).after).said ≡ Ok r → GivesTruth (predicate_on problem (body_on problem m (valued problem m s).after).after)
   pub ensures : (os : List Old) (r v : Value) → (valued problem m s).said ≡ Ok os → (body_on problem m (valued problem m s).after).said ≡ Ok r → (predicate_on problem (body_on problem m (valued problem m s).after).after).said ≡ Ok v
-      → AreNotStuck problem.program (ensures_of problem.program m) (record (predicate_on problem (body_on problem m (valued problem m s).after).after).after { result = Some r; olds = os })
+      → GiveTruths problem.program (ensures_of problem.program m) (record (predicate_on problem (body_on problem m (valued problem m s).after).after).after { result = Some r; olds = os })

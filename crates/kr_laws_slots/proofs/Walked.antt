@@ -54,7 +54,7 @@ met_valid problem v (suc k) = let ss = root_slots problem ++ flat_map (slots_in 
 abbrev pub walked : Problem → List ℕ → ℕ → List ℕ
 walked problem v k = root_slots problem ++ flat_map (slots_in problem v) (met_within problem v k)
 
-objects_more : (problem : Problem) (v : List ℕ) (ss ts : List ℕ) → objects_at problem v (ss ++ ts) ≡ objects_at problem v ss ++ added is_same_object (objects_there problem v ss) (objects_there problem v ts)
+pub objects_more : (problem : Problem) (v : List ℕ) (ss ts : List ℕ) → objects_at problem v (ss ++ ts) ≡ objects_at problem v ss ++ added is_same_object (objects_there problem v ss) (objects_there problem v ts)
 objects_more problem v ss ts = ap (distinct is_same_object) (flat_map-append (λ s. objects_of (choice_at problem v s).object) ss ts) ∙ distinct_append is_same_object (objects_there problem v ss) (objects_there problem v ts)
 
 -- each step only adds

@@ -24,7 +24,7 @@ abbrev pub HasType : Typed → Type 0
 HasType x = (t : JavaType) × (type_in x ≡ Some t)
 
 -- a rule that gives a type where it isn't broken
-record Gives (v : Judgement) : Type 0 where
+pub record Gives (v : Judgement) : Type 0 where
   type : (x : Typed) → v ≡ Fits x → HasType x
 
 pub fits_same : (x y : Typed) → Fits x ≡ Fits y → x ≡ y
@@ -51,7 +51,7 @@ gives_promoted : (t : Option JavaType) (r : ℕ) → Gives (of_promoted t r)
 gives_promoted (Some t) r = gives_value t
 gives_promoted None r = gives_none r
 
-gives_if : (b : Bool) (v w : Judgement) → Gives v → Gives w → Gives (if b then v else w)
+pub gives_if : (b : Bool) (v w : Judgement) → Gives v → Gives w → Gives (if b then v else w)
 gives_if true v w h k = h
 gives_if false v w h k = k
 

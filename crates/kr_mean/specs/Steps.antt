@@ -11,7 +11,7 @@ use Rattle.kr_value.specs.declared.object.Spot.TheVariants.{Field as FieldSpot, 
 use Rattle.kr_value.specs.Heaps.{HeapObject, object_in, has_spot, value_of_spot}
 use Rattle.kr_classes_table.specs.Types.{JavaType}
 use Rattle.kr_classes_table.specs.Table.{Field}
-use Rattle.kr_classes_table.specs.Constants.{is_at_place}
+use Rattle.kr_classes_table.specs.Constants.{Known, is_at_place}
 use Rattle.kr_mean.specs.declared.kind.Kind.{Kind}
 use Rattle.kr_mean.specs.declared.kind.Stop.{Stop}
 use Rattle.kr_mean.specs.declared.kind.Stop.TheVariants.{Trapped, OutOfFuel, Stuck}
@@ -26,9 +26,8 @@ pub record Local : Type 0 where
   pub place : Option SlotPlace
 
 -- the value of an `\old`, by the place of its node
-pub record Old : Type 0 where
-  pub place : Place
-  pub value : Value
+abbrev pub Old : Type 0
+Old = Known
 
 -- The state of a run. The locals go by their numbers, the oldest first; the first objects of the heap are the candidates.
 -- Result and olds are those of the method under test, once it has run.

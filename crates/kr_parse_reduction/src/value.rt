@@ -218,6 +218,16 @@ impl Kept {
     }
 }
 
+/// Gives back room of which less than half is used: the values of a long list become one.
+fn give_back(items: &mut Vec<Kept>)
+    ensures { items.new.items ≡ items.old.items }
+{
+    let room = items.capacity();
+    if room > 4_096 && items.len() < room / 2 {
+        items.shrink_to(room / 4 * 3);
+    }
+}
+
 /// Values, the newest on top. Contracts see the list of them, the top one first.
 #[derive(Drop)]
 pub struct ValueStack {
@@ -282,6 +292,7 @@ impl ValueStack {
     {
         let left = self.items.len() - count;
         self.items.truncate(left);
+        give_back(&mut self.items);
     }
 
     /// Replaces `count` values by one, below the topmost `depth` of them.

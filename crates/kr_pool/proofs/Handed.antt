@@ -1,8 +1,10 @@
 -- Rows handed over, one piece after another.
-use Rattle.std.proofs.Common.{◌≡◌, ℕ, zero, suc, ◌+◌, List, [], ◌∷◌, ◌++◌, length, take, drop, refl, sym, ap, ◌∙◌, subst, arith, append_assoc, Vec, Global}
-use Rattle.std.specs.Prelude.{Some, None, Result, Ok, Err}
+use Rattle.std.proofs.Common.{◌≡◌, ◌≤◌, inl, inr, true, ℕ, zero, suc, ◌+◌, List, [], ◌∷◌, ◌++◌, length, take, drop, refl, sym, ap, ◌∙◌, subst, arith, append_assoc, length-take, Vec, Global}
+use Rattle.std.specs.Prelude.{Some, None, Result, Ok, Err, IfOk}
 use Rattle.std.proofs.lemmas.List.{append-nil, take-append-drop}
 use Rattle.kr_base.specs.declared.entry.Entry.{Entry}
+use Rattle.kr_core.specs.declared.event.Event.{Event}
+use Rattle.kr_core.specs.Rows.{drained}
 use Rattle.kr_survey.specs.Joins.{joined, lists}
 use Rattle.kr_survey.specs.Scans.{rows_of}
 use Rattle.kr_survey.specs.Takings.{Takes, Took, Ends, Halts}
@@ -13,7 +15,8 @@ use Rattle.kr_survey.specs.declared.taker.Halt.TheVariants.{Sink, Memory}
 use Rattle.kr_survey.specs.declared.taker.Room.{Room}
 use Rattle.kr_survey.specs.declared.taker.Room.TheVariants.{More, Full}
 use Rattle.kr_pool.specs.Handing.{HasTaken, HasBroken, HandsOver, ReachesTo}
-use Rattle.kr_pool.specs.Sharing.{EndsFull, Shares, SharesRest}
+use Rattle.kr_pool.specs.Sharing.{EndsFull, EndsLogged, SharesRest, with_log}
+use Rattle.kr_pool_desk.specs.Runs.{are_shared}
 
 -- fronts of a list
 
@@ -41,6 +44,9 @@ take_front {A} (suc n) (x ∷ xs) ys = ap (λ (l : List A). x ∷ l) (take_front
 
 front_of : {A : Type 0} (n e : ℕ) (all : List A) → take n (take e all) ≡ take (length (take n (take e all))) all
 front_of {A} n e all = take_front n (take e all) (drop e all) ∙ ap (λ (l : List A). take (length (take n (take e all))) l) (take-append-drop e all)
+
+taken_few : {A : Type 0} (n e : ℕ) (all : List A) → length (take n (take e all)) ≤ e
+taken_few n e all = let a = length-take n (take e all) in let b = length-take e all in omega (arith, a, b)
 
 -- pieces
 
@@ -76,8 +82,8 @@ module _ {T K R : Type 0} (takes : Takes T K R) where
     subst (λ (l : List R). takes a from l b out (Some More)) (front done (rows ++ rest) ∙ ap (λ (l : List R). take (length done) l) (sym (is ∙ append_assoc done rows rest))) h,
   )
 
-  full_within : (e : ℕ) (all : List R) (a : T) (from : K) (b : T) (out : K) → HasTaken takes (take e all) a from b out Full → (n : ℕ) × takes a from (take n all) b out (Some Full)
-  full_within e all a from b out h = (length (take h.0 (take e all)), subst (λ (l : List R). takes a from l b out (Some Full)) (front_of h.0 e all) h.1)
+  full_within : (e : ℕ) (all : List R) (a : T) (from : K) (b : T) (out : K) → HasTaken takes (take e all) a from b out Full → (n : ℕ) × (n ≤ e) × takes a from (take n all) b out (Some Full)
+  full_within e all a from b out h = (length (take h.0 (take e all)), taken_few h.0 e all, subst (λ (l : List R). takes a from l b out (Some Full)) (front_of h.0 e all) h.1)
 
   broken_within : (e : ℕ) (all : List R) (a : T) (from : K) (b : T) (out : K) (halt : Halt) → HasBroken takes (take e all) a from b out halt → HasBroken takes all a from b out halt
   broken_within e all a from b out Sink h = (length (take h.0 (take e all)), subst (λ (l : List R). takes a from l b out None) (front_of h.0 e all) h.1)
@@ -94,20 +100,39 @@ module _ {T K R : Type 0} (takes : Takes T K R) where
 
   -- to the end
 
-  pub shares_then : {L : Type 0} (es : List (Entry R)) (d e : ℕ) (old : T) (was : K) (mid : T) (between : K) (new : T) (out : K) (r : Result (End × L) Halt) → ReachesTo takes es d e old was mid between (Ok More)
-      → SharesRest takes es e mid between new out r → SharesRest takes es d old was new out r
-  shares_then es d e old was mid between new out r h k = λ start from t. k start from (h start from t)
+  pub shares_then : (es : List (Entry R)) (workers d e : ℕ) (old : T) (was : K) (mid : T) (between : K) (new : T) (out : K) (r : Result (End × Vec Event Global) Halt) → ReachesTo takes es d e old was mid between (Ok More)
+      → SharesRest takes es workers e mid between new out r → SharesRest takes es workers d old was new out r
+  shares_then es workers d e old was mid between new out r h k = λ start from t. k start from (h start from t)
 
   pub halts : (es : List (Entry R)) (a : T) (from : K) (b : T) (out : K) (halt : Halt) → HasBroken takes (rows_of es) a from b out halt → Halts takes es a from b out halt
   halts es a from b out Sink h = h
   halts es a from b out (Memory why) h = h
 
-  full_ends : (es : List (Entry R)) (a : T) (from : K) (b : T) (out : K) (end : End) → end ≡ AtFull → (n : ℕ) × takes a from (take n (rows_of es)) b out (Some Full) → Ends takes es a from b out end
-  full_ends es a from b out (Whole tried spent) is h = absurd (cc (is))
-  full_ends es a from b out AtFull is h = h
+  -- a listing handed over to its end, behind a log without a stop
+  pub rest_logged : (es : List (Entry R)) (workers : ℕ) (log : List Event) (a : T) (from : K) (b : T) (out : K) (end : End) → are_shared workers log ≡ true → Ends takes es a from b out end → EndsLogged takes es workers log a from b out end
+  rest_logged es workers log a from b out (Whole tried spent) whole h = h
+  rest_logged es workers log a from b out AtFull whole h = (h.0, inl whole, h.1)
 
-  pub shares_full : {L : Type 0} (es : List (Entry R)) (d e : ℕ) (old : T) (was : K) (new : T) (out : K) (r : Result (End × L) Halt) → ReachesTo takes es d e old was new out (Ok Full) → EndsFull r → SharesRest takes es d old was new out r
-  shares_full es d e old was new out (Ok r) h k = λ start from t. full_ends es start from new out r.0 k (full_within e (rows_of es) start from new out (h start from t))
-  shares_full es d e old was new out (Err Sink) h k = absurd k
-  shares_full es d e old was new out (Err (Memory why)) h k = λ start from t.
-      let f = full_within e (rows_of es) start from new out (h start from t) in (f.0, Full, f.1)
+  -- a log says less than its end
+  pub logged_ends : (es : List (Entry R)) (workers : ℕ) (log : List Event) (a : T) (from : K) (b : T) (out : K) (end : End) → EndsLogged takes es workers log a from b out end → Ends takes es a from b out end
+  logged_ends es workers log a from b out (Whole tried spent) h = h
+  logged_ends es workers log a from b out AtFull h = (h.0, h.2)
+
+  full_ends : (es : List (Entry R)) (workers : ℕ) (log : List Event) (a : T) (from : K) (b : T) (out : K) (end : End) → end ≡ AtFull → (n : ℕ) × (n ≤ drained log) × takes a from (take n (rows_of es)) b out (Some Full) → EndsLogged takes es workers log a from b out end
+  full_ends es workers log a from b out (Whole tried spent) is h = absurd (cc (is))
+  full_ends es workers log a from b out AtFull is h = (h.0, inr h.1, h.2)
+
+  -- the taker is full, of rows that were drained
+  pub shares_full : (es : List (Entry R)) (workers d e : ℕ) (old : T) (was : K) (new : T) (out : K) (r : Result (End × Vec Event Global) Halt) → ReachesTo takes es d e old was new out (Ok Full) → EndsFull r
+      → IfOk r (λ x. drained x.1.items ≡ e) → SharesRest takes es workers d old was new out r
+  shares_full es workers d e old was new out (Ok r) h k f = λ start from t.
+      let n = full_within e (rows_of es) start from new out (h start from t) in
+      full_ends es workers r.1.items start from new out r.0 k (n.0, omega (arith, n.1, f), n.2)
+  shares_full es workers d e old was new out (Err Sink) h k f = absurd k
+  shares_full es workers d e old was new out (Err (Memory why)) h k f = λ start from t.
+      let n = full_within e (rows_of es) start from new out (h start from t) in (n.0, Full, n.2)
+
+-- a log's events are its items
+pub named_ok : (P : End × List Event → Type 0) (r : Result (End × Vec Event Global) Halt) → IfOk r (λ x. P (x.0, x.1.items)) → IfOk (with_log r) P
+named_ok P (Ok r) h = h
+named_ok P (Err halt) h = tt

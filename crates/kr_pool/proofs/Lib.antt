@@ -1,4 +1,3 @@
-pub mod Alternation
 pub mod Collected
 pub mod Handed
 pub mod Owned

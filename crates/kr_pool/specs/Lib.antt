@@ -1,4 +1,3 @@
-pub mod WholeLogs
 pub mod Handing
 pub mod Sharing
 pub mod Collecting

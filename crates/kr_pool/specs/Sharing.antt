@@ -1,9 +1,11 @@
 -- To be believed: a span shared by workers: its rows handed over, and their log.
-use Rattle.std.specs.Prelude.{◌≡◌, ℕ, List, Bool, true, false, Option, Result, Ok, Err, take, Some}
+use Rattle.std.specs.Prelude.{◌≡◌, ◌≤◌, ◌⊎◌, ℕ, List, Bool, true, false, Option, Result, Ok, Err, Vec, take, Some}
+use Rattle.std.specs.declared.alloc.Global.{Global}
 use Rattle.kr_base.specs.declared.span.Span.{Span}
 use Rattle.kr_base.specs.declared.entry.Entry.{Entry}
 use Rattle.kr_core.specs.declared.event.Event.{Event}
 use Rattle.kr_core.specs.Openings.{opening}
+use Rattle.kr_core.specs.Rows.{drained}
 use Rattle.kr_core.specs.States.{State}
 use Rattle.kr_survey.specs.Scans.{rows_of}
 use Rattle.kr_survey.specs.Takings.{Takes, Ends, Halts}
@@ -11,8 +13,8 @@ use Rattle.kr_survey.specs.declared.taker.End.{End}
 use Rattle.kr_survey.specs.declared.taker.End.TheVariants.{Whole, Full}
 use Rattle.kr_survey.specs.declared.taker.Halt.{Halt}
 use Rattle.kr_survey.specs.declared.taker.Halt.TheVariants.{Sink, Memory}
-use Rattle.kr_survey.specs.declared.taker.Room.TheVariants.{More}
-use Rattle.kr_pool_desk.specs.Cutting.{cuts_for}
+use Rattle.kr_survey.specs.declared.taker.Room.TheVariants.{More, Full as AtFull}
+use Rattle.kr_core.specs.Cutting.{cuts_for}
 use Rattle.kr_pool_desk.specs.Limits.{begins_within}
 use Rattle.kr_pool_desk.specs.Runs.{are_shared}
 use Rattle.kr_pool_desk.specs.Traces.{Finishes}
@@ -26,9 +28,25 @@ abbrev pub Shares : {T K R L : Type 0} → Takes T K R → List (Entry R) → T 
 Shares takes es a from b out (Ok r) = Ends takes es a from b out r.0
 Shares takes es a from b out (Err halt) = Halts takes es a from b out halt
 
+-- All rows of these entries are handed over; or a front of them, until the taker was full. That front was drained, unless the log of
+-- so many workers has no stop.
+abbrev pub EndsLogged : {T K R : Type 0} → Takes T K R → List (Entry R) → ℕ → List Event → T → K → T → K → End → Type 0
+EndsLogged takes es workers log a from b out (Whole tried spent) = Ends takes es a from b out (Whole tried spent)
+EndsLogged takes es workers log a from b out Full = (n : ℕ) × ((are_shared workers log ≡ true) ⊎ (n ≤ drained log)) × takes a from (take n (rows_of es)) b out (Some AtFull)
+
+-- so they are handed over, and this is the log
+abbrev pub SharesLogged : {T K R : Type 0} → Takes T K R → List (Entry R) → ℕ → T → K → T → K → Result (End × List Event) Halt → Type 0
+SharesLogged takes es workers a from b out (Ok r) = EndsLogged takes es workers r.1 a from b out r.0
+SharesLogged takes es workers a from b out (Err halt) = Halts takes es a from b out halt
+
+-- an end with its log
+abbrev pub with_log : Result (End × Vec Event Global) Halt → Result (End × List Event) Halt
+with_log (Ok r) = Ok (r.0, r.1.items)
+with_log (Err halt) = Err halt
+
 -- the same, where the first d rows were taken before
-abbrev pub SharesRest : {T K R L : Type 0} → Takes T K R → List (Entry R) → ℕ → T → K → T → K → Result (End × L) Halt → Type 0
-SharesRest {T} {K} takes es d old was new out result = (start : T) (from : K) → takes start from (take d (rows_of es)) old was (Some More) → Shares takes es start from new out result
+abbrev pub SharesRest : {T K R : Type 0} → Takes T K R → List (Entry R) → ℕ → ℕ → T → K → T → K → Result (End × Vec Event Global) Halt → Type 0
+SharesRest {T} {K} takes es workers d old was new out result = (start : T) (from : K) → takes start from (take d (rows_of es)) old was (Some More) → SharesLogged takes es workers start from new out (with_log result)
 
 -- the taker is full, or memory was refused
 abbrev pub EndsFull : {L : Type 0} → Result (End × L) Halt → Type 0

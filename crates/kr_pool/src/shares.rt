@@ -5,20 +5,23 @@ ghost use Rattle.kr_core.specs.Openings.{AreInside, opening};
 ghost use Rattle.kr_core.specs.Rows.{drained};
 ghost use Rattle.kr_survey.specs.Listings.{listed_in};
 ghost use Rattle.kr_survey.specs.declared.taker.Room.TheVariants.{More};
-ghost use Rattle.kr_pool_desk.specs.Cutting.{cuts_for};
+ghost use Rattle.kr_core.specs.Cutting.{cuts_for as cuts_of};
 ghost use Rattle.kr_pool_desk.specs.Limits.{KeepsWindow};
 ghost use Rattle.kr_pool_desk.specs.Listings.{ListsFrom};
+ghost use Rattle.kr_pool_desk.specs.Runs.{are_shared};
 ghost use Rattle.kr_pool.specs.Handing.{ReachesTo};
-ghost use Rattle.kr_pool.specs.Sharing.{EndsFull, IsLog, IsLogOf, Shares, SharesRest};
+ghost use Rattle.kr_pool.specs.Sharing.{EndsFull, IsLog, IsLogOf, Shares, SharesLogged, SharesRest, with_log};
 
 use crate::alone::Alone;
 use crate::handing::{hand_listing, hand_over};
+use crate::log::Log;
 use crate::rounds::Rounds;
 use crate::sharing::go_rounds;
 use kr_base::{Cut, Span};
 use kr_board::{Event, Logged};
+use kr_core::cuts_for;
 use kr_io::Gate;
-use kr_pool_desk::{Run, Seat, cuts_for};
+use kr_pool_desk::{Run, Seat};
 use kr_survey::{End, Halt, Room, Survey, Taker};
 use std::alloc::Global;
 use std::marker::Brand;
@@ -29,6 +32,7 @@ use std::thread::Threads;
 /// Ends a board whose taker is full: it is stopped, where something is left.
 fn end_full<R: Drop, N: Run<R>>(alone: Alone<R, N>) -> Result<(End, Vec<Event>), Halt>
     ensures full { EndsFull result }
+    ensures drained { IfOk result (λ r. drained r.1.items ≡ drained alone.log) }
     ensures log { IfOk result (λ r. IsLog N.all (opening N.span N.cuts) N.workers N.limit r.0 r.1.items) }
     ensures window { IfOk result (λ r. KeepsWindow N.window (opening N.span N.cuts) r.1.items) }
 {
@@ -47,7 +51,7 @@ fn hand_last<R: Drop, T: Taker<K, Row = R>, K>(
     taker: &mut T,
     out: &mut K,
 ) -> Result<(End, Vec<Event>), Halt>
-    ensures shares { (es : List (EntryOf R)) (d : ℕ) → ListsFrom d es logged.listing → SharesRest T.takes es d taker.old out.old taker.new out.new result }
+    ensures shares { (es : List (EntryOf R)) (d workers : ℕ) → ListsFrom d es logged.listing → are_shared workers logged.log.items ≡ true → SharesRest T.takes es workers d taker.old out.old taker.new out.new result }
     ensures log { IfOk result (λ r. r.1.items ≡ logged.log.items) }
 {
     let Logged { listing, log } = logged;
@@ -87,7 +91,7 @@ fn hand_entries<R: Drop, N: Run<R>, S: Survey<Row = R>, T: Taker<K, Row = R>, W:
 ) -> Result<(End, Vec<Event>), Halt>
     requires survey { S.all survey.now ≡ N.all }
     requires made { S.made survey.now scratch.old }
-    ensures shares { SharesRest T.takes (listed_in N.all N.span) (drained alone.log) taker.old out.old taker.new out.new result }
+    ensures shares { SharesRest T.takes (listed_in N.all N.span) N.workers (drained alone.log) taker.old out.old taker.new out.new result }
     ensures log { IfOk result (λ r. IsLog N.all (opening N.span N.cuts) N.workers N.limit r.0 r.1.items) }
     ensures window { IfOk result (λ r. KeepsWindow N.window (opening N.span N.cuts) r.1.items) }
 {
@@ -115,7 +119,7 @@ fn go_on_alone<R: Drop, N: Run<R>, S: Survey<Row = R>, T: Taker<K, Row = R>, W: 
     out: &mut K,
 ) -> Result<(End, Vec<Event>), Halt>
     requires survey { S.all survey.now ≡ N.all }
-    ensures shares { SharesRest T.takes (listed_in N.all N.span) (drained alone.log) taker.old out.old taker.new out.new result }
+    ensures shares { SharesRest T.takes (listed_in N.all N.span) N.workers (drained alone.log) taker.old out.old taker.new out.new result }
     ensures log { IfOk result (λ r. IsLog N.all (opening N.span N.cuts) N.workers N.limit r.0 r.1.items) }
     ensures window { IfOk result (λ r. KeepsWindow N.window (opening N.span N.cuts) r.1.items) }
 {
@@ -158,7 +162,7 @@ fn share_begun<
     requires place { (length place.items ≡ 0) × (N.workers ≤ vec_capacity place) }
     requires limit { N.limit ≡ limit }
     requires survey { S.all survey.now ≡ N.all }
-    ensures shares { SharesRest T.takes (listed_in N.all N.span) 0 taker.old out.old taker.new out.new result }
+    ensures shares { SharesRest T.takes (listed_in N.all N.span) N.workers 0 taker.old out.old taker.new out.new result }
     ensures log { IfOk result (λ r. IsLog N.all (opening N.span N.cuts) N.workers N.limit r.0 r.1.items) }
     ensures window { IfOk result (λ r. KeepsWindow N.window (opening N.span N.cuts) r.1.items) }
 {
@@ -175,7 +179,7 @@ fn share_begun<
     }
 }
 
-/// For a run that a type names.
+/// With these cuts, for a run that a type names.
 fn share_on<
     R: Drop + Send,
     N: Run<R> + Send + Sync,
@@ -211,7 +215,7 @@ fn share_on<
     requires cuts { cuts.now ≡ N.cuts }
     requires inside { AreInside cuts.now span }
     requires opening { N.opening ≡ [] }
-    ensures shares { SharesRest T.takes (listed_in N.all N.span) 0 taker.old out.old taker.new out.new result }
+    ensures shares { SharesRest T.takes (listed_in N.all N.span) N.workers 0 taker.old out.old taker.new out.new result }
     ensures log { IfOk result (λ r. IsLog N.all (opening N.span N.cuts) N.workers N.limit r.0 r.1.items) }
     ensures window { IfOk result (λ r. KeepsWindow N.window (opening N.span N.cuts) r.1.items) }
 {
@@ -230,6 +234,78 @@ fn limit_of<R, T: Taker<K, Row = R>, K>(taker: &T) -> Option<u64>
     match taker.limit() {
         None => None,
         Some(limit) => Some(u64::from(limit)),
+    }
+}
+
+/// The log gets the run's name.
+fn name_log<N>(ended: Result<(End, Vec<Event>), Halt>) -> Result<(End, Log<N>), Halt>
+    ensures { result ≡ with_log ended }
+{
+    match ended {
+        Err(halt) => Err(halt),
+        Ok((end, log)) => Ok((end, Log::new(log))),
+    }
+}
+
+/// As `share`, for a run that a type names: the ledger of its calls has the run's name, so that the log is the run's own.
+pub fn share_run<
+    R: Drop + Send,
+    N: Run<R> + Send + Sync,
+    D: Ledger + Send + Sync,
+    S: Survey<Row = R> + Sync,
+    T: Taker<K, Row = R>,
+    G: Gate + Sync,
+    W: Threads + Wait + Sync,
+    K,
+>(
+    rt: &W,
+    alloc: Global,
+    survey: &S,
+    span: Span,
+    workers: u32,
+    window: Option<u64>,
+    taker: &mut T,
+    out: &mut K,
+    gate: &G,
+    calls: Blank,
+    tap: Blank,
+) -> Result<(End, Log<N>), Halt>
+    requires ledger { (calls.name ≡ N.name) × (calls.parts ≡ N.parts) }
+    requires tap { (tap.name ≡ D.name) × (tap.parts ≡ D.parts) × (tap.parts ≡ 1) }
+    requires workers { (N.parts ≡ workers) × (N.workers ≡ workers) }
+    requires some { (0 < workers) × (workers ≤ 64) }
+    requires window { IfSome window (λ w. (0 < w) × (w ≤ 65536)) × (N.window ≡ window) }
+    requires limit { N.limit ≡ T.limit taker.old }
+    requires survey { S.all survey.now ≡ N.all }
+    requires span { span ≡ N.span }
+    requires cuts { cuts_of span workers ≡ N.cuts }
+    requires opening { N.opening ≡ [] }
+    requires fresh { T.takes taker.old out.old [] taker.old out.old (Some More) }
+    ensures shares { SharesLogged T.takes (listed_in N.all N.span) N.workers taker.old out.old taker.new out.new result }
+    ensures log { IfOk result (λ r. IsLog N.all (opening N.span N.cuts) N.workers N.limit r.0 r.1) }
+    ensures window { IfOk result (λ r. KeepsWindow N.window (opening N.span N.cuts) r.1) }
+{
+    match cuts_for(alloc, &span, workers) {
+        Err(why) => Err(Halt::Memory(why)),
+        Ok(cuts) => {
+            let limit = limit_of::<R, T, K>(&*taker);
+            let ended = share_on::<R, N, D, S, T, G, W, K>(
+                rt,
+                alloc,
+                survey,
+                span,
+                cuts.as_slice(),
+                workers,
+                window,
+                limit,
+                taker,
+                out,
+                gate,
+                calls,
+                tap,
+            );
+            name_log(ended)
+        }
     }
 }
 
@@ -259,27 +335,22 @@ pub fn share<
     requires fresh { T.takes taker.old out.old [] taker.old out.old (Some More) }
     ensures shares { Shares T.takes (listed_in (S.all survey.now) span) taker.old out.old taker.new out.new result }
     ensures log { IfOk result (λ r. IsLogOf (S.all survey.now) span workers (T.limit taker.old) r.0 r.1.items) }
-    ensures window { IfOk result (λ r. KeepsWindow window (opening span (cuts_for span workers)) r.1.items) }
+    ensures window { IfOk result (λ r. KeepsWindow window (opening span (cuts_of span workers)) r.1.items) }
 {
-    match cuts_for(alloc, &span, workers) {
-        Err(why) => Err(Halt::Memory(why)),
-        Ok(cuts) => {
-            let limit = limit_of::<S::Row, T, K>(&*taker);
-            share_on::<S::Row, Brand, Brand, S, T, G, W, K>(
-                rt,
-                alloc,
-                survey,
-                span,
-                cuts.as_slice(),
-                workers,
-                window,
-                limit,
-                taker,
-                out,
-                gate,
-                Blank::new(u64::from(workers)),
-                Blank::new(1),
-            )
-        }
+    match share_run::<S::Row, Brand, Brand, S, T, G, W, K>(
+        rt,
+        alloc,
+        survey,
+        span,
+        workers,
+        window,
+        taker,
+        out,
+        gate,
+        Blank::new(u64::from(workers)),
+        Blank::new(1),
+    ) {
+        Err(halt) => Err(halt),
+        Ok((end, log)) => Ok((end, log.into_events())),
     }
 }

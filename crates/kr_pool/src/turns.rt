@@ -12,9 +12,6 @@ use kr_survey::{Part, Survey};
 use std::sync::Wait;
 use std::sync::ledger::Ledger;
 
-/// The most entries that a worker scans before it reports.
-const BATCH: u32 = 256;
-
 /// The result of a report: the seat goes on under a lease; it is done with its segment; the part has no room yet, and is kept with
 /// its lease; or memory was refused.
 #[derive(Drop)]
@@ -69,7 +66,7 @@ pub(crate) fn scan_once<R: Drop, N: Run<R>, D: Ledger, S: Survey<Row = R>, W: Wa
     ensures made { S.made survey.now scratch.new }
     ensures number { seat.new.number ≡ seat.old.number }
 {
-    match scan_part(survey, scratch, &lease, BATCH) {
+    match scan_part(survey, scratch, &lease, shared.batch()) {
         Ok(part) => {
             if shared.has_room(rt, lease.segment, part.rows.len() as u64) {
                 report_part(rt, shared, seat, lease, part)

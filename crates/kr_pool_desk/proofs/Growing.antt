@@ -17,6 +17,7 @@ use Rattle.kr_board.specs.Boards.{IsBoardOf, Adds}
 use Rattle.kr_board.specs.Taking.{first_free, first_victim, grant, take_event}
 use Rattle.kr_board.specs.Reporting.{refusal, report_event}
 use Rattle.kr_pool_desk.specs.Runs.{is_shared, are_shared, IsGrown, IsRun}
+use Rattle.kr_board.proofs.Staying.{drained-more}
 
 below : (seat workers : ℕ) → seat < workers → nat_lt seat workers ≡ true
 below seat workers h = grind (arith, nat_tests)
@@ -69,10 +70,6 @@ pub steal-shared : (workers seat victim n : ℕ) (cut : List ℕ) → seat < wor
 steal-shared workers seat victim n cut h = below seat workers h
 
 -- what is drained
-
-pub drained-more : (log : List Event) (event : Event) → drained (log ++ event ∷ []) ≡ drained log + drains event
-drained-more [] event = omega arith
-drained-more (e ∷ log) event = let h = drained-more log event in omega (arith, h)
 
 granted-quiet : (seat next : ℕ) (f v : Option Segment) → drains (grant seat next f v) ≡ 0
 granted-quiet seat next (Some g) v = refl

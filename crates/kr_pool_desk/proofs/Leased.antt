@@ -1,6 +1,7 @@
 -- What a seat is answered: leases of its own, under which something is left.
 use Rattle.std.proofs.Common.{◌≡◌, ℕ, List, [], ◌∷◌, Bool, true, false, not, cond, length, refl, sym, ap, ◌∙◌, subst, Option, Some, None}
 use Rattle.std.specs.Prelude.{if◌then◌else◌, is_none, ◌==◌}
+use Rattle.std.proofs.lemmas.Bool.{not-true}
 use Rattle.kr_base.specs.declared.span.Bound.{Bound}
 use Rattle.kr_base.specs.declared.span.Bound.TheVariants.{At, End}
 use Rattle.kr_base.specs.declared.span.Span.{Span}
@@ -16,7 +17,7 @@ use Rattle.kr_core.specs.States.{State, Each, is_owned, is_owned_by, has_remaind
 use Rattle.kr_core.specs.Kept.{IsKept}
 use Rattle.kr_core.specs.Leases.{IsHeld, Leases}
 use Rattle.kr_core.specs.Openings.{opening}
-use Rattle.kr_core.proofs.Bools.{and-left, and-right, not-true, owner_known}
+use Rattle.kr_core.proofs.Bools.{and-left, and-right, owner_known}
 use Rattle.kr_core.proofs.Ends.{kept_law}
 use Rattle.kr_core.proofs.Holding.{leases_law}
 use Rattle.kr_pool_desk.proofs.Honest.{runs_from_honest}

@@ -5,7 +5,6 @@ pub mod Stopping
 pub mod Growing
 pub mod Released
 pub mod Leased
-pub mod Cuts
 pub mod Honest
 pub mod Alike
 pub mod Laid

@@ -1,10 +1,9 @@
 -- Rows that are wanted, and logs that begin nothing past the limit.
 use Rattle.std.proofs.Common.{◌≡◌, ℕ, ◌+◌, ◌-◌, ◌<◌, ◌≤◌, List, [], ◌∷◌, ◌++◌, Bool, true, false, ◌&&◌, not, refl, sym, ap, ◌∙◌, subst, arith, Option, Some, None}
 use Rattle.std.specs.Prelude.{if◌then◌else◌, nat_lt, is_none, length}
-use Rattle.std.proofs.lemmas.Bool.{and_from, and_parts}
+use Rattle.std.proofs.lemmas.Bool.{and_from, and_parts, lt-ltb}
 use Rattle.std.proofs.lemmas.Bool.Decides.{nat_tests}
 use Rattle.kr_survey.specs.declared.part.Part.{Part}
-use Rattle.kr_core.specs.declared.segment.Segment.{Segment}
 use Rattle.kr_core.specs.declared.event.Event.{Event}
 use Rattle.kr_core.specs.declared.event.Event.TheVariants.{Report, Look}
 use Rattle.kr_core.specs.declared.event.Lease.{Lease}
@@ -27,11 +26,8 @@ wanted_first n = ap (λ (m : ℕ). Some m) (omega arith)
 pub wanted_less : (limit : Option ℕ) (d n rows : ℕ) → limit ≡ Some (d + n) → rows ≤ n → limit ≡ Some (d + rows + (n - rows))
 wanted_less limit d n rows h k = h ∙ ap (λ (m : ℕ). Some m) (omega (arith, k))
 
-past-test : (a b : ℕ) → a < b → nat_lt a b ≡ true
-past-test a b h = grind (arith, nat_tests)
-
 pub wanted_past : (limit : Option ℕ) (d n rows : ℕ) → limit ≡ Some (d + n) → n < rows → is_past limit (d + rows) ≡ true
-wanted_past limit d n rows h k = ap (λ (o : Option ℕ). is_past o (d + rows)) h ∙ past-test (d + n) (d + rows) (omega (arith, k))
+wanted_past limit d n rows h k = ap (λ (o : Option ℕ). is_past o (d + rows)) h ∙ lt-ltb (d + n) (d + rows) (omega (arith, k))
 
 past-more : (a b c : ℕ) → nat_lt a b ≡ true → nat_lt a (b + c) ≡ true
 past-more a b c h = grind (arith, nat_tests)

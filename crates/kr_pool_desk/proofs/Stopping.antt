@@ -1,6 +1,7 @@
 -- A board that is stopped.
 use Rattle.std.proofs.Common.{◌≡◌, ℕ, List, [], ◌∷◌, Bool, true, false, ◌&&◌, not, refl, sym, ap, ◌∙◌, subst}
 use Rattle.std.specs.List.{list_all}
+use Rattle.std.proofs.lemmas.Bool.{not-true}
 use Rattle.kr_base.specs.declared.span.Bound.{Bound}
 use Rattle.kr_base.specs.declared.span.Bound.TheVariants.{At, End}
 use Rattle.kr_base.specs.declared.span.Span.{Span}
@@ -15,7 +16,7 @@ use Rattle.kr_core.specs.Steps.{may_stop, stopped}
 use Rattle.kr_core.specs.Kept.{IsKept, Adjoin}
 use Rattle.kr_core.specs.Openings.{opening}
 use Rattle.kr_core.specs.Counts.{HonestRuns}
-use Rattle.kr_core.proofs.Bools.{and-left, not-true}
+use Rattle.kr_core.proofs.Bools.{and-left}
 use Rattle.kr_core.proofs.Ends.{kept_law}
 use Rattle.kr_board.specs.Held.{Held}
 use Rattle.kr_board.specs.Boards.{IsBoardOf, Adds}
@@ -25,12 +26,9 @@ use Rattle.kr_pool_desk.specs.Traces.{are_by, Finishes}
 use Rattle.kr_pool_desk.specs.Stops.{IsStopped}
 use Rattle.kr_pool_desk.proofs.Honest.{runs_from_honest}
 use Rattle.kr_pool_desk.proofs.Whole.{by_stopped}
+use Rattle.kr_base.proofs.Bounds.{end_is_last}
 
 -- nothing stands above the end
-
-end-low : (b : Bound) → less End b ≡ false
-unfolding less
-end-low b = refl
 
 at-end : (b : Bound) → less b End ≡ false → b ≡ End
 unfolding less
@@ -39,7 +37,7 @@ at-end End h = refl
 
 closed-there : (s : Segment) → s.mark ≡ End → (is_owned s.owner ≡ true → has_remainder s ≡ true) → is_closed s ≡ true
 closed-there s mark own =
-    let rest : has_remainder s ≡ false = ap (λ (b : Bound). less b s.upto) mark ∙ end-low s.upto in
+    let rest : has_remainder s ≡ false = ap (λ (b : Bound). less b s.upto) mark ∙ end_is_last s.upto in
     let free : is_owned s.owner ≡ false = elim (is_owned s.owner) as (λ b. is_owned s.owner ≡ b → b ≡ false) [ true ↦ λ q. absurd (cc (sym (own q) ∙ rest)) | false ↦ λ q. refl ] refl in
     ap (λ (b : Bool). not b && not (has_remainder s)) free ∙ ap (λ (b : Bool). not b) rest
 

@@ -2,7 +2,6 @@ pub mod Runs
 pub mod Listings
 pub mod Draining
 pub mod Leasing
-pub mod Cutting
 pub mod Traces
 pub mod Laying
 pub mod Limits

@@ -9,7 +9,7 @@ use Rattle.kr_core.specs.Openings.{opening}
 use Rattle.kr_core.specs.Counts.{HonestRuns}
 use Rattle.kr_board.specs.Closing.{all_closed}
 use Rattle.kr_pool_desk.specs.Runs.{is_shared}
-use Rattle.kr_pool_desk.specs.Cutting.{cuts_for}
+use Rattle.kr_core.specs.Cutting.{cuts_for}
 
 abbrev pub is_last : List Event → Bool
 is_last [] = true

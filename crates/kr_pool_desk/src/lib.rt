@@ -2,8 +2,8 @@
 //! holds it.
 #![tactic(auto)]
 
+mod beginning;
 mod crew;
-mod cutting;
 mod desk;
 mod pace;
 mod room;
@@ -14,7 +14,6 @@ mod table;
 mod wanted;
 
 pub use crew::{Crew, Run};
-pub use cutting::cuts_for;
 pub use desk::{Desk, last_rows};
 pub use seat::Seat;
 pub use shared::Shared;

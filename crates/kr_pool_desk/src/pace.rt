@@ -1,5 +1,7 @@
 // Who is in a round and who waits, and when a rest is laid out. No contract names any of it.
 
+use crate::beginning::Beginning;
+
 /// How often the caller waits in vain, one time after another, before it ends a round in which nobody works; and before it ends
 /// one that some seat hasn't begun: it may be that no thread was started for it.
 const VAIN: u32 = 8;
@@ -11,9 +13,11 @@ const WORK: u64 = 32;
 
 /// How many seats there are, how many of them began a round, how many are in it, how many of these wait for work, and how many for
 /// room; how often the caller waited in vain; how many reports came since a rest was laid out, and how many have to before the
-/// next; which seat had work since then, and whether more than one had; whether there is news for those that wait.
+/// next; which seat had work since then, and whether more than one had; whether there is news for those that wait; and in which
+/// order segments are begun.
 #[derive(Drop)]
 pub struct Pace {
+    pub beginning: Beginning,
     seats: u32,
     begun: u32,
     present: u32,
@@ -41,6 +45,7 @@ fn longer(patience: u32) -> u32 {
 impl Pace {
     pub fn start(seats: u32) -> Pace {
         Pace {
+            beginning: Beginning::start(seats),
             seats,
             begun: 0,
             present: 0,
@@ -57,6 +62,7 @@ impl Pace {
 
     /// The caller begins a round, with its own seat.
     pub fn lead(&mut self) {
+        self.beginning.forget();
         self.begun = 0;
         self.vain = 0;
         self.enter();
@@ -129,6 +135,13 @@ impl Pace {
         self.news = true;
     }
 
+    /// A seat is done with its segment.
+    pub fn done(&mut self, seat: u32) {
+        if self.beginning.end(seat) {
+            self.news = true;
+        }
+    }
+
     /// Whether there was news, which is over with it.
     pub fn take_news(&mut self) -> bool {
         let news = self.news;
@@ -136,10 +149,11 @@ impl Pace {
         news
     }
 
-    /// A part came, of so many entries. The caller should drain where a seat waits for room.
+    /// A part came, of so many entries. The caller should drain where a seat waits for room, and seats may begin that couldn't.
     pub fn reported(&mut self, seat: u32, tried: u64) {
         self.vain = 0;
-        if self.held > 0 {
+        let may_begin = self.beginning.add(tried);
+        if self.held > 0 || may_begin {
             self.news = true;
         }
         self.since = self.since.saturating_add(1);

@@ -86,6 +86,16 @@ impl<R: Drop, N: Run<R>, D: Ledger> Desk<R, N, D> {
         position > 0 && (self.is_over_share(rows) || self.has_no_room_for_more(position))
     }
 
+    /// The number of the first free segment, if there is one.
+    pub fn first_free(&self) -> Option<u64> {
+        for segment in self.board.segments() {
+            if segment.has_remainder() && !segment.is_owned() {
+                return Some(segment.number);
+            }
+        }
+        None
+    }
+
     // Whether the first free segment, if there is one, is near enough to the front.
     fn has_takeable(&self) -> bool {
         let mut position: u64 = 0;

@@ -34,14 +34,21 @@ const PEEKS: u32 = 1000;
 /// How many microseconds the caller sleeps at most where it finds nothing to do.
 const WATCH: u64 = 2500;
 
-/// A board under its lock, how often there was news for those that wait, and whether the round is over. Who waits is woken where a
-/// rest is laid out, a segment is done, a lease is given back, rows are drained, a seat leaves, or the caller ends the round.
+/// The most entries that a worker scans before it reports; and while not every seat may begin a segment.
+const BATCH: u32 = 256;
+
+const FIRST: u32 = 16;
+
+/// A board under its lock, how often there was news for those that wait, whether the round is over, and whether not every seat may
+/// begin a segment yet. Who waits is woken where a rest is laid out, a segment is done, a lease is given back, rows are drained, a
+/// seat leaves, or the caller ends the round.
 #[derive(Drop)]
 pub struct Shared<R, N: Run<R>, D: Ledger> {
     table: Mutex<Table<R, N, D>>,
     freed: Condvar,
     changes: AtomicU64,
     over: AtomicU64,
+    beginning: AtomicU64,
 }
 
 impl<R: Drop, N: Run<R>, D: Ledger> Shared<R, N, D> {
@@ -75,9 +82,11 @@ impl<R: Drop, N: Run<R>, D: Ledger> Shared<R, N, D> {
         let (calls, all) = blank.open::<N>();
         let (rows, whole) = tap.open::<D>();
         let seats = seats_for(alloc, workers, all)?;
+        let pace = Pace::start(workers);
+        let beginning = u64::from(!pace.beginning.is_over());
         let table = Mutex::new(Table {
             desk: Desk::new(board, calls, rows, limit),
-            pace: Pace::start(workers),
+            pace,
         });
         Ok((
             Shared {
@@ -85,6 +94,7 @@ impl<R: Drop, N: Run<R>, D: Ledger> Shared<R, N, D> {
                 freed: Condvar::new(),
                 changes: AtomicU64::new(0),
                 over: AtomicU64::new(1),
+                beginning: AtomicU64::new(beginning),
             },
             seats,
             whole,
@@ -128,6 +138,18 @@ impl<R: Drop, N: Run<R>, D: Ledger> Shared<R, N, D> {
     /// Whether no round is led. A seat gives its lease up then.
     pub fn is_over(&self) -> bool {
         self.over.load(Ordering::SeqCst) != 0
+    }
+
+    // Whether not every seat may begin a segment yet.
+    fn is_beginning(&self) -> bool {
+        self.beginning.load(Ordering::SeqCst) != 0
+    }
+
+    /// The most entries that a worker scans now before it reports.
+    pub fn batch(&self) -> u32
+        ensures { (0 < result) × (result ≤ 256) }
+    {
+        if self.is_beginning() { FIRST } else { BATCH }
     }
 
     /// A seat begins the round.
@@ -197,7 +219,7 @@ impl<R: Drop, N: Run<R>, D: Ledger> Shared<R, N, D> {
                 Ok(Some(Taken::Lease(lease))) => return Ok(Some(lease)),
                 Ok(Some(Taken::Finished)) => return Ok(None),
                 Ok(Some(Taken::Later)) => {}
-                Ok(None) => {}
+                Ok(None) => quiet = quiet || self.is_beginning(),
             }
             table.pace.begin_wait();
             table = self.pause(rt, table, &mut quiet);
@@ -286,6 +308,9 @@ impl<R: Drop, N: Run<R>, D: Ledger> Shared<R, N, D> {
     {
         let mut table = self.table.lock(rt);
         let reported = table.report(lease, part, seat);
+        if self.is_beginning() && table.pace.beginning.is_over() {
+            self.beginning.store(0, Ordering::SeqCst);
+        }
         if table.pace.take_news() {
             self.tell();
         }
@@ -322,6 +347,7 @@ impl<R: Drop, N: Run<R>, D: Ledger> Shared<R, N, D> {
             freed: _,
             changes: _,
             over: _,
+            beginning: _,
         } = self;
         let Table { desk, pace: _ } = table.into_inner();
         desk.shut(seats, tap)

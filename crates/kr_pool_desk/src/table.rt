@@ -32,12 +32,27 @@ impl<R: Drop, N: Run<R>, D: Ledger> Table<R, N, D> {
         if self.desk.is_past() {
             return Ok(Some(Taken::Finished));
         }
-        if self.desk.is_at_window() || !self.desk.may_take() {
+        self.pace.beginning.arrive(seat.number);
+        if self.desk.is_at_window() || !self.desk.may_take() || !self.may_begin(seat.number) {
             return Ok(None);
         }
         match self.desk.take(seat.number, &mut seat.calls) {
             Err(why) => Err(why),
-            Ok(taken) => Ok(Some(taken)),
+            Ok(taken) => {
+                self.pace.beginning.note(seat.number, &taken);
+                Ok(Some(taken))
+            }
+        }
+    }
+
+    // Whether a seat may begin the first free segment now, if there is one.
+    fn may_begin(&self, seat: u32) -> bool {
+        match self.desk.first_free() {
+            None => true,
+            Some(segment) => self
+                .pace
+                .beginning
+                .may_begin(seat, segment, self.desk.has_owned()),
         }
     }
 
@@ -62,6 +77,10 @@ impl<R: Drop, N: Run<R>, D: Ledger> Table<R, N, D> {
         match self.desk.report(seat.number, lease, part, &mut seat.calls) {
             Err(refused) => Err(refused),
             Ok(Reported::Go(first)) => Ok(self.go_on(first, seat)),
+            Ok(Reported::Done) => {
+                self.pace.done(seat.number);
+                Ok(Reported::Done)
+            }
             Ok(other) => {
                 self.pace.tell();
                 Ok(other)

@@ -110,7 +110,7 @@ fn met<W: Threads + Wait + Sync + Abort>(
     Ok(is_listing(&listing, 4, 4) && passed > 0 && gate.alone.load(Ordering::SeqCst) == 0)
 }
 
-// Whether all of so many workers have a segment at once, where each has one to begin with.
+// Whether all of so few workers have a segment at once, where each has one to begin with.
 fn gathered<W: Threads + Wait + Sync + Abort>(
     rt: &W,
     alloc: Global,
@@ -124,8 +124,49 @@ fn gathered<W: Threads + Wait + Sync + Abort>(
 
 #[test]
 fn nobody_waits_where_work_is_free(rt: HostRuntime) -> Result<(), Fail> {
-    for workers in [2, 4, 8, 64] {
+    for workers in [2, 4] {
         assert!(rt; gathered(&rt, rt.alloc(), workers)?, "{workers}");
+    }
+    Ok(())
+}
+
+// Whether a worker that has nothing to do is given a rest: of the four first scans by two workers the last two meet, where the
+// first segment has one entry.
+fn rest_is_given<W: Threads + Wait + Sync + Abort>(
+    rt: &W,
+    alloc: Global,
+) -> Result<bool, NoMemory> {
+    let mut survey = looked_at(keys(rt, alloc, 2000, 3000)?, 0, 4);
+    survey.from = 2;
+    let gate = gathering_of(2);
+    let listing = list(rt, alloc, &survey, 2, &gate)?;
+    Ok(is_listing(&listing, 2000, 2000) && survey.alone.load(Ordering::SeqCst) == 0)
+}
+
+#[test]
+fn a_rest_is_given(rt: HostRuntime) -> Result<(), Fail> {
+    assert!(rt; rest_is_given(&rt, rt.alloc())?);
+    Ok(())
+}
+
+// How many of so many workers begin a segment, where there are four entries.
+fn begin<W: Threads + Wait + Sync + Abort>(
+    rt: &W,
+    alloc: Global,
+    workers: u32,
+) -> Result<u64, NoMemory> {
+    let survey = keys(rt, alloc, 4, 9)?;
+    let gate = gathering_of(0);
+    let listing = list(rt, alloc, &survey, workers, &gate)?;
+    assert!(rt; is_listing(&listing, 4, 4));
+    Ok(gate.begun.load(Ordering::SeqCst))
+}
+
+#[test]
+fn few_begin_where_there_is_little(rt: HostRuntime) -> Result<(), Fail> {
+    for workers in [8, 64] {
+        let begun = begin(&rt, rt.alloc(), workers)?;
+        assert!(rt; 0 < begun && begun < 5, "{workers}: {begun}");
     }
     Ok(())
 }
@@ -212,6 +253,32 @@ fn logged<W: Threads + Wait + Sync + Abort>(rt: &W, alloc: Global) -> Result<boo
     let survey = keys(rt, alloc, 4, 9)?;
     let taken = take_all(rt, alloc, &survey, 1, None, &OpenGate)?;
     Ok(is_alone(taken.log.as_slice()))
+}
+
+// Whether rows are drained before the last report.
+fn is_drained_early(log: &[Event]) -> bool {
+    let mut is_drained = false;
+    for event in log {
+        if matches!(event, Event::Drain { rows: _ }) {
+            is_drained = true;
+        } else if is_drained && matches!(event, Event::Report { .. }) {
+            return true;
+        }
+    }
+    false
+}
+
+// Whether one worker drains rows while it works.
+fn drains<W: Threads + Wait + Sync + Abort>(rt: &W, alloc: Global) -> Result<bool, NoMemory> {
+    let survey = keys(rt, alloc, 2000, 3000)?;
+    let taken = take_all(rt, alloc, &survey, 1, None, &OpenGate)?;
+    Ok(is_drained_early(taken.log.as_slice()))
+}
+
+#[test]
+fn rows_come_early(rt: HostRuntime) -> Result<(), Fail> {
+    assert!(rt; drains(&rt, rt.alloc())?);
+    Ok(())
 }
 
 #[test]

@@ -24,15 +24,23 @@ pub(crate) fn comes_to(count: &AtomicU64, number: u64) -> bool {
     false
 }
 
-/// A list whose first scans are refused memory, and the first of the others wait until so many have begun.
+/// A list whose first scans are refused memory, and those from a number on wait until so many have begun.
 #[derive(Drop)]
 pub(crate) struct Watched {
     pub(crate) list: ListSurvey,
     pub(crate) refused: u64,
+    pub(crate) from: u64,
     pub(crate) together: u64,
     pub(crate) begun: AtomicU64,
     pub(crate) alone: AtomicU64,
     pub(crate) scanned: AtomicU64,
+}
+
+impl Watched {
+    // Whether the scan before which so many began waits for others.
+    fn waits(&self, before: u64) -> bool {
+        before >= self.from && before < self.together
+    }
 }
 
 impl Survey for Watched {
@@ -61,7 +69,7 @@ impl Survey for Watched {
         if before < self.refused {
             return Err(NoMemory::from(AllocError));
         }
-        if before < self.together && !comes_to(&self.begun, self.together) {
+        if self.waits(before) && !comes_to(&self.begun, self.together) {
             self.alone.fetch_add(1, Ordering::SeqCst);
         }
         let part = self.list.scan(after, upto, most, runs)?;
@@ -136,6 +144,7 @@ pub(crate) fn looked_at(list: ListSurvey, refused: u64, together: u64) -> Watche
     Watched {
         list,
         refused,
+        from: 0,
         together,
         begun: AtomicU64::new(0),
         alone: AtomicU64::new(0),

@@ -22,7 +22,8 @@ use Rattle.kr_space_problem.specs.Posed.{posed}
 use Rattle.kr_pure_effects.specs.Nodes.{TouchesCandidates}
 use Rattle.kr_pure.specs.Entries.{node_of}
 use Rattle.kr_pure.specs.Reach.{ArePredicateCode}
-use Rattle.kr_pure.specs.Touched.{IsFirstTouch, IsLeastTouch, IsTouchAt, sooner}
+use Rattle.kr_pure.specs.Touched.{IsFirstTouch, IsLeastTouch, IsTouchAt}
+use Rattle.kr_classes.specs.Faults.{sooner_place}
 use Rattle.kr_classes_table.proofs.Order.{number, level}
 
 -- ---- places
@@ -91,7 +92,7 @@ module _ (problem : Problem) where
       go m r u (inl c) = h.first m r c u
       go m r u (inr e) = last r (subst (λ (x : NodeId). IsTouchAt problem x (Some r)) (sym e) u)
 
-  pub first_more : (nodes : List NodeId) (n : NodeId) (first o : Option Place) → IsFirstTouch problem nodes first → IsTouchAt problem n o → IsFirstTouch problem (nodes ++ n ∷ []) (sooner first o)
+  pub first_more : (nodes : List NodeId) (n : NodeId) (first o : Option Place) → IsFirstTouch problem nodes first → IsTouchAt problem n o → IsFirstTouch problem (nodes ++ n ∷ []) (sooner_place first o)
   first_more nodes n None None h t = All-push (λ m. IsTouchAt problem m None) nodes n h t
   first_more nodes n None (Some q) h t = newest nodes n q t (λ m r c u. absurd (All-contains (λ x. IsTouchAt problem x None) nodes m h c u.0))
   first_more nodes n (Some p) None h t = stays_first nodes n p h (λ r u. absurd (t u.0))

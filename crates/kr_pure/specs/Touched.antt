@@ -1,5 +1,5 @@
 -- Between crates: the first place at which the predicate's code touches candidates.
-use Rattle.std.specs.Prelude.{◌≡◌, List, [], ◌∷◌, All, Contains, Option, Some, None, false, if◌then◌else◌}
+use Rattle.std.specs.Prelude.{◌≡◌, List, [], ◌∷◌, All, Contains, Option, Some, None, false}
 use Rattle.kr_base.specs.declared.place.Place.{Place}
 use Rattle.kr_classes_table.specs.Rules.{is_earlier}
 use Rattle.kr_ast.specs.declared.files.NodeId.{NodeId}
@@ -12,12 +12,6 @@ use Rattle.kr_pure_effects.specs.Nodes.{TouchesCandidates}
 use Rattle.kr_pure.specs.Entries.{node_of}
 use Rattle.kr_pure.specs.declared.purity.PureRefusal.{PureRefusal}
 use Rattle.kr_pure.specs.declared.purity.PureRefusal.TheVariants.{Impure, NoMemory}
-
--- the earlier of two places, each of which may be absent
-abbrev pub sooner : Option Place → Option Place → Option Place
-sooner None o = o
-sooner (Some p) None = Some p
-sooner (Some p) (Some q) = if is_earlier q p then Some q else Some p
 
 -- the node touches candidates, and is at this place; or it touches none
 abbrev pub IsTouchAt : Problem → NodeId → Option Place → Type 0

@@ -5,12 +5,12 @@ ghost use Rattle.kr_code_members.specs.Nodes.{AreShaped, IsThere};
 ghost use Rattle.kr_space_problem.specs.Posed.{IsPosed, posed};
 ghost use Rattle.kr_space_problem.specs.Subjects.{IsSubject};
 ghost use Rattle.kr_pure.specs.declared.purity.PureRefusal.TheVariants.{NoMemory as Lacking};
-ghost use Rattle.kr_pure.specs.Touched.{IsFirstTouch, IsTouchAt, Refuses, sooner};
+ghost use Rattle.kr_pure.specs.Touched.{IsFirstTouch, IsTouchAt, Refuses};
 
 use crate::reaching::predicate_nodes;
 use kr_ast::{NodeId, tree_of};
 use kr_base::{NoMemory, Place};
-use kr_classes_table::is_earlier;
+use kr_classes::earlier;
 use kr_pure_effects::touches_candidates;
 use kr_space_problem::{Problem, Subject};
 use std::alloc::Global;
@@ -28,17 +28,6 @@ impl From<NoMemory> for PureRefusal {
 
     fn from(why: NoMemory) -> PureRefusal {
         PureRefusal::NoMemory(why)
-    }
-}
-
-/// The first of the places so far and one more, if there is one.
-fn sooner(first: Option<Place>, place: Option<Place>) -> Option<Place>
-    ensures { result ≡ sooner first place }
-{
-    match (first, place) {
-        (None, _) => place,
-        (_, None) => first,
-        (Some(f), Some(p)) => { if is_earlier(p, f) { Some(p) } else { Some(f) } }
     }
 }
 
@@ -64,7 +53,7 @@ fn first_touch(problem: &Problem, nodes: &[NodeId]) -> Result<Option<Place>, NoM
     let mut first = None;
     for at in nodes {
         let place = touch_at(problem, *at)?;
-        first = sooner(first, place);
+        first = earlier(first, place);
     }
     Ok(first)
 }

@@ -21,7 +21,7 @@ pub fn touches_candidates(problem: &Problem, file: u32, node: u32) -> Result<boo
 {
     let domains = problem.layout.domains();
     if domains > 0xffff_ffff {
-        return Err(NoMemory::at_limit(domains as u64));
+        return Err(problem.layout.at_domain_limit());
     }
     Ok(touches_some(
         &problem.program.table.types,

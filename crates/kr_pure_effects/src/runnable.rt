@@ -54,7 +54,7 @@ pub fn overriders(
 {
     let classes = members.len();
     if classes > 0xffff_ffff {
-        return Err(NoMemory::at_limit(classes as u64));
+        return Err(members.at_limit());
     }
     let mut found = Vec::new(alloc);
     for class in 0..classes as u32 {

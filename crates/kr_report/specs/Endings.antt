@@ -18,3 +18,9 @@ pub record EndsListing {K : Type 0} (taken : K → Option (List ℕ)) (faults : 
   pub whole : status < 6 → (status ≡ answer.status) × Added taken faults out out' (bytes_of answer)
   pub fault : status ≡ 7 → (text : List ℕ) × MayBegin answer text × Stopped taken faults out out' text
   pub memory : status ≡ 8 → (n : ℕ) × Added taken faults out out' (front_of answer n ++ memory_text)
+
+-- The report broke off in its rows: at a fault, or out of memory.
+pub record BreaksOff {K : Type 0} (taken : K → Option (List ℕ)) (faults : K → ℕ) (answer : Answer) (out out' : K) (status : ℕ) : Type 0 where
+  pub known : (status ≡ 7) ⊎ (status ≡ 8)
+  pub fault : status ≡ 7 → (n : ℕ) × Stopped taken faults out out' (front_of answer n ++ memory_text)
+  pub memory : status ≡ 8 → (n : ℕ) × Added taken faults out out' (front_of answer n ++ memory_text)

@@ -8,6 +8,7 @@ ghost use Rattle.kr_report.specs.Names.{listed_names, name_under, names_of};
 
 use kr_ast::{Name, Node, Tree, tree_of};
 use kr_classes_members::{Field, Method};
+use kr_classes_table::first_item;
 
 /// The name of a field by its position; empty where there is none.
 pub fn field_name_among<'t>(trees: &'t [Tree], fields: &[Field], position: u32) -> &'t [u8]
@@ -17,19 +18,6 @@ pub fn field_name_among<'t>(trees: &'t [Tree], fields: &[Field], position: u32) 
     match fields.get(position as usize) {
         None => b"",
         Some(field) => tree_of(trees, field.file).name(field.name),
-    }
-}
-
-/// The first item of a list, and the rest.
-fn first_item(tree: &Tree, list: u32) -> Option<(u32, u32)>
-    requires { list < length tree.now.entries }
-    ensures within { IfSome result (λ p. p.0 < length tree.now.entries) }
-    ensures behind { IfSome result (λ p. p.1 < list) }
-    ensures shown { MatchOption result (items (tree_in tree.now list) ≡ []) (λ p. items (tree_in tree.now list) ≡ tree_in tree.now p.0 ∷ items (tree_in tree.now p.1)) }
-{
-    match tree.entry(list).node {
-        Node::Cons { first, rest } => Some((first, rest)),
-        _ => None,
     }
 }
 

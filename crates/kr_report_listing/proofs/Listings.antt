@@ -1,6 +1,6 @@
 -- The answer of a problem's lines is that of its entries, and so is the tally.
-use Rattle.std.proofs.Common.{◌≡◌, ◌≤◌, ◌<◌, ℕ, List, [], ◌++◌, true, length, take, map, refl, sym, ap, ◌∙◌, subst, arith, append-nil}
-use Rattle.std.specs.Prelude.{Option}
+use Rattle.std.proofs.Common.{◌≡◌, ◌≤◌, ◌<◌, ℕ, List, [], ◌++◌, ◌+◌, true, length, take, map, refl, sym, ap, ◌∙◌, subst, arith, append-nil}
+use Rattle.std.specs.Prelude.{Option, Result, Ok, Err, IfOk, OnErr}
 use Rattle.std.proofs.lemmas.List.{length-map}
 use Rattle.kr_base.specs.Entries.{entries_in}
 use Rattle.kr_base.specs.declared.entry.Entry.{Entry}
@@ -22,6 +22,8 @@ use Rattle.kr_report_streaming.proofs.Law.{rows_same}
 use Rattle.kr_survey.specs.Listings.{listed_in}
 use Rattle.kr_survey.specs.Mapping.{entries_by}
 use Rattle.kr_survey.specs.Scans.{rows_of}
+use Rattle.kr_survey.specs.declared.taker.End.{End as Ending}
+use Rattle.kr_survey.specs.declared.taker.Halt.{Halt}
 use Rattle.kr_survey.proofs.Mapping.{entries_in_by, rows_by}
 
 -- the entries that a survey of lines lists
@@ -69,3 +71,14 @@ rows_long P Q S span s =
     ap (λ (x : Problem). length (rows_of (lines_in Q x span))) s
     ∙ (ap (λ (l : List (Entry RowLine)). length (rows_of l)) (entries_in_by f (At span.after) span.upto (all_entries P))
     ∙ (ap (λ (l : List RowLine). length l) (rows_by f es) ∙ (length-map (rows_of es) f ∙ ap (λ (l : List Row). length l) (rows_same es))))
+
+-- ---- how many runs there are
+
+-- where the report isn't cut off, a run an entry and two more
+pub runs_alone : (P S : Problem) (after : List ℕ) (put : Result Ending Halt) (start now status : ℕ) → S ≡ P → after ≡ [] → OnErr put (7 ≤ status) → status < 7
+    → IfOk put (λ end. now ≤ start + length (entries_in (At after) End (all_entries S)) + length after + 2) → now ≤ start + length (entries_in (At []) End (all_entries P)) + 2
+runs_alone P S after (Err halt) start now status s e late few runs = absurd (omega (arith, late, few))
+runs_alone P S after (Ok end) start now status s e late few runs =
+    let all = ap (λ (x : Problem). length (entries_in (At after) End (all_entries x))) s ∙ ap (λ (k : List ℕ). length (entries_in (At k) End (all_entries P))) e in
+    let none : length after ≡ 0 = ap (λ (k : List ℕ). length k) e in
+    omega (arith, runs, all, none)

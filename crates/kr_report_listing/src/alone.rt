@@ -1,4 +1,8 @@
 // The report by one worker, who waits for nobody.
+ghost use Rattle.std.specs.Prelude.{◌<◌, ◌≤◌, ◌+◌, [], length};
+ghost use Rattle.kr_base.specs.Entries.{entries_in};
+ghost use Rattle.kr_base.specs.declared.span.Bound.TheVariants.{At, End};
+ghost use Rattle.kr_mean.specs.Entries.{all_entries};
 ghost use Rattle.kr_report.specs.Endings.{EndsListing};
 ghost use Rattle.kr_report_listing.specs.Listed.{listed, tallied};
 ghost use Rattle.kr_space_problem.specs.Posed.{posed};
@@ -32,7 +36,7 @@ pub fn list_alone<K: Sink, L: Ledger>(
 }
 
 /// Counts a problem's valid entries, and puts one line: how many, for so many nodes, or the key of the first spent one. Returns
-/// the status.
+/// the status. Each entry is run once.
 pub fn count_alone<K: Sink, L: Ledger>(
     alloc: Global,
     prepared: &Prepared,
@@ -40,7 +44,8 @@ pub fn count_alone<K: Sink, L: Ledger>(
     out: &mut K,
     runs: &mut Steps<L>,
 ) -> u8
-    ensures { EndsListing K.taken K.faults (tallied (posed prepared.now.problem) nodes) out.old out.new result }
+    ensures ends { EndsListing K.taken K.faults (tallied (posed prepared.now.problem) nodes) out.old out.new result }
+    ensures runs { result < 7 → runs.new ≤ runs.old + length (entries_in (At []) End (all_entries (posed prepared.now.problem))) + 2 }
 {
     count_law();
     let units = units_of(alloc, prepared);

@@ -10,4 +10,4 @@ mod workers;
 pub use alone::{count_alone, list_alone};
 pub use sharing::may_be_shared;
 pub use surveys::{Lines, Units, lines_of, units_of};
-pub use workers::{count_shared, list_deque, list_shared, list_traced};
+pub use workers::{Traced, count_shared, list_deque, list_run, list_shared, list_traced};

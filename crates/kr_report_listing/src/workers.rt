@@ -1,20 +1,22 @@
 // The report by workers in threads of their own. Whatever the schedule, it is what one worker reports.
-ghost use Rattle.std.specs.Prelude.{◌<◌, ◌≤◌};
+ghost use Rattle.std.specs.Prelude.{◌≡◌, ◌<◌, ◌≤◌};
 ghost use Rattle.kr_report.specs.Endings.{EndsListing};
 ghost use Rattle.kr_report_listing.specs.Listed.{listed, tallied};
-ghost use Rattle.kr_report_listing.specs.Traced.{EndsTraced};
+ghost use Rattle.kr_report_listing.specs.Runs.{IsRunOf};
+ghost use Rattle.kr_report_listing.specs.Traced.{EndsLogged, EndsTraced};
 ghost use Rattle.kr_space_problem.specs.Posed.{posed};
 
-use crate::surveys::{lines_of, units_of};
+use crate::surveys::{Lines, lines_of, units_of};
 use kr_base::{Bound, Cut, Sink, Span};
 use kr_deque::spread;
 use kr_io::Gate;
 use kr_judge_prepared::Prepared;
-use kr_pool::{share, whole_log_law};
+use kr_pool::{Log, Run, share, share_run};
 use kr_report_streaming::{Counter, LineWriter, RowLine, count_law, lines_law};
-use kr_survey::Survey;
 use std::alloc::Global;
+use std::marker::Brand;
 use std::sync::Wait;
+use std::sync::ledger::{Blank, Ledger};
 use std::thread::Threads;
 
 /// Lists a problem's entries in a span, or tests its method on them, with at most so many rows, by so many workers at a board: rows
@@ -56,6 +58,71 @@ pub fn list_shared<W: Threads + Wait + Sync, K: Sink, G: Gate + Sync>(
     }
 }
 
+/// How a listing with a log after it ended: the status, and the log that was written, unless the rows broke off.
+#[derive(Drop)]
+pub struct Traced<N> {
+    pub status: u8,
+    pub log: Option<Log<N>>,
+}
+
+/// As `list_shared`, and after the last line the log of the workers, a line an event, for a run that a type names: the log is that of
+/// the run whose rows were written. It may wait.
+pub fn list_run<
+    N: Run<RowLine> + Send + Sync,
+    D: Ledger + Send + Sync,
+    W: Threads + Wait + Sync,
+    K: Sink,
+    G: Gate + Sync,
+>(
+    rt: &W,
+    alloc: Global,
+    prepared: &Prepared,
+    span: Span,
+    limit: u32,
+    workers: u32,
+    window: u32,
+    gate: &G,
+    out: &mut K,
+    calls: Blank,
+    tap: Blank,
+) -> Traced<N>
+    requires ledger { (calls.name ≡ N.name) × (calls.parts ≡ N.parts) }
+    requires tap { (tap.name ≡ D.name) × (tap.parts ≡ D.parts) × (tap.parts ≡ 1) }
+    requires parts { (N.parts ≡ workers) × (N.workers ≡ workers) }
+    requires workers { (0 < workers) × (workers ≤ 64) }
+    requires window { (0 < window) × (window ≤ 65536) }
+    requires run { IsRunOf (posed prepared.now.problem) span workers window limit N.all N.span N.cuts N.opening N.window N.limit }
+    ensures { EndsLogged K.taken K.faults (posed prepared.now.problem) span workers window limit out.old out.new result.status result.log }
+{
+    lines_law();
+    let lines = lines_of(alloc, prepared);
+    let mode = prepared.layout().mode();
+    let rows = Some(u64::from(window));
+    let mut writer = LineWriter::new(alloc, limit);
+    match share_run::<RowLine, N, D, Lines<'_>, LineWriter, G, W, K>(
+        rt,
+        alloc,
+        &lines,
+        span,
+        workers,
+        rows,
+        &mut writer,
+        out,
+        gate,
+        calls,
+        tap,
+    ) {
+        Ok((end, log)) => Traced {
+            status: writer.close(mode, Ok(end), log.events(), out),
+            log: Some(log),
+        },
+        Err(halt) => Traced {
+            status: writer.close(mode, Err(halt), &[], out),
+            log: None,
+        },
+    }
+}
+
 /// As `list_shared`, and after the last line the log of the workers, a line an event. It may wait.
 pub fn list_traced<W: Threads + Wait + Sync, K: Sink, G: Gate + Sync>(
     rt: &W,
@@ -70,29 +137,22 @@ pub fn list_traced<W: Threads + Wait + Sync, K: Sink, G: Gate + Sync>(
 ) -> u8
     requires workers { (0 < workers) × (workers ≤ 64) }
     requires window { (0 < window) × (window ≤ 65536) }
-    ensures { EndsTraced K.taken K.faults (posed prepared.now.problem) span workers limit out.old out.new result }
+    ensures { EndsTraced K.taken K.faults (posed prepared.now.problem) span workers window limit out.old out.new result }
 {
-    lines_law();
-    whole_log_law::<RowLine>();
-    let lines = lines_of(alloc, prepared);
-    lines.ascends();
-    let mode = prepared.layout().mode();
-    let window = Some(u64::from(window));
-    let mut writer = LineWriter::new(alloc, limit);
-    match share(
+    let traced = list_run::<Brand, Brand, W, K, G>(
         rt,
         alloc,
-        &lines,
+        prepared,
         span,
+        limit,
         workers,
         window,
-        &mut writer,
-        out,
         gate,
-    ) {
-        Ok((end, log)) => writer.close(mode, Ok(end), log.as_slice(), out),
-        Err(halt) => writer.close(mode, Err(halt), &[], out),
-    }
+        out,
+        Blank::new(u64::from(workers)),
+        Blank::new(1),
+    );
+    traced.status
 }
 
 /// As `list_shared`, by workers over deques: what they find is put once all of it is there. It may wait.

@@ -1,21 +1,14 @@
 // The front of a row's line, up to the structure.
-ghost use Rattle.std.specs.Prelude.{◌++◌, codes, decimal};
+ghost use Rattle.std.specs.Prelude.{◌++◌, codes};
 ghost use Rattle.kr_base.specs.Cuts.{cut_text, dotted};
 ghost use Rattle.kr_base.specs.Told.{Writes};
 ghost use Rattle.kr_report.specs.Texts.{verdict_text};
 
 use itoa::Buffer;
-use kr_base::{Cut, Failed, Sink, put_all};
+use kr_base::{Cut, Failed, Sink, put_all, put_number};
 use kr_mean::Row;
 use kr_report::put_verdict;
 use kr_text::put_pieces;
-
-fn put_number<K: Sink>(number: u32, out: &mut K) -> Result<(), Failed>
-    ensures { Writes K.taken K.faults out.old out.new (decimal number) result }
-{
-    let mut buffer = Buffer::new();
-    put_all(out, buffer.format(number).as_bytes())
-}
 
 /// Writes a dot and a number, a small one by one put.
 fn put_dotted<K: Sink>(number: u32, out: &mut K) -> Result<(), Failed>
@@ -36,7 +29,7 @@ fn put_key<K: Sink>(key: &Cut, out: &mut K) -> Result<(), Failed>
     let Some((first, rest)) = key.numbers().split_first() else {
         return Ok(());
     };
-    put_number(*first, out)?;
+    put_number(out, *first)?;
     for number in rest {
         put_dotted(*number, out)?;
     }

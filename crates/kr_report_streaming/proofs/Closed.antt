@@ -115,9 +115,9 @@ module _ {K : Type 0} (taken : K → Option (List ℕ)) (faults : K → ℕ) (mo
         subst (λ (l : List RowLine). Added taken faults from out (lines (texts l))) same is.text,
       )
 
-  -- a front of the answer was written, before a log or not
-  pub halted : (log : List ℕ) (halt : Halt) → Halts (WritesLines taken faults) es a from w out halt → HaltsAt taken faults (followed_by log (entries_answer mode a.limit es)) from out halt
-  halted log Sink h =
+  -- a front of the answer was written
+  pub halted : (halt : Halt) → Halts (WritesLines taken faults) es a from w out halt → HaltsAt taken faults (entries_answer mode a.limit es) from out halt
+  halted Sink h =
       let n = h.0 in
       let ls = rows_of es in
       let rows : (entries_answer mode a.limit es).rows ≡ texts (take a.limit ls) = rows_are mode a.limit ls (capped (length es)) (spent_in es) in
@@ -125,7 +125,7 @@ module _ {K : Type 0} (taken : K → Option (List ℕ)) (faults : K → ℕ) (mo
       let ts = texts (take a.limit ls) in
       let split : lines ts ≡ lines (take n ts) ++ lines (drop n ts) = ap lines (sym (take-append-drop n ts)) ∙ flat_map-append (λ (row : List ℕ). row) (take n ts) (drop n ts) in
       stopped_early (lines (drop n ts)) (subst (λ (rs : List (List ℕ)). Stopped taken faults from out (lines rs)) cut h.1) (ap lines rows ∙ split)
-  halted log (Memory why) h =
+  halted (Memory why) h =
       let n = h.0 in
       let ls = rows_of es in
       let rows : (entries_answer mode a.limit es).rows ≡ texts (take a.limit ls) = rows_are mode a.limit ls (capped (length es)) (spent_in es) in
@@ -136,8 +136,8 @@ module _ {K : Type 0} (taken : K → Option (List ℕ)) (faults : K → ℕ) (mo
       any_room ls More x = x.0.text
       any_room ls Full x = x.0.text
 
-  pub halted_put : (log : List ℕ) (put : Result End Halt) (halt : Halt) → put ≡ Err halt → Hands (WritesLines taken faults) es a from w out put → HaltsAt taken faults (followed_by log (entries_answer mode a.limit es)) from out halt
-  halted_put log put halt is h = halted log halt (subst (λ (p : Result End Halt). Hands (WritesLines taken faults) es a from w out p) is h)
+  pub halted_put : (put : Result End Halt) (halt : Halt) → put ≡ Err halt → Hands (WritesLines taken faults) es a from w out put → HaltsAt taken faults (entries_answer mode a.limit es) from out halt
+  halted_put put halt is h = halted halt (subst (λ (p : Result End Halt). Hands (WritesLines taken faults) es a from w out p) is h)
 
   pub ended_put : {T E : Type 0} (log : List ℕ) (put : Result End Halt) (end : End) (closing : Closing) (c : K) (status : ℕ) (r : Result T E) → put ≡ Ok end → Hands (WritesLines taken faults) es a from w out put → closing ≡ closing_of mode w end
       → Writes taken faults out c (summary_line closing.summary ++ log) r → status ≡ (if is_ok r then closing.status else 7) → EndsListing taken faults (followed_by log (entries_answer mode a.limit es)) from c status

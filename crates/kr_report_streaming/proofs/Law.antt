@@ -1,7 +1,7 @@
 -- The listing of a problem's lines is the listing of its entries; so is the tally.
-use Rattle.std.proofs.Common.{◌≡◌, ℕ, zero, suc, List, [], ◌∷◌, ◌++◌, Bool, true, false, length, take, map, refl, ap, ◌∙◌, arith}
+use Rattle.std.proofs.Common.{◌≡◌, ℕ, suc, List, [], ◌∷◌, ◌++◌, Bool, true, false, length, take, map, refl, ap, ◌∙◌, arith}
 use Rattle.std.specs.Prelude.{Option, Some, None, codes, decimal, nat_lt, if◌then◌else◌}
-use Rattle.std.proofs.lemmas.List.{length-map}
+use Rattle.std.proofs.lemmas.List.{length-map, take-map}
 use Rattle.kr_base.specs.Causes.{capped}
 use Rattle.kr_base.specs.declared.entry.Entry.{Entry}
 use Rattle.kr_base.specs.declared.entry.Mark.{Mark}
@@ -13,7 +13,7 @@ use Rattle.kr_mean.specs.declared.mode.Mode.TheVariants.{List as Listing, Method
 use Rattle.kr_mean.specs.declared.row.Row.{Row}
 use Rattle.kr_report.specs.Texts.{more_text, row_text, spent_text}
 use Rattle.kr_report.specs.Reports.{Answer, cut_report, failing_in, is_failing, last_key, listing_answer, rows_in, rows_of_mark, spent_key, spent_key_of, summary_text, whole_report}
-use Rattle.kr_report_streaming.specs.Lines.{LinesLaw, cut_lines, entries_answer, failing_lines, last_of, line_of, lines_answer, status_by, texts, whole_lines, whole_text}
+use Rattle.kr_report_streaming.specs.Lines.{LinesLaw, cut_lines, failing_lines, last_of, line_of, lines_answer, status_by, texts, whole_lines, whole_text}
 use Rattle.kr_report_streaming.specs.Tallies.{CountLaw, tally_by}
 use Rattle.kr_report_streaming.specs.declared.row_line.RowLine.{RowLine}
 use Rattle.kr_survey.specs.Listings.{spent_in}
@@ -44,15 +44,6 @@ rows_by : {R : Type 0} (f : Row → R) (es : List (Entry Row)) → MappedLaw Row
 rows_by f es law = (law f es).rows ∙ ap (map f) (rows_same es)
 
 -- ---- lines
-
-take_by : {A B : Type 0} (f : A → B) (n : ℕ) (xs : List A) → take n (map f xs) ≡ map f (take n xs)
-take_by f zero xs = refl
-take_by f (suc n) [] = refl
-take_by f (suc n) (x ∷ xs) = ap (λ l. f x ∷ l) (take_by f n xs)
-
-length_by : {A B : Type 0} (f : A → B) (xs : List A) → length (map f xs) ≡ length xs
-length_by f [] = refl
-length_by f (x ∷ xs) = ap suc (length_by f xs)
 
 texts_by : (P : Problem) (rows : List Row) → texts (map (line_of P) rows) ≡ map (row_text P) rows
 texts_by P [] = refl
@@ -100,7 +91,7 @@ whole_by P es None =
     let n = capped (length es) in
     ap (λ (f : ℕ). answer (status_by f) (texts ls) (whole_text P.mode (length ls) f n)) (failing_by P rows)
     ∙ (ap (λ (ts : List (List ℕ)). answer (status_by (length (failing_in rows))) ts (whole_text P.mode (length ls) (length (failing_in rows)) n)) (texts_by P rows)
-    ∙ (ap (λ (v : ℕ). answer (status_by (length (failing_in rows))) (map (row_text P) rows) (whole_text P.mode v (length (failing_in rows)) n)) (length_by (line_of P) rows)
+    ∙ (ap (λ (v : ℕ). answer (status_by (length (failing_in rows))) (map (row_text P) rows) (whole_text P.mode v (length (failing_in rows)) n)) (length-map rows (line_of P))
     ∙ ap (λ (t : List ℕ). answer (status_by (length (failing_in rows))) (map (row_text P) rows) t) (summary_by P.mode rows (length es))))
 whole_by P es (Some key) = ap (λ (ts : List (List ℕ)). answer 5 ts (spent_text key)) (texts_by P (rows_in es))
 
@@ -110,8 +101,8 @@ rows_answer P limit es =
     let rows = rows_in es in
     let ls = map (line_of P) rows in
     let n = capped (length es) in
-    ap (λ (t : ℕ). let a : Answer = if nat_lt limit t then cut_lines (take limit ls) else whole_lines P.mode ls n (spent_key es) in a) (length_by (line_of P) rows)
-    ∙ (ap (λ (c : Answer). let a : Answer = if nat_lt limit (length rows) then c else whole_lines P.mode ls n (spent_key es) in a) (ap cut_lines (take_by (line_of P) limit rows) ∙ cut_by P (take limit rows))
+    ap (λ (t : ℕ). let a : Answer = if nat_lt limit t then cut_lines (take limit ls) else whole_lines P.mode ls n (spent_key es) in a) (length-map rows (line_of P))
+    ∙ (ap (λ (c : Answer). let a : Answer = if nat_lt limit (length rows) then c else whole_lines P.mode ls n (spent_key es) in a) (ap cut_lines (take-map (line_of P) limit rows) ∙ cut_by P (take limit rows))
     ∙ ap (λ (w : Answer). let a : Answer = if nat_lt limit (length rows) then cut_report P (take limit rows) else w in a) (whole_by P es (spent_key es)))
 
 pub lines_law : MappedLaw Row RowLine → LinesLaw
@@ -126,5 +117,5 @@ pub count_law : MappedLaw Row (Unit {0}) → CountLaw
 count_law law nodes es =
     let f : Row → Unit {0} = λ row. tt in
     ap (λ (us : List (Unit {0})). tally_by nodes (length us) (spent_in (entries_by f es))) (rows_by f es law)
-    ∙ (ap (λ (n : ℕ). tally_by nodes n (spent_in (entries_by f es))) (length_by f (rows_in es))
+    ∙ (ap (λ (n : ℕ). tally_by nodes n (spent_in (entries_by f es))) (length-map (rows_in es) f)
     ∙ ap (λ (k : Option (List ℕ)). tally_by nodes (length (rows_in es)) k) (spent_same f es))

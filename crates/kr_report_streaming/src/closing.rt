@@ -1,8 +1,8 @@
 // The last line.
-ghost use Rattle.std.specs.Prelude.{◌≡◌, ◌++◌, ℕ, List, IfErr};
+ghost use Rattle.std.specs.Prelude.{◌≡◌, ◌++◌, List, IfErr};
 ghost use Rattle.kr_base.specs.Told.{Writes};
 ghost use Rattle.kr_base.specs.declared.entry.Entry.{Entry};
-ghost use Rattle.kr_report.specs.Endings.{EndsListing};
+ghost use Rattle.kr_report.specs.Endings.{BreaksOff, EndsListing};
 ghost use Rattle.kr_report.specs.Summaries.{summary_line};
 ghost use Rattle.kr_report_streaming.specs.Followed.{followed_by};
 ghost use Rattle.kr_report_streaming.specs.Lines.{entries_answer, status_by};
@@ -95,7 +95,7 @@ impl LineWriter {
         out: &mut K,
     ) -> u8
         ensures ends { (a : WriterOf) (from : K) (es : List (Entry LineOf)) → Hands (WritesLines K.taken K.faults) es a from self out.old put → EndsListing K.taken K.faults (followed_by (trace_text log.now) (entries_answer mode.now a.limit es)) from out.new result }
-        ensures halted { IfErr put (λ halt. (a : WriterOf) (from : K) (es : List (Entry LineOf)) (text : List ℕ) → Halts (WritesLines K.taken K.faults) es a from self out.old halt → EndsListing K.taken K.faults (followed_by text (entries_answer mode.now a.limit es)) from out.new result) }
+        ensures halted { IfErr put (λ halt. (a : WriterOf) (from : K) (es : List (Entry LineOf)) → Halts (WritesLines K.taken K.faults) es a from self out.old halt → BreaksOff K.taken K.faults (entries_answer mode.now a.limit es) from out.new result) }
     {
         match put {
             Err(halt) => put_halt(halt, out),

@@ -1,5 +1,5 @@
 // A counter of rows.
-ghost use Rattle.std.specs.Prelude.{◌≡◌, ◌↔◌, ◌++◌, List, Option, ℕ, Some, None, IfOk, length, true};
+ghost use Rattle.std.specs.Prelude.{◌≡◌, ◌≤◌, ◌↔◌, ◌++◌, List, Option, ℕ, Some, None, IfOk, OnErr, length, true};
 ghost use Rattle.kr_base.specs.declared.entry.Entry.{Entry};
 ghost use Rattle.kr_report.specs.Endings.{EndsListing};
 ghost use Rattle.kr_report_streaming.specs.Tallies.{HasCounted, count_answer, summary_by};
@@ -83,7 +83,8 @@ impl Counter {
 
     /// Writes one line: how many rows were counted, for so many nodes, or the key of the spent entry. Returns the status.
     pub fn close<K: Sink>(self, nodes: u32, put: Result<End, Halt>, out: &mut K) -> u8
-        ensures { (a : CounterOf) (from : K) (es : List (Entry (Unit {0}))) → Hands (λ a from rows b out room. HasCounted from rows b out room) es a from self out.old put → EndsListing K.taken K.faults (count_answer nodes es) from out.new result }
+        ensures late { OnErr put (7 ≤ result) }
+        ensures ends { (a : CounterOf) (from : K) (es : List (Entry (Unit {0}))) → Hands (λ a from rows b out room. HasCounted from rows b out room) es a from self out.old put → EndsListing K.taken K.faults (count_answer nodes es) from out.new result }
     {
         match put {
             Err(halt) => put_halt(halt, out),

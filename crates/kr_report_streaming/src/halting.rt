@@ -1,6 +1,6 @@
 // How a report ends whose rows were not all handed over.
-ghost use Rattle.std.specs.Prelude.{◌≡◌};
-ghost use Rattle.kr_report.specs.Endings.{EndsListing};
+ghost use Rattle.std.specs.Prelude.{◌≡◌, ◌≤◌};
+ghost use Rattle.kr_report.specs.Endings.{BreaksOff};
 ghost use Rattle.kr_report.specs.Reports.{Answer};
 ghost use Rattle.kr_report_streaming.specs.Writers.{HaltsAt};
 
@@ -10,7 +10,8 @@ use kr_survey::Halt;
 
 /// The status; out of memory is said by a line.
 pub(crate) fn put_halt<K: Sink>(halt: Halt, out: &mut K) -> u8
-    ensures { (answer : Answer) (from : K) → HaltsAt K.taken K.faults answer from out.old halt → EndsListing K.taken K.faults answer from out.new result }
+    ensures late { 7 ≤ result }
+    ensures ends { (answer : Answer) (from : K) → HaltsAt K.taken K.faults answer from out.old halt → BreaksOff K.taken K.faults answer from out.new result }
 {
     match halt {
         Halt::Sink => 7,

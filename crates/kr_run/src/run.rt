@@ -24,6 +24,7 @@ use crate::create::{construct, initialise, stop_unit, take_unit};
 use crate::steps::Step;
 use crate::unwinding::{Passing, end, is_leaving, pass_by};
 use kr_ast::{BinaryOperator, StepOperator};
+use kr_base::Countdown;
 use kr_code::{Code, Nodes, Statement};
 use kr_mean::{Flow, Kind, Stop};
 use kr_run_frames::{Change, Stack, Task, ValueFrame, Waiting, WriteFrame};
@@ -32,7 +33,7 @@ use kr_run_moves::{
     all, declare, enter_node, enter_statement, feed, repeat, take_flow, take_test, take_value,
     update, value, write,
 };
-use kr_run_state::{Action, Cell, Halt, Local, NoMemory, World, act, store_initial, tick};
+use kr_run_state::{Action, Cell, Halt, Local, World, act, store_initial, tick};
 use kr_value::Value;
 use std::alloc::Global;
 
@@ -361,7 +362,7 @@ fn flow_frame(
         }
         Waiting::Scope(count) => {
             stack.drop_top();
-            return end_scope(code, world, stack, count, flow, task);
+            return end_scope(code, world, stack, count as usize, flow, task);
         }
         Waiting::Leave(is_void, this, _) => {
             return leave(code, world, stack, is_void, this, flow, task);
@@ -616,9 +617,9 @@ pub fn advance(
 ) -> Result<Step, Halt>
     ensures { StepsTo code.now result task.new stack.new world.new world.old (λ d x. resumed code.now d stack.old task.old (state_at world.old x)) }
 {
-    let mut taken: u64 = 0;
-    'steps: while taken < u64::MAX {
-        taken += 1;
+    let mut left = Countdown::start();
+    'steps: while !left.is_over() {
+        left.count();
         match step(alloc, code, world, stack, task) {
             Err(Halt::Ended(end)) => return Err(Halt::Ended(end)),
             Err(Halt::Memory(why)) => return Err(Halt::Memory(why)),
@@ -630,7 +631,7 @@ pub fn advance(
             }
         }
     }
-    Err(Halt::Memory(NoMemory::at_limit(taken)))
+    Err(Halt::Memory(left.at_end()))
 }
 
 /// Runs a node as an expression: what it gives, or how the run ends. The world is left as the run leaves it, and every
@@ -640,9 +641,9 @@ pub fn evaluate(alloc: Global, code: &Code, world: &mut World, node: u32) -> Res
 {
     let mut stack = Stack::new(alloc);
     let mut task = Task::Evaluate(node);
-    let mut taken: u64 = 0;
-    'steps: while taken < u64::MAX {
-        taken += 1;
+    let mut left = Countdown::start();
+    'steps: while !left.is_over() {
+        left.count();
         match advance(alloc, code, world, &mut stack, &mut task) {
             Err(Halt::Ended(end)) => return Err(Halt::Ended(end)),
             Err(Halt::Memory(why)) => return Err(Halt::Memory(why)),
@@ -650,5 +651,5 @@ pub fn evaluate(alloc: Global, code: &Code, world: &mut World, node: u32) -> Res
             Ok(Step::More) => {}
         }
     }
-    Err(Halt::Memory(NoMemory::at_limit(taken)))
+    Err(Halt::Memory(left.at_end()))
 }

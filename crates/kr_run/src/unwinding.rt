@@ -52,7 +52,7 @@ fn flow_past(frame: &Waiting, flow: Flow) -> Option<Ends>
     ensures { IfSome result (λ ends. PassesBy frame.now (passing.Flow flow) ends) }
 {
     match *frame {
-        Waiting::Scope(count) => Some(Ends::Scope(count)),
+        Waiting::Scope(count) => Some(Ends::Scope(count as usize)),
         Waiting::Flow(_) => {
             if is_leaving(flow) {
                 Some(Ends::Nothing)
@@ -69,7 +69,7 @@ fn stop_past(frame: &Waiting) -> Ends
     ensures { (e : Reason) → PassesBy frame.now (passing.Stop e) result }
 {
     match *frame {
-        Waiting::Scope(count) => Ends::Scope(count),
+        Waiting::Scope(count) => Ends::Scope(count as usize),
         Waiting::Leave(_, this, _) => Ends::Body(this),
         Waiting::Back(this, _) => Ends::Body(this),
         Waiting::Value(_) => Ends::Nothing,

@@ -74,6 +74,12 @@ frame_there ws n (suc k) w vs ls lt below is =
     let under = frame_there ws (n - 1) k w (take (values_from v (length vs)) vs) (take (locals_from v (length ls)) ls) (omega (arith, lt)) (omega (arith, below)) (is ∙ ap (λ (i : ℕ). get_or ws i w) same) in
     subst (λ (us : List Waiting). IsOnTop w (drop (suc k) (unpacked us vs ls))) (sym first) under
 
+-- what is after the topmost frame is room
+pub released : (ws us : List Waiting) (n : ℕ) (vs : List Value) (ls : List Local) → us ≡ take n ws → n ≤ length ws → unpacked (reverse (take n us)) vs ls ≡ unpacked (reverse (take n ws)) vs ls
+released ws us n vs ls e le =
+    let whole : take n (take n ws) ≡ take n ws = take_all n (take n ws) (omega (arith, length-take-le n ws le)) in
+    ap (λ (xs : List Waiting). unpacked (reverse (take n xs)) vs ls) e ∙ ap (λ (xs : List Waiting). unpacked (reverse xs) vs ls) whole
+
 -- ---- the lists of the topmost frame
 
 its_values : (w : Waiting) (ws : List Waiting) (vs : List Value) (ls : List Local) → drop (values_from w (length vs)) vs ≡ values_on (unpacked (w ∷ ws) vs ls)

@@ -132,7 +132,8 @@ pub enum UnitFrame {
     Initialise(Nodes, Value),
 }
 
-/// A frame as the stack keeps it: in place of a list, where that begins among those of all frames.
+/// A frame as the stack keeps it: in place of a list, where that begins among those of all frames. Places and counts are kept in 32
+/// bits, which makes frames smaller.
 #[derive(Clone, Copy)]
 pub enum Waiting {
     Value(ValueFrame),
@@ -140,20 +141,20 @@ pub enum Waiting {
     Flow(FlowFrame),
     Unit(UnitFrame),
     /// Arguments: the nodes that are left, and the values that are there.
-    Arguments(Goal, Nodes, usize),
-    UpArguments(Up, Nodes, usize),
+    Arguments(Goal, Nodes, u32),
+    UpArguments(Up, Nodes, u32),
     /// The unit of a written call of the superclass's constructor is spent.
     UpEnter(Up, Nodes),
     /// The constructors of a line of classes, on an object, with arguments.
-    Construct(Nodes, Value, usize),
+    Construct(Nodes, Value, u32),
     /// The locals of a block end: so many were there before.
-    Scope(usize),
+    Scope(u32),
     /// A method's body ends, and gives no value or one: `this` and the locals are those of its caller.
-    Leave(bool, Value, usize),
+    Leave(bool, Value, u32),
     /// A constructor's body ends.
     Complete,
     /// `this` and the locals are those from before, where something is done on a new object.
-    Back(Value, usize),
+    Back(Value, u32),
     /// The new object is given.
     Made(Value),
     /// A field gets its initial value, on an object.

@@ -1,5 +1,5 @@
 // The frames that wait, the innermost one on top.
-ghost use Rattle.std.specs.Prelude.{◌≡◌, ◌==◌, ◌≤◌, ◌∷◌, [], drop, length, take, OnOk, MatchOption};
+ghost use Rattle.std.specs.Prelude.{◌≡◌, ◌==◌, ◌≤◌, ◌∷◌, [], drop, length, take, IfOk, OnOk, MatchOption};
 ghost use Rattle.kr_run_frames.specs.Copies.{GoOnAlike};
 ghost use Rattle.kr_run_frames.specs.Frame as frames;
 ghost use Rattle.kr_run_frames.specs.Kept.{HasNoList, IsOnTop, frame_of, locals_from, locals_on, values_from, values_on};
@@ -12,6 +12,9 @@ use kr_run_state::Local;
 use kr_value::Value;
 use std::alloc::Global;
 use std::marker::Model;
+
+/// The frames for which a stack always keeps room.
+const ROOM: usize = 1 << 16;
 
 /// A stack of frames. Contracts see the list of them, the top one first. After those there is room for others, and the values
 /// and the locals of all of them lie one after another.
@@ -40,9 +43,9 @@ fn values_start(frame: &Waiting, count: usize) -> usize
     ensures { result ≡ values_from frame.now count }
 {
     match frame {
-        Waiting::Arguments(_, _, start) => *start,
-        Waiting::UpArguments(_, _, start) => *start,
-        Waiting::Construct(_, _, start) => *start,
+        Waiting::Arguments(_, _, start) => *start as usize,
+        Waiting::UpArguments(_, _, start) => *start as usize,
+        Waiting::Construct(_, _, start) => *start as usize,
         _ => count,
     }
 }
@@ -52,8 +55,8 @@ fn locals_start(frame: &Waiting, count: usize) -> usize
     ensures { result ≡ locals_from frame.now count }
 {
     match frame {
-        Waiting::Leave(_, _, start) => *start,
-        Waiting::Back(_, start) => *start,
+        Waiting::Leave(_, _, start) => *start as usize,
+        Waiting::Back(_, start) => *start as usize,
         _ => count,
     }
 }
@@ -65,11 +68,11 @@ fn cut(frame: &Waiting, values: &mut Vec<Value>, locals: &mut Vec<Local>)
     ensures locals { locals.new.items ≡ take (locals_from frame.now (length locals.old.items)) locals.old.items }
 {
     match frame {
-        Waiting::Arguments(_, _, start) => values.truncate(*start),
-        Waiting::UpArguments(_, _, start) => values.truncate(*start),
-        Waiting::Construct(_, _, start) => values.truncate(*start),
-        Waiting::Leave(_, _, start) => locals.truncate(*start),
-        Waiting::Back(_, start) => locals.truncate(*start),
+        Waiting::Arguments(_, _, start) => values.truncate(*start as usize),
+        Waiting::UpArguments(_, _, start) => values.truncate(*start as usize),
+        Waiting::Construct(_, _, start) => values.truncate(*start as usize),
+        Waiting::Leave(_, _, start) => locals.truncate(*start as usize),
+        Waiting::Back(_, start) => locals.truncate(*start as usize),
         Waiting::Value(_) => {}
         Waiting::Test(_) => {}
         Waiting::Flow(_) => {}
@@ -80,6 +83,18 @@ fn cut(frame: &Waiting, values: &mut Vec<Value>, locals: &mut Vec<Local>)
         Waiting::Made(_) => {}
         Waiting::Store(_, _) => {}
     }
+}
+
+/// The length of a list as a frame keeps it. The error says that there are 2^32 of something.
+#[inline(always)]
+fn small<T>(items: &[T]) -> Result<u32, NoMemory>
+    ensures { IfOk result (λ kept. kept ≡ length items.now) }
+{
+    let count = items.len();
+    if count > 0xffff_ffff {
+        return Err(NoMemory::at_limit(items));
+    }
+    Ok(count as u32)
 }
 
 impl Stack {
@@ -102,6 +117,20 @@ impl Stack {
         self.top = 0;
         self.values.clear();
         self.locals.clear();
+    }
+
+    /// Gives back the room of a deep run; small room stays.
+    #[tactic(auto, using(crate::proofs::Stacks::released))]
+    pub fn release(&mut self)
+        ensures { self.new ≡ self.old }
+    {
+        if self.frames.len() <= ROOM {
+            return;
+        }
+        self.frames.truncate(self.top);
+        self.frames.shrink_to(ROOM);
+        self.values.shrink_to(ROOM);
+        self.locals.shrink_to(ROOM);
     }
 
     /// Another stack's frames in place of these, in the room that is there.
@@ -210,6 +239,15 @@ impl Stack {
         Ok(())
     }
 
+    /// Enters a block, with these locals.
+    #[inline(always)]
+    pub fn push_scope(&mut self, locals: &[Local]) -> Result<(), NoMemory>
+        ensures { OnOk result (self.new ≡ frames.Scope (length locals.now) ∷ self.old) }
+    {
+        let count = small(locals)?;
+        self.push(Waiting::Scope(count))
+    }
+
     /// Arguments are awaited, after these.
     #[tactic(auto, using(crate::proofs::Stacks::pushed_arguments))]
     pub fn push_arguments(
@@ -220,7 +258,7 @@ impl Stack {
     ) -> Result<(), NoMemory>
         ensures { OnOk result (self.new ≡ frames.Arguments goal nodes found.now ∷ self.old) }
     {
-        let start = self.values.len();
+        let start = small(self.values.as_slice())?;
         extend(&mut self.values, found)?;
         self.top = lay(
             &mut self.frames,
@@ -240,7 +278,7 @@ impl Stack {
     ) -> Result<(), NoMemory>
         ensures { OnOk result (self.new ≡ frames.UpArguments up nodes found.now ∷ self.old) }
     {
-        let start = self.values.len();
+        let start = small(self.values.as_slice())?;
         extend(&mut self.values, found)?;
         self.top = lay(
             &mut self.frames,
@@ -260,7 +298,7 @@ impl Stack {
     ) -> Result<(), NoMemory>
         ensures { OnOk result (self.new ≡ frames.Construct line object arguments.now ∷ self.old) }
     {
-        let start = self.values.len();
+        let start = small(self.values.as_slice())?;
         extend(&mut self.values, arguments)?;
         self.top = lay(
             &mut self.frames,
@@ -280,7 +318,7 @@ impl Stack {
     ) -> Result<(), NoMemory>
         ensures { OnOk result (self.new ≡ frames.Leave is_void this locals.now ∷ self.old) }
     {
-        let start = self.locals.len();
+        let start = small(self.locals.as_slice())?;
         extend(&mut self.locals, locals)?;
         self.top = lay(
             &mut self.frames,
@@ -295,7 +333,7 @@ impl Stack {
     pub fn push_back(&mut self, this: Value, locals: &[Local]) -> Result<(), NoMemory>
         ensures { OnOk result (self.new ≡ frames.Back this locals.now ∷ self.old) }
     {
-        let start = self.locals.len();
+        let start = small(self.locals.as_slice())?;
         extend(&mut self.locals, locals)?;
         self.top = lay(&mut self.frames, self.top, Waiting::Back(this, start))?;
         Ok(())

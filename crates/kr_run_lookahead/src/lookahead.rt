@@ -102,7 +102,7 @@ fn flow_ahead(
                     }
                 },
                 Waiting::Scope(count) => {
-                    pass_scope(world, *count);
+                    pass_scope(world, *count as usize);
                     at += 1;
                 }
                 _ => return None,

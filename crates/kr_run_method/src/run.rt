@@ -13,7 +13,7 @@ ghost use Rattle.kr_classes_table.specs.Table.{Method as TableMethod};
 ghost use Rattle.kr_run_state.specs.Worlds.{state_at, state_of};
 
 use crate::executed::{Executed, Method};
-use kr_base::NoMemory;
+use kr_base::{Countdown, NoMemory};
 use kr_classes_table::MethodId;
 use kr_code::{Code, Nodes};
 use kr_heap::Heap;
@@ -55,9 +55,9 @@ fn run(
     ensures { Answers code.now result world.new world.old (λ d x. resumed code.now d stack.old task (state_at world.old x)) }
 {
     let mut next = task;
-    let mut taken: u64 = 0;
-    'steps: while taken < u64::MAX {
-        taken += 1;
+    let mut left = Countdown::start();
+    'steps: while !left.is_over() {
+        left.count();
         match advance(alloc, code, world, stack, &mut next) {
             Err(Halt::Ended(end)) => return Err(Halt::Ended(end)),
             Err(Halt::Memory(why)) => return Err(Halt::Memory(why)),
@@ -65,7 +65,7 @@ fn run(
             Ok(Step::More) => {}
         }
     }
-    Err(Halt::Memory(NoMemory::at_limit(taken)))
+    Err(Halt::Memory(left.at_end()))
 }
 
 /// Calls a method on a receiver and arguments, with the room of a stack: what it gives, or how the run ends.

@@ -1,5 +1,5 @@
 // Frames that wait for what comes next.
-ghost use Rattle.std.specs.Prelude.{◌≡◌, ◌∷◌, [], OnOk};
+ghost use Rattle.std.specs.Prelude.{◌≡◌, ◌∷◌, [], length, OnOk};
 ghost use Rattle.kr_run_frames.specs.Frame as frames;
 ghost use Rattle.kr_run_frames.specs.Kept.{HasNoList, frame_of};
 ghost use Rattle.kr_run_frames.specs.declared.frame.ValueFrame.TheVariants as values;
@@ -15,7 +15,7 @@ use kr_code::Nodes;
 use kr_run_frames::{
     FlowFrame, Goal, Stack, Task, TestFrame, UnitFrame, ValueFrame, Waiting, WriteFrame,
 };
-use kr_run_state::{Halt, NoMemory};
+use kr_run_state::{Halt, Local, NoMemory};
 use kr_value::Value;
 
 /// A frame more, without lists.
@@ -25,6 +25,14 @@ pub fn push(stack: &mut Stack, frame: Waiting) -> Result<(), NoMemory>
     ensures pushed { OnOk result (stack.new ≡ frame_of frame [] [] ∷ stack.old) }
 {
     stack.push(frame)
+}
+
+/// A block is entered, with these locals.
+#[inline(always)]
+pub(crate) fn scope(stack: &mut Stack, locals: &[Local]) -> Result<(), NoMemory>
+    ensures pushed { OnOk result (stack.new ≡ frames.Scope (length locals.now) ∷ stack.old) }
+{
+    stack.push_scope(locals)
 }
 
 #[inline(always)]

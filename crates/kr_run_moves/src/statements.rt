@@ -5,11 +5,11 @@ ghost use Rattle.kr_run_frames.specs.Leads.{Leads, next_task};
 ghost use Rattle.kr_run_state.specs.Worlds.{state_at};
 
 use crate::lists::all;
-use crate::pushes::{flow, push};
+use crate::pushes::{flow, scope};
 use crate::values::{stop, test_next};
 use kr_code::{Code, Statement};
 use kr_mean::Flow;
-use kr_run_frames::{FlowFrame, Loop, Stack, Task, TestFrame, Waiting};
+use kr_run_frames::{FlowFrame, Loop, Stack, Task, TestFrame};
 use kr_run_state::{Halt, World};
 use std::alloc::Global;
 
@@ -33,7 +33,7 @@ pub fn enter_statement(
             Ok(())
         }
         Statement::Block(statements) => {
-            push(stack, Waiting::Scope(world.locals.len()))?;
+            scope(stack, world.locals.as_slice())?;
             all(code, world, stack, *statements, task)
         }
         Statement::Evaluate(node) => test_next(
@@ -84,7 +84,7 @@ pub fn enter_statement(
             updates,
             body,
         } => {
-            push(stack, Waiting::Scope(world.locals.len()))?;
+            scope(stack, world.locals.as_slice())?;
             flow(
                 stack,
                 FlowFrame::First(Loop::For(*condition, *updates, *body)),

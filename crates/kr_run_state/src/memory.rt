@@ -371,15 +371,12 @@ fn allocate(world: &mut World, class: Class, values: Vec<Value>) -> Result<Value
 {
     let candidates = world.candidates.len();
     let Ok(count) = u32::try_from(candidates) else {
-        return Err(Halt::Memory(NoMemory::at_limit(candidates as u64)));
+        return Err(Halt::Memory(world.candidates.at_limit()));
     };
     match world.made.allocate(class, values) {
         Err(why) => Err(Halt::Memory(why)),
         Ok(number) => match count.checked_add(number) {
-            None => {
-                let objects = count as u64 + number as u64;
-                Err(Halt::Memory(NoMemory::at_limit(objects)))
-            }
+            None => Err(Halt::Memory(world.made.at_limit_after(&world.candidates))),
             Some(object) => Ok(Value::Ref(object)),
         },
     }

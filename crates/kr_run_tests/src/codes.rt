@@ -5,6 +5,7 @@ use kr_base::NoMemory;
 use kr_code::{
     Callee, ClassCode, Code, CollectionCall, Expression, MethodCode, Node, Nodes, Statement,
 };
+use kr_space_layout::counted;
 use kr_value::Value;
 use std::alloc::Global;
 
@@ -23,14 +24,6 @@ pub(crate) struct Parts {
     pub(crate) dispatch: Vec<Vec<Option<u32>>>,
 }
 
-/// A count as a number.
-fn numbered(count: usize) -> Result<u32, NoMemory> {
-    match u32::try_from(count) {
-        Ok(number) => Ok(number),
-        Err(_) => Err(NoMemory::at_limit(count as u64)),
-    }
-}
-
 impl Parts {
     fn new(alloc: Global) -> Parts {
         Parts {
@@ -46,7 +39,7 @@ impl Parts {
     }
 
     pub(crate) fn node(&mut self, node: Node) -> Result<u32, NoMemory> {
-        let number = numbered(self.nodes.len())?;
+        let number = counted(self.nodes.as_slice())?;
         self.nodes.push(node)?;
         Ok(number)
     }
@@ -77,8 +70,8 @@ impl Parts {
     }
 
     pub(crate) fn list(&mut self, nodes: &[u32]) -> Result<Nodes, NoMemory> {
-        let first = numbered(self.links.len())?;
-        let count = numbered(nodes.len())?;
+        let first = counted(self.links.as_slice())?;
+        let count = counted(nodes)?;
         self.links.extend_from_slice(nodes)?;
         Ok(Nodes { first, count })
     }

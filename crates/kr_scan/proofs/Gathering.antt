@@ -1,11 +1,8 @@
 -- A walk over a span, entry by entry.
-use Rattle.std.proofs.Common.{◌≡◌, ◌⊎◌, inl, inr, ℕ, zero, suc, ◌+◌, ◌<◌, List, [], ◌∷◌, ◌++◌, Bool, true, false, ◌==◌, cond, length, take, refl, sym, ap, ◌∙◌, subst, arith, length-append, append_assoc}
+use Rattle.std.proofs.Common.{◌≡◌, ◌⊎◌, inl, inr, ℕ, ◌+◌, ◌<◌, List, [], ◌∷◌, ◌++◌, Bool, true, false, ◌==◌, cond, length, take, refl, sym, ap, ◌∙◌, subst, arith, append_assoc}
 use Rattle.std.specs.Prelude.{◌||◌, if◌then◌else◌}
-use Rattle.std.specs.List.{flat_map, list_any}
-use Rattle.std.proofs.lemmas.Bool.Decides.{nat_tests}
 use Rattle.std.proofs.lemmas.List.{append-nil, take_all}
-use Rattle.std.proofs.lemmas.List.Concat.{flat_map-append}
-use Rattle.std.proofs.lemmas.List.Folds.{list_any-append}
+use Rattle.std.proofs.lemmas.Bool.{eq-eqb}
 use Rattle.kr_base.specs.declared.span.Bound.{Bound}
 use Rattle.kr_base.specs.declared.span.Bound.TheVariants.{At}
 use Rattle.kr_base.specs.declared.entry.Entry.{Entry}
@@ -15,19 +12,10 @@ use Rattle.kr_mean.specs.Space.{Space}
 use Rattle.kr_step.specs.declared.candidates.Ending.{Ending}
 use Rattle.kr_step.specs.Scans.{RunsOn}
 use Rattle.kr_survey.specs.Scans.{row_of, rows_of, any_spent, last_key, walked, reached, IsScan}
-use Rattle.kr_survey.proofs.Scanning.{eq-eqb, last-more, length-more, less-not, rows-more, spent-more, take-here}
+use Rattle.kr_survey.proofs.Scanning.{last-more, length-more, less-not, rows-more, spent-more, take-here, through-append}
 use Rattle.kr_survey.proofs.Walks.{is_stopped}
-use Rattle.kr_scan.specs.declared.batch.Stop.{Stop}
 use Rattle.kr_scan.specs.declared.batch.Stop.TheVariants.{End, Full, Spent}
 use Rattle.kr_scan.specs.Stops.{Gathers}
-
-through-append : {R : Type 0} (xs ys : List (Entry R)) → any_spent xs ≡ false → through_spent (xs ++ ys) ≡ xs ++ through_spent ys
-through-append [] ys h = refl
-through-append {R} (x ∷ xs) ys h =
-    elim (is_spent x.mark) as (λ t. (t || any_spent xs) ≡ false → x ∷ (if t then [] else through_spent (xs ++ ys)) ≡ x ∷ (xs ++ through_spent ys)) [
-      | true ↦ λ s. absurd (cc (s))
-      | false ↦ λ s. ap (λ (l : List (Entry R)). x ∷ l) (through-append xs ys s)
-    ] h
 
 -- Of the entries of a span these are walked, none of them spent, and their rows are kept; others are left.
 pub record IsFront {R : Type 0} (all : List (Entry R)) (after : List ℕ) (upto : Bound) (most : ℕ) (done rest : List (Entry R)) (rows : List R) (tried : ℕ) : Type 0 where

@@ -1,6 +1,6 @@
 -- A walk over a span whose rows are handed over.
-use Rattle.std.proofs.Common.{◌≡◌, ℕ, zero, suc, ◌+◌, ◌-◌, ◌^◌, List, [], ◌∷◌, ◌++◌, Bool, true, false, length, take, map, refl, sym, ap, ◌∙◌, subst, arith, length-append, append_assoc, append-nil}
-use Rattle.std.specs.Prelude.{◌||◌, min, Option, Some, None, Result, Ok, Err, if◌then◌else◌}
+use Rattle.std.proofs.Common.{◌≡◌, ℕ, zero, suc, ◌+◌, ◌-◌, ◌^◌, ◌≤◌, List, [], ◌∷◌, ◌++◌, Bool, true, false, length, take, map, refl, sym, ap, ◌∙◌, subst, arith, length-append, append_assoc, append-nil}
+use Rattle.std.specs.Prelude.{◌||◌, min, Option, Some, None, Result, Ok, Err, IfOk, if◌then◌else◌}
 use Rattle.std.proofs.lemmas.List.{map-append}
 use Rattle.kr_base.specs.Causes.{capped}
 use Rattle.kr_base.specs.declared.memory.NoMemory.{NoMemory}
@@ -154,3 +154,22 @@ listed {R} takes f all some span cut upto a b from out r s c u h =
     let e : entries_in (At cut) upto some ≡ entries_in (At span.after) span.upto all =
     ap (λ (l : List (Entry R)). entries_in (At cut) upto l) s ∙ (ap (λ (k : List ℕ). entries_in (At k) upto all) c ∙ ap (λ (b : Bound). entries_in (At span.after) b all) u) in
     subst (λ es. Hands takes es a from b out r) (ap (λ (l : List (Entry R)). entries_by f l) e ∙ sym (entries_in_by f (At span.after) span.upto all)) h
+
+-- ---- runs
+
+-- what holds anyway
+pub if_ok : {A E : Type 0} (r : Result A E) (P : Type 0) → P → IfOk r (λ a. P)
+if_ok (Ok a) P p = p
+if_ok (Err e) P p = tt
+
+-- one more, after at most one for each entry that was walked
+pub runs_in : {R : Type 0} (es done left : List (Entry R)) (tried : ℕ) → IsWalked es done left tried → (start before after : ℕ) → before ≤ start + length done → after ≤ before + 1 → after ≤ start + length es + 1
+runs_in {R} es done left tried is start before after b a = omega (arith, b, a, ap (λ (l : List (Entry R)). length l) is.whole ∙ length-append done (through_spent left))
+
+pub runs_listed : {R : Type 0} (all some : List (Entry R)) (span : Span) (cut : List ℕ) (upto : Bound) (r : Result End Halt) (start sought after : ℕ) → some ≡ all → cut ≡ span.after → upto ≡ span.upto
+    → sought ≤ start + length span.after + 1 → IfOk r (λ end. after ≤ sought + length (entries_in (At cut) upto some) + 1) → IfOk r (λ end. after ≤ start + length (entries_in (At span.after) span.upto all) + length span.after + 2)
+runs_listed all some span cut upto (Err halt) start sought after s c u h k = tt
+runs_listed {R} all some span cut upto (Ok end) start sought after s c u h k =
+    let e : entries_in (At cut) upto some ≡ entries_in (At span.after) span.upto all =
+    ap (λ (l : List (Entry R)). entries_in (At cut) upto l) s ∙ (ap (λ (k : List ℕ). entries_in (At k) upto all) c ∙ ap (λ (b : Bound). entries_in (At span.after) b all) u) in
+    omega (arith, h, k, ap (λ (l : List (Entry R)). length l) e)

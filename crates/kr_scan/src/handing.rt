@@ -1,5 +1,5 @@
 // The rows of a span, handed over one by one, as they are found.
-ghost use Rattle.std.specs.Prelude.{◌≡◌, ◌+◌, ◌-◌, ◌^◌, [], List, Some, map, min};
+ghost use Rattle.std.specs.Prelude.{◌≡◌, ◌≤◌, ◌+◌, ◌-◌, ◌^◌, [], IfOk, List, Some, length, map, min};
 ghost use Rattle.kr_base.specs.Entries.{entries_in};
 ghost use Rattle.kr_base.specs.declared.span.Bound.TheVariants.{At};
 ghost use Rattle.kr_mean.specs.Entries.{all_entries, mark_of};
@@ -103,7 +103,8 @@ fn hand_over<R, M: Making<Row, Row = R>, T: Taker<K, Row = R>, C: Candidate + Dr
 ) -> Result<End, Halt>
     requires fresh { T.takes taker.old out.old [] taker.old out.old (Some More) }
     requires runs_on { RunsOn (posed maker.old.problem) (C.space span.old.candidates) (C.order span.old.candidates) (C.ending span.old.candidates) }
-    ensures { Hands T.takes (entries_by (M.made_of making.now) (entries_in (At span.old.cut) span.old.upto (all_entries (posed maker.old.problem)))) taker.old out.old taker.new out.new result }
+    ensures hands { Hands T.takes (entries_by (M.made_of making.now) (entries_in (At span.old.cut) span.old.upto (all_entries (posed maker.old.problem)))) taker.old out.old taker.new out.new result }
+    ensures runs { IfOk result (λ end. runs.new ≤ runs.old + length (entries_in (At span.old.cut) span.old.upto (all_entries (posed maker.old.problem))) + 1) }
 {
     let mut room = making.room();
     let mut tried: u64 = 0;
@@ -126,7 +127,7 @@ fn hand_over<R, M: Making<Row, Row = R>, T: Taker<K, Row = R>, C: Candidate + Dr
 }
 
 /// The rows of a problem's entries in a span, made into others and handed over by one worker: each before the next candidate is
-/// run. It waits for nobody.
+/// run. There is at most one run an entry, beside those that seeking takes. It waits for nobody.
 pub fn walk<'p, R, M: Making<Row, Row = R>, T: Taker<K, Row = R>, K, L: Ledger>(
     survey: &Mapped<Scan<'p>, M>,
     span: Span,
@@ -135,7 +136,8 @@ pub fn walk<'p, R, M: Making<Row, Row = R>, T: Taker<K, Row = R>, K, L: Ledger>(
     runs: &mut Steps<L>,
 ) -> Result<End, Halt>
     requires { T.takes taker.old out.old [] taker.old out.old (Some More) }
-    ensures { Hands T.takes (listed_in (entries_by (M.made_of survey.now.making) (all_entries (posed survey.now.survey))) span) taker.old out.old taker.new out.new result }
+    ensures hands { Hands T.takes (listed_in (entries_by (M.made_of survey.now.making) (all_entries (posed survey.now.survey))) span) taker.old out.old taker.new out.new result }
+    ensures runs { IfOk result (λ end. runs.new ≤ runs.old + length (entries_in (At span.after) span.upto (all_entries (posed survey.now.survey))) + length span.after + 2) }
 {
     let scan = &survey.survey;
     let mut maker = match RowMaker::new(scan.alloc, scan.prepared) {

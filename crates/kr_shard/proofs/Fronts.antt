@@ -6,14 +6,14 @@ use Rattle.std.proofs.lemmas.List.{length-append, length-drop, length-map, lengt
 use Rattle.std.proofs.Math.Seq.{drop-append_seam, take-append_seam}
 use Rattle.kr_base.specs.declared.span.Bound.{Bound}
 use Rattle.kr_base.specs.declared.span.Span.{Span}
-use Rattle.kr_shard.specs.Lines.{ended, lines_in, unended}
+use Rattle.kr_text.specs.Splitting.{ended, lines_in, unended}
 use Rattle.kr_shard.specs.Shards.{KeyedLine, and_rows, ended_by, ending_in, ending_of, for_ok, if_last, last_key, row_bytes, row_key, rows_in, shard_of, span_of, with_lines, with_span}
 use Rattle.kr_shard.specs.Stages.{Answers, IsAt, IsFront, ReadsBody, body_of, body_with, line_of}
 use Rattle.kr_shard.specs.ReadRows.{RowLines}
 use Rattle.kr_shard.specs.declared.shard.ShardRefusal.{ShardRefusal}
 use Rattle.kr_shard.specs.declared.shard.ShardRefusal.TheVariants.{Malformed, NoMemory}
 use Rattle.kr_shard.specs.declared.words.Ending.{Ending}
-use Rattle.kr_shard.proofs.Texts.{unended_after}
+use Rattle.kr_text.proofs.Splits.{unended_after}
 use Rattle.kr_shard.specs.declared.reading.Front.{Front}
 
 pub at_start : (span : Span) (text : List ℕ) → IsAt span text text 0 span.after

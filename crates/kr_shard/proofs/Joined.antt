@@ -13,7 +13,8 @@ use Rattle.kr_shard.specs.Answers.{bytes_in as given_bytes, count_in as given_co
 use Rattle.kr_shard.specs.declared.order.Given.{Given}
 use Rattle.kr_shard.specs.declared.merging.Merged.{Merged}
 use Rattle.kr_shard.specs.declared.merging.MergeRefusal.{MergeRefusal}
-use Rattle.kr_shard.specs.Files.{Held, OneMerge, answer_by, fault_line, joined_of, unless_fault}
+use Rattle.kr_shard.specs.Files.{OneMerge, answer_by, fault_line, joined_of, unless_fault}
+use Rattle.kr_io.specs.Held.{Held}
 use Rattle.kr_shard.specs.Found.{AreShards, CountStays, FindsMerged, HasReadAll, JoinsShards, bytes_in, count_in, merged_answer, merged_by}
 use Rattle.kr_shard.specs.declared.faults.MergeStop.{MergeStop}
 use Rattle.kr_shard.specs.declared.faults.MergeStop.TheVariants.{Read, Refused, Memory}

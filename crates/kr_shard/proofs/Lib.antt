@@ -1,7 +1,5 @@
 pub mod Orders
 pub mod Joins
-pub mod Texts
-pub mod Readings
 pub mod Fronts
 pub mod Told
 pub mod Joined

@@ -1,13 +1,15 @@
 -- What was read of files, as far as bytes are known, is their result where they are known.
-use Rattle.std.proofs.Common.{◌≡◌, ℕ, zero, suc, ◌+◌, ◌<◌, ◌≤◌, true, false, inl, inr, List, [], ◌∷◌, ◌++◌, length, take, drop, drop-cons, get_or, refl, sym, ap, ◌∙◌, subst, arith, nat_le}
+use Rattle.std.proofs.Common.{◌≡◌, ℕ, suc, ◌+◌, ◌<◌, ◌≤◌, false, inl, inr, List, [], ◌∷◌, ◌++◌, length, take, drop, drop-cons, get_or, refl, sym, ap, ◌∙◌, subst, arith, nat_le}
 use Rattle.std.specs.Prelude.{Option, Some, None, IfSome, IsSome, option_and_then, option_map, Result, Ok, Err, slice_index_or}
-use Rattle.std.proofs.lemmas.List.{length-take, take_all, take-append-drop}
+use Rattle.std.proofs.lemmas.List.{length-take, take_all, take-append-drop, take_more}
 use Rattle.std.proofs.lemmas.Bool.Decides.{nat_tests}
+use Rattle.std.proofs.lemmas.Bool.{le-leb}
 use Rattle.kr_base.specs.Causes.{Rose}
 use Rattle.kr_shard.specs.Shards.{shard_of}
 use Rattle.kr_shard.specs.declared.shard.Shard.{Shard}
 use Rattle.kr_shard.specs.Faults.{long_text, malformed_text}
-use Rattle.kr_shard.specs.Files.{Held, IsShardText, MOST_BYTES, ReadsShards, and_later, and_shard, judged, refused_as, shards_in}
+use Rattle.kr_shard.specs.Files.{IsShardText, MOST_BYTES, ReadsShards, and_later, and_shard, judged, refused_as, shards_in}
+use Rattle.kr_io.specs.Held.{Held}
 use Rattle.kr_shard.specs.Found.{AllTold, AreShards, CountStays, HasRead, HasReadAll, IsShard, Judges, fault_text}
 use Rattle.kr_shard.specs.declared.faults.FileFault.{FileFault}
 use Rattle.kr_shard.specs.declared.faults.FileFault.TheVariants.{Long, Malformed, Overlap, Gap}
@@ -55,14 +57,11 @@ judged_stays before now file bytes (Err (Read n)) h e = absurd h
 
 -- ---- what is judged
 
-within_is : (a b : ℕ) → a ≤ b → nat_le a b ≡ true
-within_is a b h = grind (arith, nat_tests)
-
 past_is : (a b : ℕ) → b < a → nat_le a b ≡ false
 past_is a b h = grind (arith, nat_tests)
 
 judged_short : (name bytes : List ℕ) → length bytes ≤ MOST_BYTES → judged name bytes ≡ refused_as name (shard_of bytes)
-judged_short name bytes h = rw (within_is (length bytes) MOST_BYTES h) refl
+judged_short name bytes h = rw (le-leb (length bytes) MOST_BYTES h) refl
 
 judged_long : (name bytes : List ℕ) → MOST_BYTES < length bytes → judged name bytes ≡ Err (long_text name)
 judged_long name bytes h = rw (past_is (length bytes) MOST_BYTES h) refl
@@ -133,21 +132,13 @@ shards_more held (f ∷ front) name (s ∷ shards) shard h e = (h.0, shards_more
 
 -- ---- the file of a number
 
-take_next : {A : Type 0} (items : List A) (i : ℕ) (d : A) → i < length items → take (i + 1) items ≡ take i items ++ get_or items i d ∷ []
-take_next [] i d h = absurd (omega (arith, h))
-take_next (x ∷ items) zero d h = refl
-take_next (x ∷ items) (suc i) d h =
-    let e : suc i + 1 ≡ suc (i + 1) = omega arith in
-    let shorter : i < length items = omega (arith, h) in
-    ap (λ k. take k (x ∷ items)) e ∙ ap (λ l. x ∷ l) (take_next items i d shorter)
-
 split_at : {A : Type 0} (items : List A) (i : ℕ) (d : A) → i < length items → take i items ++ get_or items i d ∷ drop (suc i) items ≡ items
 split_at items i d h = ap (λ rest. take i items ++ rest) (sym (drop-cons items i d h)) ∙ take-append-drop i items
 
 pub shards_next : (held : Held) (names : List (List ℕ)) (i : ℕ) (shards : List Shard) (shard : Shard) → i < length names → AreShards held (take i names) shards
     → IfSome (held (slice_index_or names i [])) (IsShard shard) → AreShards held (take (i + 1) names) (shards ++ shard ∷ [])
 shards_next held names i shards shard h e s =
-    subst (λ all. AreShards held all (shards ++ shard ∷ [])) (sym (take_next names i [] h)) (shards_more held (take i names) (get_or names i []) shards shard e s)
+    subst (λ all. AreShards held all (shards ++ shard ∷ [])) (sym (take_more names i [] h)) (shards_more held (take i names) (get_or names i []) shards shard e s)
 
 reads_next : (held : Held) (names : List (List ℕ)) (i : ℕ) (shards : List Shard) → i < length names → AreShards held (take i names) shards → ReadsShards held names (slice_index_or names i [])
 reads_next held names i shards h e =

@@ -9,10 +9,7 @@ use Rattle.kr_shard.specs.Answers.{joined_answer}
 use Rattle.kr_shard.specs.declared.merging.MergeRefusal.{MergeRefusal}
 use Rattle.kr_shard.specs.declared.merging.MergeRefusal.TheVariants.{Overlap, Gap, NoMemory}
 use Rattle.kr_shard.specs.Faults.{gap_text, long_text, malformed_text, overlap_text}
-
--- what the files hold, where it is known
-abbrev pub Held : Type 0
-Held = List ℕ → Option (List ℕ)
+use Rattle.kr_io.specs.Held.{Held}
 
 -- the most bytes of a file that are taken
 abbrev pub MOST_BYTES : ℕ

@@ -10,7 +10,8 @@ use Rattle.kr_shard.specs.Shards.{shard_of}
 use Rattle.kr_shard.specs.declared.shard.Shard.{Shard}
 use Rattle.kr_shard.specs.declared.merging.Merged.{Merged}
 use Rattle.kr_shard.specs.Faults.{gap_text, long_text, malformed_text, overlap_text}
-use Rattle.kr_shard.specs.Files.{Held, MOST_BYTES, MergesFiles, ReadsShards, joined_of, shards_in}
+use Rattle.kr_shard.specs.Files.{MOST_BYTES, MergesFiles, ReadsShards, joined_of, shards_in}
+use Rattle.kr_io.specs.Held.{Held}
 use Rattle.kr_shard.specs.declared.faults.FileFault.{FileFault}
 use Rattle.kr_shard.specs.declared.faults.FileFault.TheVariants.{Long, Malformed, Overlap, Gap}
 use Rattle.kr_shard.specs.declared.faults.MergeStop.{MergeStop}
@@ -40,11 +41,6 @@ abbrev pub merged_answer : Merged → Answer
 merged_answer merged = merged_by merged.rows merged.tried merged.spent
 
 -- ---- What is read
-
--- Files after some reads: they hold what they held, and their count has not fallen.
-pub record IsLater {F : Type 0} (held : F → Held) (faults : F → ℕ) (files files' : F) : Type 0 where
-  pub constant : (other : List ℕ) → held files' other ≡ held files other
-  pub count : faults files ≤ faults files'
 
 -- a count stays, unless a read failed
 abbrev pub CountStays : {X : Type 0} → ℕ → ℕ → Result X MergeStop → Type 0

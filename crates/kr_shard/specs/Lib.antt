@@ -3,7 +3,6 @@ pub mod Merging
 pub mod Placing
 pub mod Answers
 pub mod ReadRows
-pub mod Lines
 pub mod Shards
 pub mod Texts
 pub mod Stages

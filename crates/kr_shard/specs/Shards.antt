@@ -2,15 +2,14 @@
 use Rattle.std.specs.Prelude.{ℕ, ◌+◌, ◌^◌, List, [], ◌∷◌, ◌&&◌, codes, decimal, drop, flat_map, length, nat_le, nat_lt, Option, Some, None, option_and_then, option_map, Result, Ok, Err, if◌then◌else◌}
 use Rattle.std.specs.List.{after_first, before_first}
 use Rattle.std.specs.Str.{bytes_eq}
-use Rattle.std.specs.Str.Parse.{digits_value}
 use Rattle.kr_base.specs.declared.span.Bound.{Bound}
-use Rattle.kr_base.specs.declared.span.Bound.TheVariants.{At, End}
+use Rattle.kr_base.specs.declared.span.Bound.TheVariants.{At}
 use Rattle.kr_base.specs.declared.span.Span.{Span}
 use Rattle.kr_base.specs.Bounds.{less}
 use Rattle.kr_base.specs.Entries.{is_within}
 use Rattle.kr_base.specs.Parsing.{cut_of}
 use Rattle.kr_shard.specs.ReadRows.{RowLines}
-use Rattle.kr_shard.specs.Lines.{after_front, ended, is_empty, is_space, lines_in, unended}
+use Rattle.kr_text.specs.Splitting.{after_front, bound_of, ended, is_empty, is_space, lines_in, number_of, unended}
 use Rattle.kr_shard.specs.declared.shard.Shard.{Shard}
 use Rattle.kr_shard.specs.declared.words.Ending.{Ending}
 
@@ -20,17 +19,13 @@ use Rattle.kr_shard.specs.declared.words.Ending.{Ending}
 abbrev pub from_of : List ℕ → Option (List ℕ)
 from_of word = if bytes_eq word (codes "start") then Some [] else cut_of word
 
--- `end`, or a cut
-abbrev pub to_of : List ℕ → Option Bound
-to_of word = if bytes_eq word (codes "end") then Some End else option_map At (cut_of word)
-
 -- the first is below the second
 abbrev pub span_between : Option (List ℕ) → Option Bound → Option Span
 span_between (Some after) (Some upto) = if less (At after) upto then Some (record { after = after; upto = upto }) else None
 span_between _ _ = None
 
 abbrev pub span_in : List ℕ → Option Span
-span_in words = span_between (from_of (before_first is_space words)) (to_of (after_first is_space words))
+span_in words = span_between (from_of (before_first is_space words)) (bound_of (after_first is_space words))
 
 abbrev pub span_of : List ℕ → Option Span
 span_of line = option_and_then span_in (after_front (codes "shard ") line)
@@ -67,10 +62,6 @@ abbrev pub row_bytes : List KeyedLine → List ℕ
 row_bytes rows = flat_map (λ (row : KeyedLine). ended row.line) rows
 
 -- ---- the last line
-
--- the number below 2^64 whose decimal text this is
-abbrev pub number_of : List ℕ → Option ℕ
-number_of text = let n = digits_value 10 text in if bytes_eq (decimal n) text && nat_lt n (2 ^ 64) then Some n else None
 
 abbrev pub tried_of : ℕ → List ℕ → Option Ending
 tried_of count text = option_and_then (λ tried. if nat_le count tried then Some (record { tried = tried; spent = None }) else None) (number_of text)

@@ -1,7 +1,7 @@
 -- Between crates: what the reading of a shard answers, and how far it has come.
 use Rattle.std.specs.Prelude.{◌≡◌, ℕ, ◌≤◌, List, [], ◌∷◌, ◌++◌, drop, flat_map, length, map, take, Result, Ok, Err}
 use Rattle.kr_base.specs.declared.span.Span.{Span}
-use Rattle.kr_shard.specs.Lines.{ended, lines_in, unended}
+use Rattle.kr_text.specs.Splitting.{ended, lines_in, unended}
 use Rattle.kr_shard.specs.Shards.{KeyedLine, ending_in, for_ok, last_key, row_bytes, rows_in, shard_of}
 use Rattle.kr_shard.specs.declared.shard.Shard.{Shard}
 use Rattle.kr_shard.specs.declared.shard.ShardRefusal.{ShardRefusal}

@@ -1,6 +1,7 @@
 // Files of shards, read one after another and put together.
 ghost use Rattle.std.specs.Prelude.{◌≡◌, ◌++◌, ◌∷◌, [], OnOk};
-ghost use Rattle.kr_shard.specs.Found.{CountStays, FindsMerged, HasRead, HasReadAll, IsLater, JoinsShards, Judges};
+ghost use Rattle.kr_shard.specs.Found.{CountStays, FindsMerged, HasRead, HasReadAll, JoinsShards, Judges};
+ghost use Rattle.kr_io.specs.Held.{IsLater};
 
 use crate::faults::{FileFault, MergeStop};
 use crate::{MergeRefusal, Merged, Shard, ShardRefusal, merge, read_shard};

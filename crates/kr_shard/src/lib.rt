@@ -5,7 +5,6 @@ mod faults;
 mod files;
 mod first;
 mod laws;
-mod lines;
 mod merging;
 mod order;
 mod reading;

@@ -1,13 +1,13 @@
 // A shard read from its text.
 ghost use Rattle.std.specs.Prelude.{◌<◌, ◌^◌, IfOk, Some};
-ghost use Rattle.kr_shard.specs.Lines.{lines_in, unended};
+ghost use Rattle.kr_text.specs.Splitting.{lines_in, unended};
 ghost use Rattle.kr_shard.specs.Shards.{ending_in, with_span};
 ghost use Rattle.kr_shard.specs.Stages.{Answers, IsFront, ReadsShard, ReadsBody};
 
-use crate::lines::first_line;
 use crate::shard::{Rows, Shard, ShardRefusal};
 use crate::words::{Ending, ending_of, row_key, span_of};
 use kr_base::{Bound, Cut, NoMemory, Span};
+use kr_text::first_line;
 use std::alloc::Global;
 
 /// The rows at the front of a text: how many, the last one's key or the cut that they are above, and their length.

@@ -1,35 +1,18 @@
 // What the words of a line say.
 ghost use Rattle.std.specs.Prelude.{◌≡◌, Some, None, IfOk};
 ghost use Rattle.std.specs.List.{after_first, before_first};
-ghost use Rattle.kr_base.specs.Parsing.{cut_of};
-ghost use Rattle.kr_shard.specs.Shards.{ending_of, from_of, key_in, number_of, row_key, span_in, span_of, to_of, tried_of, whole_ending};
+ghost use Rattle.kr_shard.specs.Shards.{ending_of, from_of, key_in, row_key, span_in, span_of, tried_of, whole_ending};
 
-use crate::lines::{after_front, part_at};
 use itoa::Buffer;
-use kr_base::{Bound, Cut, CutRefusal, NoMemory, Span};
+use kr_base::{Bound, Cut, NoMemory, Span};
+use kr_text::{after_front, bound_of, cut_of, number_of, part_at};
 use std::alloc::Global;
-use std::str;
 
 /// The number of entries tried, or the key of a spent one.
 #[derive(Drop)]
 pub(crate) struct Ending {
     pub(crate) tried: u64,
     pub(crate) spent: Option<Cut>,
-}
-
-/// The cut that a text is.
-fn cut_of(alloc: Global, text: &[u8]) -> Result<Option<Cut>, NoMemory>
-    ensures { IfOk result (λ cut. cut ≡ cut_of text.now) }
-{
-    let Ok(text) = str::from_utf8(text) else {
-        return Ok(None);
-    };
-    match Cut::parse(alloc, text) {
-        Ok(cut) => Ok(Some(cut)),
-        Err(CutRefusal::NoMemory(why)) => Err(why),
-        Err(CutRefusal::Malformed(_)) => Ok(None),
-        Err(CutRefusal::TooLong(_)) => Ok(None),
-    }
 }
 
 fn from_of(alloc: Global, word: &[u8]) -> Result<Option<Cut>, NoMemory>
@@ -41,18 +24,6 @@ fn from_of(alloc: Global, word: &[u8]) -> Result<Option<Cut>, NoMemory>
     cut_of(alloc, word)
 }
 
-fn to_of(alloc: Global, word: &[u8]) -> Result<Option<Bound>, NoMemory>
-    ensures { IfOk result (λ bound. bound ≡ to_of word.now) }
-{
-    if word == b"end".as_slice() {
-        return Ok(Some(Bound::End));
-    }
-    match cut_of(alloc, word)? {
-        Some(cut) => Ok(Some(Bound::At(cut))),
-        None => Ok(None),
-    }
-}
-
 fn span_in(alloc: Global, words: &[u8]) -> Result<Option<Span>, NoMemory>
     ensures { IfOk result (λ span. span ≡ span_in words.now) }
 {
@@ -60,7 +31,7 @@ fn span_in(alloc: Global, words: &[u8]) -> Result<Option<Span>, NoMemory>
     let Some(after) = from_of(alloc, from)? else {
         return Ok(None);
     };
-    let Some(upto) = to_of(alloc, to)? else {
+    let Some(upto) = bound_of(alloc, to)? else {
         return Ok(None);
     };
     if !upto.is_above_cut(&after) {
@@ -107,24 +78,6 @@ pub(crate) fn row_key(
         return Ok(None);
     }
     key_in(alloc, upto, last, word)
-}
-
-/// The number that a text is.
-fn number_of(text: &[u8]) -> Option<u64>
-    ensures { result ≡ number_of text.now }
-{
-    let Ok(text) = str::from_utf8(text) else {
-        return None;
-    };
-    let Ok(number) = text.parse::<u64>() else {
-        return None;
-    };
-    let mut buffer = Buffer::new();
-    if buffer.format(number) == text {
-        Some(number)
-    } else {
-        None
-    }
 }
 
 fn tried_of(count: u64, text: &[u8]) -> Option<Ending>

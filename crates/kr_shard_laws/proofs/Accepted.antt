@@ -2,7 +2,6 @@
 use Rattle.std.proofs.Common.{◌≡◌, List, [], Option, Some, None, Result, Ok, Err, refl, sym, ap, subst}
 use Rattle.std.specs.Prelude.{MatchOption}
 use Rattle.std.specs.List.{AllByRecursion}
-use Rattle.kr_lex.specs.Words.{IsName}
 use Rattle.kr_ast.specs.Tree.{Tree}
 use Rattle.kr_classes_table.specs.Table.{Field, Heading, headings_of, table_of}
 use Rattle.kr_fin.specs.Least.{IsLeast}
@@ -13,11 +12,12 @@ use Rattle.kr_mean.specs.Problem.{Problem, ClassDomain}
 use Rattle.kr_mean.specs.declared.mode.Mode.TheVariants.{List as Listing}
 use Rattle.kr_space_meaning.specs.Bounds.{bounded, declared, domains_of, problem_in, problem_of, setting_of}
 use Rattle.kr_space_meaning.specs.Meaning.{faults_of, meaning, unless}
-use Rattle.kr_space_meaning.specs.Order.{Fault, least, rank_of}
+use Rattle.kr_space_meaning.specs.Order.{Fault, least, space_rank}
 use Rattle.kr_space_meaning.proofs.Each.{each_weaker}
 use Rattle.kr_space_meaning.proofs.WellFormed.{well_formed}
 use Rattle.kr_laws_never_stuck.specs.Apart.{all_fields}
 use Rattle.kr_shard_laws.proofs.SourceNames.{named}
+use Rattle.kr_shard_laws.specs.Names.{IsIdentifier}
 use Rattle.kr_shard_laws.specs.Listings.{IsListing}
 use Rattle.kr_shard_laws.proofs.Law.{shard_law}
 use Rattle.kr_shard_laws.specs.Entries.{MakesLines}
@@ -45,7 +45,7 @@ posed files document problem e = go (least (faults_of files document Listing)) r
 
     go : (o : Option Fault) → least (faults_of files document Listing) ≡ o → unless o (problem_of files document Listing) ≡ Ok problem → IsPosed files document problem
     go None n e = record {
-      unbroken = subst (λ (o : Option Fault). MatchOption o (faults_of files document Listing ≡ []) (IsLeast rank_of (faults_of files document Listing))) n (least_of_all rank_of (faults_of files document Listing));
+      unbroken = subst (λ (o : Option Fault). MatchOption o (faults_of files document Listing ≡ []) (IsLeast space_rank (faults_of files document Listing))) n (least_of_all space_rank (faults_of files document Listing));
       is = ap inside e;
     }
     go (Some f) n e = absurd (cc (e))
@@ -96,8 +96,8 @@ pub listing : ListingLaw
 listing sources bytes problem h =
     let p = posed h.files h.document problem h.posed in
     let names = named sources h.files h.read in
-    let classes = each_weaker (λ x. IsName x.name) (λ (x : Heading). IsLine x.name) (headings_of h.files) (λ x n. name_line x.name n) names.classes in
-    let fields = each_weaker (λ x. IsName x.name) (λ (x : Field). IsLine x.name) (all_fields (table_of h.files)) (λ x n. name_line x.name n) names.fields in
+    let classes = each_weaker (λ x. IsIdentifier x.name) (λ (x : Heading). IsLine x.name) (headings_of h.files) (λ x n. name_line x.name n.name) names.classes in
+    let fields = each_weaker (λ x. IsIdentifier x.name) (λ (x : Field). IsLine x.name) (all_fields (table_of h.files)) (λ x n. name_line x.name n.name) names.fields in
     subst (λ (x : Problem). IsListing x (all_entries x)) p.is (own_listing h.files h.document p.unbroken (read_few bytes h.document h.stated) classes fields)
 
 pub shards : AcceptedShardsLaw

@@ -25,15 +25,16 @@ use Rattle.kr_mean.specs.declared.mode.Mode.TheVariants.{List as Listing}
 use Rattle.kr_mean.specs.declared.row.Row.{Row}
 use Rattle.kr_report.specs.Reports.{Answer, bytes_of, cut_report, last_key as last_key_in, lines, listing_answer, rows_in, spent_key, summary_text, whole_report}
 use Rattle.kr_report.specs.Texts.{listed_text, more_text, row_text, spent_text, structure_text, verdict_text}
-use Rattle.kr_shard.specs.Lines.{IsWithout, after_front, ended, is_empty, is_space, lines_in, unended}
+use Rattle.kr_text.specs.Splitting.{IsWithout, after_front, bound_of, ended, is_empty, is_space, lines_in, unended}
 use Rattle.kr_shard.specs.Shards as reading
-use Rattle.kr_shard.specs.Shards.{KeyedLine, ended_by, ending_in, ending_of, for_ok, from_of, key_in, last_key, row_bytes, row_key, shard_of, shard_with, span_between, span_in, span_of, spent_at, to_of, tried_of, with_lines, with_rows, with_span}
+use Rattle.kr_shard.specs.Shards.{KeyedLine, ended_by, ending_in, ending_of, for_ok, from_of, key_in, last_key, row_bytes, row_key, shard_of, shard_with, span_between, span_in, span_of, spent_at, tried_of, with_lines, with_rows, with_span}
 use Rattle.kr_shard.specs.Stages.{line_of}
 use Rattle.kr_shard.specs.Texts.{first_text, from_text, to_text}
 use Rattle.kr_shard.specs.declared.shard.Shard.{Shard}
 use Rattle.kr_shard.proofs.Fronts.{drop_lines, lines_ended}
 use Rattle.kr_shard_laws.specs.Law.{BackLaw, IsShardOf, tried_by}
-use Rattle.kr_shard_laws.specs.Listings.{IsBound, IsCut, IsListing, IsSpan, MOST_BYTES, MOST_ROWS, listing_in, shard_text}
+use Rattle.kr_shard_laws.specs.Listings.{IsBound, IsCut, IsListing, IsSpan, MOST_ROWS, listing_in, shard_text}
+use Rattle.kr_shard.specs.Files.{MOST_BYTES}
 use Rattle.kr_shard_laws.proofs.Bytes.{AreLines, IsHigh, after_is, before_is, front_after, high_append, high_cut, high_number, lines_append, lines_back, nothing_unended, without_append, without_high}
 use Rattle.kr_shard_laws.proofs.Rows.{AreListable, IsRun, are_listable, cut_back, few_rows, key_read, keyed, keyed_bytes, keyed_count, keyed_lines, rows_read, run_through, run_within, spent_after, through_listable, within_listable}
 
@@ -80,7 +81,7 @@ from_back : (a : List ℕ) → IsCut a → from_of (from_text a) ≡ Some a
 from_back [] h = refl
 from_back (n ∷ ns) h = rw (other_word (n ∷ ns) (codes "start") (omega arith) h no_start) (cut_back (n ∷ ns) (omega arith) h)
 
-to_back : (a : List ℕ) (b : Bound) → IsBound b → less (At a) b ≡ true → to_of (to_text b) ≡ Some b
+to_back : (a : List ℕ) (b : Bound) → IsBound b → less (At a) b ≡ true → bound_of (to_text b) ≡ Some b
 unfolding less
 to_back a End h below = refl
 to_back [] (At []) h below = absurd (cc (below))
@@ -97,8 +98,8 @@ span_back span h =
     let b = span.upto in
     let parts = without_high 32 (from_text a) (lit< tt) (high_from a h.after) in
     let from : from_of (before_first is_space (from_text a ++ 32 ∷ to_text b)) ≡ Some a = ap from_of (before_is 32 (from_text a) (to_text b) parts) ∙ from_back a h.after in
-    let to : to_of (after_first is_space (from_text a ++ 32 ∷ to_text b)) ≡ Some b = ap to_of (after_is 32 (from_text a) (to_text b) parts) ∙ to_back a b h.upto h.below in
-    ap (λ (o : Option (List ℕ)). span_between o (to_of (after_first is_space (from_text a ++ 32 ∷ to_text b)))) from
+    let to : bound_of (after_first is_space (from_text a ++ 32 ∷ to_text b)) ≡ Some b = ap bound_of (after_is 32 (from_text a) (to_text b) parts) ∙ to_back a b h.upto h.below in
+    ap (λ (o : Option (List ℕ)). span_between o (bound_of (after_first is_space (from_text a ++ 32 ∷ to_text b)))) from
     ∙ (ap (span_between (Some a)) to ∙ ap (λ (t : Bool). if t then Some (record { after = a; upto = b }) else None) h.below)
 
 first_is_line : (span : Span) → IsSpan span → IsWithout 10 (first_line span)

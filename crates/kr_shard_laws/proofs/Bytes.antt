@@ -13,8 +13,8 @@ use Rattle.std.proofs.Math.Seq.{take-append_seam, drop-append_seam, drop-append-
 use Rattle.kr_base.specs.Cuts.{cut_text, dotted}
 use Rattle.kr_base.proofs.Digits.{digits_of_number}
 use Rattle.kr_base.proofs.Stages.{Small, head_small, tail_small}
-use Rattle.kr_shard.specs.Lines.{IsWithout, after_front, ended, lines_in, unended}
-use Rattle.kr_shard.proofs.Texts.{first_here, first_later, lines_of_line}
+use Rattle.kr_text.specs.Splitting.{IsWithout, after_front, ended, lines_in, unended}
+use Rattle.kr_text.proofs.Splits.{first_here, first_later, lines_of_line}
 
 -- ---- texts without a byte
 

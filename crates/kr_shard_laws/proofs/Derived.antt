@@ -9,7 +9,7 @@ use Rattle.kr_ast.specs.Tree.{Tree}
 use Rattle.kr_parse_grammar.specs.declared.value.Modifiers.{Modifiers}
 use Rattle.kr_parse_grammar.specs.Grammar as grammar
 use Rattle.kr_parse_grammar.specs.Grammar.{Der, Derives, Dotted, Heading, Imports, Modified}
-use Rattle.kr_laws_never_stuck.specs.Apart.{one_if}
+use Rattle.kr_lex.specs.Cursors.{one_if}
 use Rattle.kr_laws_never_stuck.proofs.Weights as weights
 use Rattle.kr_shard_laws.proofs.Tokens.{AllNames, nothing, one_for, times}
 

@@ -21,7 +21,8 @@ use Rattle.kr_shard.specs.declared.shard.Shard.{Shard}
 use Rattle.kr_shard.specs.Merging.{in_order, numbered, spent_in, through_spent, tried_in}
 use Rattle.kr_shard.specs.declared.order.Given.{Given}
 use Rattle.kr_shard.specs.Answers.{bytes_in, count_in, joined_answer, joined_by}
-use Rattle.kr_shard_laws.specs.Listings.{IsListing, IsRowAt, IsSpan, MOST_BYTES, MOST_ROWS, listing_in, shard_text}
+use Rattle.kr_shard_laws.specs.Listings.{IsListing, IsRowAt, IsSpan, MOST_ROWS, listing_in, shard_text}
+use Rattle.kr_shard.specs.Files.{MOST_BYTES}
 use Rattle.kr_shard_laws.specs.Spans.{Adjoin, IsInAnyOrder}
 use Rattle.kr_shard_laws.specs.Theorem.{ComesTo, ShardLaw}
 use Rattle.kr_shard_laws.proofs.Rows.{AreListable}

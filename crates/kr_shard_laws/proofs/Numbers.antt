@@ -3,7 +3,7 @@ use Rattle.std.proofs.Common.{◌≡◌, ℕ, zero, suc, ◌/◌, ◌%◌, ◌==
 use Rattle.std.specs.Prelude.{pos, negsuc, if◌then◌else◌}
 use Rattle.std.specs.Fmt.{digits, digits_onto, digit_glyph, signed_decimal}
 use Rattle.std.proofs.lemmas.Bool.Decides.{nat_tests}
-use Rattle.kr_shard.specs.Lines.{IsWithout}
+use Rattle.kr_text.specs.Splitting.{IsWithout}
 
 -- no line feed in it
 abbrev pub IsLine : List ℕ → Type 0

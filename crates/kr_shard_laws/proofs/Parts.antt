@@ -25,7 +25,8 @@ use Rattle.kr_shard.specs.Merging.{or_else, spent_in, through_spent, tried_in}
 use Rattle.kr_shard.specs.declared.order.Given.{Given}
 use Rattle.kr_shard.specs.Answers.{bytes_in, count_in}
 use Rattle.kr_shard_laws.specs.Spans.{Adjoin}
-use Rattle.kr_shard_laws.specs.Listings.{IsListing, MOST_BYTES}
+use Rattle.kr_shard_laws.specs.Listings.{IsListing}
+use Rattle.kr_shard.specs.Files.{MOST_BYTES}
 use Rattle.kr_shard_laws.proofs.Rows.{AreListable, keyed, keyed_bytes, keyed_count}
 use Rattle.kr_shard_laws.proofs.Back.{entries_listable, made}
 use Rattle.kr_shard_laws.specs.Law.{tried_by}

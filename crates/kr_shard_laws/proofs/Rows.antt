@@ -18,7 +18,7 @@ use Rattle.kr_mean.specs.declared.row.Row.{Row}
 use Rattle.kr_mean.specs.declared.kind.Verdict.{Verdict}
 use Rattle.kr_report.specs.Reports.{lines, rows_in, rows_of_mark, spent_key, spent_key_of}
 use Rattle.kr_report.specs.Texts.{row_text, structure_text, verdict_text}
-use Rattle.kr_shard.specs.Lines.{IsWithout, ended, is_empty, is_space}
+use Rattle.kr_text.specs.Splitting.{IsWithout, ended, is_empty, is_space}
 use Rattle.kr_shard.specs.Shards as reading_rows
 use Rattle.kr_shard.specs.Shards.{KeyedLine, and_rows, key_in, last_key, row_bytes, row_key}
 use Rattle.kr_shard.specs.Stages.{line_of}

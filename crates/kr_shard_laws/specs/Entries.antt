@@ -7,7 +7,7 @@ use Rattle.kr_mean.specs.Problem.{Problem, choices_at, slots}
 use Rattle.kr_mean.specs.WellFormed.{IsWellFormed}
 use Rattle.kr_mean.specs.declared.mode.Mode.TheVariants.{List as Listing}
 use Rattle.kr_shard_laws.specs.Listings.{IsListing}
-use Rattle.kr_shard.specs.Lines.{IsWithout}
+use Rattle.kr_text.specs.Splitting.{IsWithout}
 
 -- A listing's problem with no line feed in a name of a class domain or of a field, at most 4,096 slots, and fewer than 2^32
 -- values for each.

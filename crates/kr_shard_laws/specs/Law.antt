@@ -11,7 +11,8 @@ use Rattle.kr_report.specs.Reports.{lines, rows_in, spent_key}
 use Rattle.kr_report.specs.Texts.{row_text}
 use Rattle.kr_shard.specs.Shards.{shard_of}
 use Rattle.kr_shard.specs.declared.shard.Shard.{Shard}
-use Rattle.kr_shard_laws.specs.Listings.{IsListing, IsSpan, MOST_BYTES, shard_text}
+use Rattle.kr_shard_laws.specs.Listings.{IsListing, IsSpan, shard_text}
+use Rattle.kr_shard.specs.Files.{MOST_BYTES}
 
 -- what was tried, where no entry is spent
 abbrev pub tried_by : Option (List ℕ) → ℕ → ℕ

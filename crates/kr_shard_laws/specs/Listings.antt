@@ -13,7 +13,7 @@ use Rattle.kr_mean.specs.declared.mode.Mode.TheVariants.{List as Listing}
 use Rattle.kr_mean.specs.declared.row.Row.{Row}
 use Rattle.kr_report.specs.Reports.{Answer, bytes_of, listing_answer}
 use Rattle.kr_report.specs.Texts.{structure_text}
-use Rattle.kr_shard.specs.Lines.{IsWithout}
+use Rattle.kr_text.specs.Splitting.{IsWithout}
 use Rattle.kr_shard.specs.Texts.{first_text}
 
 -- ---- spans
@@ -38,10 +38,6 @@ pub record IsSpan (span : Span) : Type 0 where
 -- the most rows of a listing without a limit
 abbrev pub MOST_ROWS : ℕ
 MOST_ROWS = 4294967295
-
--- the longest text of a shard that is taken
-abbrev pub MOST_BYTES : ℕ
-MOST_BYTES = 16777216
 
 -- the listing of a span
 abbrev pub listing_in : Problem → List (Entry Row) → List ℕ → Bound → Answer

@@ -12,7 +12,8 @@ use Rattle.kr_shard.specs.Shards.{shard_of}
 use Rattle.kr_shard.specs.declared.shard.Shard.{Shard}
 use Rattle.kr_shard.specs.Merging.{first_fault, in_order, numbered}
 use Rattle.kr_shard.specs.Answers.{joined_answer}
-use Rattle.kr_shard_laws.specs.Listings.{IsListing, MOST_BYTES, listing_in, shard_text}
+use Rattle.kr_shard_laws.specs.Listings.{IsListing, listing_in, shard_text}
+use Rattle.kr_shard.specs.Files.{MOST_BYTES}
 use Rattle.kr_shard_laws.specs.Spans.{Adjoin, IsInAnyOrder}
 
 -- Texts are read as shards, which adjoin, and come to this answer.

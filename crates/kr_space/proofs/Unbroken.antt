@@ -13,14 +13,14 @@ use Rattle.kr_space_meaning.specs.Bounds.{Setting, problem_of, root_of, setting_
 use Rattle.kr_space_meaning.specs.Faults.{S1, S2, S3_S5_S6, S4, S7, S8, S9, faults_in, numbers_of, numbers_of_lengths}
 use Rattle.kr_fin.specs.Least.{IsLeast}
 use Rattle.kr_space_meaning.specs.Meaning.{faults_of}
-use Rattle.kr_space_meaning.specs.Order.{Fault, break_if, least, rank_of}
+use Rattle.kr_space_meaning.specs.Order.{Fault, break_if, least, space_rank}
 use Rattle.kr_space_meaning.proofs.Each.{unbroken}
 use Rattle.kr_fin.proofs.Leasts.{least_of_all}
 use Rattle.kr_space_meaning.proofs.WellFormed.{well_formed}
 use Rattle.kr_base.proofs.ListLemmas.{append_is_nil}
 
 none_broken : (faults : List Fault) → least faults ≡ None → faults ≡ []
-none_broken faults e = subst (λ (o : Option Fault). MatchOption o (faults ≡ []) (IsLeast rank_of faults)) e (least_of_all rank_of faults)
+none_broken faults e = subst (λ (o : Option Fault). MatchOption o (faults ≡ []) (IsLeast space_rank faults)) e (least_of_all space_rank faults)
 
 no_faults : (trees here : List Arena) (document : FinDoc) (mode : Mode) → here ≡ trees → least (faults_of (map root here) document mode) ≡ None → faults_of (map root trees) document mode ≡ []
 no_faults trees here document mode h e = none_broken (faults_of (map root trees) document mode) (ap (λ (ts : List Arena). least (faults_of (map root ts) document mode)) (sym h) ∙ e)

@@ -55,7 +55,7 @@ pub(crate) fn arrays_of(
     add_bounded(alloc, &*types, &mut arrays, all, basis.bounds)?;
     let arrays = arrays.into_vec();
     if arrays.len() > 0xffff_ffff {
-        return Err(NoMemory::at_limit(arrays.len() as u64));
+        return Err(NoMemory::at_limit(arrays.as_slice()));
     }
     Ok(arrays)
 }

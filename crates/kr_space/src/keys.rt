@@ -23,7 +23,7 @@ pub(crate) fn domain_index(alloc: Global, domains: &[NamedDomain]) -> Result<Ind
     ensures { IfOk result (λ index. IsIndexOf (map (λ d. d.key) domains.now) index) }
 {
     if domains.len() >= 0xffff_ffff {
-        return Err(NoMemory::at_limit(domains.len() as u64));
+        return Err(NoMemory::at_limit(domains));
     }
     let mut index = Index::new(alloc);
     for (at, domain) in domains.iter().enumerate() {

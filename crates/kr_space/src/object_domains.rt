@@ -25,7 +25,7 @@ fn field_spots(alloc: Global, basis: &Basis, class: u32) -> Result<Listed<Spotte
 {
     let fields = basis.classes.members.fields_of(alloc, class)?;
     let Ok(count) = u32::try_from(fields.len()) else {
-        return Err(NoMemory::at_limit(fields.len() as u64));
+        return Err(NoMemory::at_limit(fields.as_slice()));
     };
     let mut spots = Listed::new(alloc);
     for at in 0..count {

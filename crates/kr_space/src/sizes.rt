@@ -73,7 +73,7 @@ pub(crate) fn have_numbers(first: usize, second: usize) -> Result<(), NoMemory>
     if sum < 0x1_0000_0000 {
         Ok(())
     } else {
-        Err(NoMemory::at_limit(sum as u64))
+        Err(NoMemory::at_sum(first as u64, second as u64))
     }
 }
 

@@ -5,3 +5,4 @@ pub mod Tables
 pub mod Layouts
 pub mod Shapes
 pub mod Numbers
+pub mod Marks

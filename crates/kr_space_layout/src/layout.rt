@@ -1,5 +1,5 @@
 // The slots and domains of a problem, by number.
-ghost use Rattle.std.specs.Prelude.{◌≡◌, ◌<◌, All, IfOk, length, map, option_copied, unwrap_or, []};
+ghost use Rattle.std.specs.Prelude.{◌≡◌, ◌<◌, ◌≤◌, All, IfOk, length, map, option_copied, unwrap_or, []};
 ghost use Rattle.std.proofs.Common.{get_or};
 ghost use Rattle.kr_iso.specs.Objects.{object_of, shown};
 ghost use Rattle.kr_mean.specs.Problem.{choices_at, domain_at, heap_number, slot_at, slots};
@@ -124,7 +124,7 @@ impl Layout {
         let pool = pool_of(alloc, domains, objects)?;
         let listed = classes.as_slice();
         let Tables { entries, starts } = tables_of(alloc, parameters.as_slice(), objects, listed)?;
-        let count = counted(entries.len())?;
+        let count = counted(entries.as_slice())?;
         let shapes = shapes_of(alloc, &this, pool.as_slice(), entries.as_slice())?;
         Ok(Layout {
             root,
@@ -233,6 +233,13 @@ impl Layout {
         ensures { result ≡ length self.now.domains }
     {
         self.classes.as_slice().len()
+    }
+
+    /// For more class domains than have numbers.
+    pub fn at_domain_limit(&self) -> NoMemory
+        requires { 4294967295 ≤ length self.now.domains }
+    {
+        NoMemory::at_limit(self.classes.as_slice())
     }
 
     /// The bytes of the name of a class domain's class or array type.

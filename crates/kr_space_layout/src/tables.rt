@@ -17,17 +17,17 @@ pub fn further(number: u32, count: u32) -> Result<u32, NoMemory>
 {
     match number.checked_add(count) {
         Some(next) => Ok(next),
-        None => Err(NoMemory::at_limit(u64::from(number) + u64::from(count))),
+        None => Err(NoMemory::at_sum(u64::from(number), u64::from(count))),
     }
 }
 
 /// How many there are, where there are fewer than 2^32.
-pub(crate) fn counted(count: usize) -> Result<u32, NoMemory>
-    ensures { IfOk result (λ number. number ≡ count) }
+pub fn counted<T>(items: &[T]) -> Result<u32, NoMemory>
+    ensures { IfOk result (λ number. number ≡ length items.now) }
 {
-    match u32::try_from(count) {
+    match u32::try_from(items.len()) {
         Ok(number) => Ok(number),
-        Err(_) => Err(NoMemory::at_limit(count as u64)),
+        Err(_) => Err(NoMemory::at_limit(items)),
     }
 }
 
@@ -117,7 +117,7 @@ fn add_classes(
     ensures starts { OnOk result (starts.new.items ≡ starts.old.items ++ starts_with (length entries.old.items) blocks.now classes.now) }
 {
     for (domain, class) in classes.iter().enumerate() {
-        starts.push(counted(entries.len())?)?;
+        starts.push(counted(entries.as_slice())?)?;
         add_class(entries, blocks[domain], class.spots.as_slice())?;
     }
     Ok(())

@@ -82,7 +82,7 @@ impl Values {
     {
         let total = u64::from(self.size) + stretch.count();
         let Ok(size) = u32::try_from(total) else {
-            return Err(NoMemory::at_limit(total));
+            return Err(NoMemory::at_sum(u64::from(self.size), stretch.count()));
         };
         let start = self.size;
         let shape = self.shape.with(stretch, size);

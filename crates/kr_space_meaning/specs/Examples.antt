@@ -2,7 +2,7 @@
 use Rattle.std.specs.Prelude.{◌≡◌, ◌++◌, ℕ, pos, negsuc, Bool, true, false, List, [], ◌∷◌, Option, Some, None, codes, map}
 use Rattle.kr_ast.specs.declared.node.BinaryOperator.TheVariants.{Equal}
 use Rattle.kr_ast.specs.Tree as trees
-use Rattle.kr_ast.specs.Tree.{Tree, Nil, Cons}
+use Rattle.kr_ast.specs.Tree.{Tree, Nil}
 use Rattle.kr_ast.specs.declared.node.Primitive.TheVariants.{Int as IntName, Boolean as BooleanName}
 use Rattle.kr_classes_table.specs.Types.{JavaType, IntType, BooleanType, ArrayType}
 use Rattle.kr_value.specs.declared.value.Value.TheVariants.{Int, Bool as TruthValue, Null}
@@ -21,15 +21,12 @@ use Rattle.kr_space_meaning.specs.Order.{Fault, least, rule_code}
 use Rattle.kr_space_meaning.specs.Bounds.{problem_of}
 use Rattle.kr_space_meaning.specs.Meaning.{faults_of}
 use Rattle.kr_base.specs.Places.{nowhere}
+use Rattle.kr_types_meaning.specs.Texts.{list_of}
 
 abbrev Text : Type 0
 Text = List ℕ
 
 -- ---- sources
-
-abbrev pub list_of : List Tree → Tree
-list_of [] = Nil
-list_of (t ∷ ts) = Cons t (list_of ts)
 
 abbrev pub one : Tree → Tree
 one t = list_of (t ∷ [])

@@ -8,7 +8,7 @@ use Rattle.kr_fin.specs.declared.document.FinDoc.{FinDoc}
 use Rattle.kr_fin.specs.Least as by
 use Rattle.kr_space_meaning.specs.Bounds.{problem_of}
 use Rattle.kr_space_meaning.specs.Meaning.{faults_of}
-use Rattle.kr_space_meaning.specs.Order.{rank_of}
+use Rattle.kr_space_meaning.specs.Order.{space_rank}
 
 -- the problem of a document that breaks no rule is well formed
 abbrev pub WellFormedLaw : Type 0
@@ -16,4 +16,4 @@ WellFormedLaw = (files : List Tree) (document : FinDoc) (mode : Mode) → faults
 
 -- the least is there where there are faults, and is the least of them
 abbrev pub LeastLaw : Type 0
-LeastLaw = by.LeastLaw rank_of
+LeastLaw = by.LeastLaw space_rank

@@ -19,24 +19,25 @@ rule_code NoPredicate = codes "S7"
 rule_code NoMethod = codes "S8"
 rule_code NoSlot = codes "S9"
 
-abbrev pub rank_of : SpaceRule → ℕ
-rank_of UnknownName = 1
-rank_of NoDomain = 2
-rank_of EmptyDomain = 3
-rank_of UnfitValue = 4
-rank_of ValueTwice = 5
-rank_of TooMany = 6
-rank_of NoPredicate = 7
-rank_of NoMethod = 8
-rank_of NoSlot = 9
+-- the order of the rules
+abbrev pub space_rank : SpaceRule → ℕ
+space_rank UnknownName = 1
+space_rank NoDomain = 2
+space_rank EmptyDomain = 3
+space_rank UnfitValue = 4
+space_rank ValueTwice = 5
+space_rank TooMany = 6
+space_rank NoPredicate = 7
+space_rank NoMethod = 8
+space_rank NoSlot = 9
 
 -- the lesser of the fault so far, if there is one, and one more: the lesser rule, and of one rule the lesser item
 abbrev pub lesser : Option Fault → Fault → Option Fault
-lesser = by.lesser rank_of
+lesser = by.lesser space_rank
 
 -- the least of some faults, if there are any
 abbrev pub least : List Fault → Option Fault
-least = by.least rank_of
+least = by.least space_rank
 
 abbrev pub break_if : Bool → SpaceRule → List ℕ → List Fault
 break_if broken rule item = if broken then record { rule = rule; item = item } ∷ [] else []

@@ -48,7 +48,7 @@ impl SpaceRule {
 }
 
 impl Ranked for SpaceRule {
-    ghost rank_of = { order.rank_of };
+    ghost rank_of = { order.space_rank };
 
     fn rank(self) -> u32 {
         match self {

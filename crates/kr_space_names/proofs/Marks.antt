@@ -1,7 +1,8 @@
 -- Marks at the numbers that are there.
 use Rattle.std.proofs.Common.{◌≡◌, ℕ, Bool, true, false, List, [], ◌∷◌, ◌++◌, refl, sym, ap, ◌∙◌}
 use Rattle.std.specs.Prelude.{◌||◌, ◌==◌, if◌then◌else◌}
-use Rattle.kr_space_names.specs.Numbers.{AreMarked, IsMarked, has_number}
+use Rattle.kr_space_layout.specs.Marks.{IsMarked}
+use Rattle.kr_space_names.specs.Numbers.{AreMarked, has_number}
 
 has_more : (ns : List ℕ) (n m : ℕ) → has_number (ns ++ n ∷ []) m ≡ (if m == n then true else has_number ns m)
 has_more [] n m = go (m == n)

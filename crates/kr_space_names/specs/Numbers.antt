@@ -14,7 +14,3 @@ with_number ns n = if has_number ns n then ns else ns ++ n ∷ []
 -- the numbers that are there are marked, and no others
 abbrev pub AreMarked : List Bool → List ℕ → Type 0
 AreMarked marks ns = (n : ℕ) → get_or marks n false ≡ has_number ns n
-
--- one mark more
-abbrev pub IsMarked : List Bool → ℕ → List Bool → Type 0
-IsMarked old n new = (m : ℕ) → get_or new m false ≡ (if m == n then true else get_or old m false)

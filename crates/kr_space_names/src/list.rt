@@ -1,9 +1,9 @@
 // The numbers of array types, each once, with a mark at each number that is there.
-ghost use Rattle.std.specs.Prelude.{◌≡◌, ◌≤◌, ◌++◌, ◌∷◌, ℕ, [], false, OnErr, OnOk, length};
-ghost use Rattle.std.proofs.Common.{get_or};
-ghost use Rattle.kr_space_names.specs.Numbers.{IsMarked, has_number, with_number};
+ghost use Rattle.std.specs.Prelude.{◌≡◌, ◌++◌, ◌∷◌, [], OnOk};
+ghost use Rattle.kr_space_names.specs.Numbers.{has_number, with_number};
 
 use kr_base::NoMemory;
+use kr_space_layout::{is_marked, mark};
 use std::alloc::Global;
 use std::marker::Model;
 
@@ -23,36 +23,6 @@ impl Model for Arrays {
     ghost view = { λ a. a.numbers.items };
 
     ghost invariant = { λ a. AreMarked a.marks.items a.numbers.items };
-}
-
-/// Whether a number is marked.
-fn is_marked(marks: &[bool], number: u32) -> bool
-    ensures { result ≡ get_or marks.now number false }
-{
-    let at = number as usize;
-    if at < marks.len() { marks[at] } else { false }
-}
-
-/// Makes room for so many marks; the new ones are off.
-fn grow(marks: &mut Vec<bool>, count: usize) -> Result<(), NoMemory>
-    ensures kept { (m : ℕ) → get_or marks.new.items m false ≡ get_or marks.old.items m false }
-    ensures long { OnOk result (count ≤ length marks.new.items) }
-{
-    while marks.len() < count {
-        marks.push(false)?;
-    }
-    Ok(())
-}
-
-/// Marks a number.
-fn mark(marks: &mut Vec<bool>, number: u32) -> Result<(), NoMemory>
-    ensures marked { OnOk result (IsMarked marks.old.items number marks.new.items) }
-    ensures kept { OnErr result ((m : ℕ) → get_or marks.new.items m false ≡ get_or marks.old.items m false) }
-{
-    let at = number as usize;
-    grow(marks, at + 1)?;
-    marks[at] = true;
-    Ok(())
 }
 
 /// Adds a number at the end.

@@ -58,7 +58,7 @@ pub fn bounds_of(
     ensures extends { Extends types.old types.new }
 {
     let Ok(count) = u32::try_from(all.len()) else {
-        return Err(NoMemory::at_limit(all.len() as u64));
+        return Err(NoMemory::at_limit(all));
     };
     let mut bounds = Vec::new(alloc);
     for at in 0..count {

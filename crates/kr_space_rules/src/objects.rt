@@ -49,7 +49,7 @@ pub fn declared_of(
     ensures { IfOk result (λ objects. AreDeclared all.now objects.items (declared (headings_of (map root trees.now)) all.now)) }
 {
     let Ok(count) = u32::try_from(all.len()) else {
-        return Err(NoMemory::at_limit(all.len() as u64));
+        return Err(NoMemory::at_limit(all));
     };
     let mut objects = Vec::new(alloc);
     for at in 0..count {

@@ -1,11 +1,15 @@
 -- The entries listed of a candidate are those of its problem.
-use Rattle.std.proofs.Common.{◌≡◌, ℕ, List, sym, subst}
+use Rattle.std.proofs.Common.{◌≡◌, ℕ, List, true, sym, subst}
+use Rattle.kr_base.specs.declared.span.Bound.{Bound}
+use Rattle.kr_base.specs.declared.span.Bound.TheVariants.{At}
+use Rattle.kr_base.specs.Bounds.{less}
 use Rattle.kr_base.specs.Cuts.{Before}
 use Rattle.kr_mean.specs.Space.{Space, IsVector}
 use Rattle.kr_mean.specs.Readings.{Lacks}
 use Rattle.kr_mean.specs.Runs.{key_along}
 use Rattle.kr_mean.specs.Entries.{IsListed}
 use Rattle.kr_step.specs.Steps.{IsFirst}
+use Rattle.kr_step.specs.Upto.{AllPast}
 
 -- two orders of the same candidates
 abbrev pub Same : Space → (List ℕ → List ℕ) → (List ℕ → List ℕ) → Type 0
@@ -33,5 +37,6 @@ first S o p c v same is = record {
       (subst (λ x. Before (key_along u (p u)) (key_along v x)) (sym (same v is.listed.vector)) b'));
 }
 
-pub none : (S : Space) (o p : List ℕ → List ℕ) (c : List ℕ) → Same S o p → ((u : List ℕ) → IsListed S o u → Before c (key_along u (o u)) → ⊥) → (u : List ℕ) → IsListed S p u → Before c (key_along u (p u)) → ⊥
-none S o p c same absent u l b = absent u (listed S p o u (turned S o p same) l) (subst (λ x. Before c (key_along u x)) (sym (same u l.vector)) b)
+pub past : (S : Space) (o p : List ℕ → List ℕ) (b : Bound) (c : List ℕ) → Same S o p → AllPast S o b c → AllPast S p b c
+past S o p b c same all u l h = subst (λ x. less b (At (key_along u x)) ≡ true) (same u l.vector)
+    (all u (listed S p o u (turned S o p same) l) (subst (λ x. Before c (key_along u x)) (sym (same u l.vector)) h))

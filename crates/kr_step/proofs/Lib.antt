@@ -1,6 +1,5 @@
 pub mod Orders
 pub mod Spans
-pub mod Keys
 pub mod Paths
 pub mod Nexts
 pub mod Seeks
@@ -8,4 +7,5 @@ pub mod Firsts
 pub mod Turns
 pub mod Keeps
 pub mod Carried
+pub mod Uptos
 pub mod Left

@@ -11,9 +11,9 @@ use Rattle.kr_mean.specs.Entries.{IsListed}
 use Rattle.kr_iso.specs.Choices.{PathIn, AllowedPath}
 use Rattle.kr_step.specs.Steps.{path_of, slots_of, indices_of, OnPath, IsOf, NextIs, IsBeyond, IsFirst, IsStuck, IsMoved}
 use Rattle.kr_step.proofs.Orders.{before_not_self}
-use Rattle.kr_step.proofs.Keys.{forks_agree}
 use Rattle.kr_iso.proofs.Least.{least_is_allowed, allowed_is_least}
 use Rattle.kr_step.proofs.Paths.{on_front, on_last, on_more, next_shared, next_of, next_rest, next_below, next_allowed, AllZero, lacks_of, lacks_front, zero_rest, path_allowed, allowed_more, allowed_front, key_on, before_append, before_tails, zeros_first}
+use Rattle.kr_laws_pruning.proofs.Forks.{forks_agree}
 
 module _ (S : Space) {M : Type 0} (order : List ℕ → List ℕ) (mark : List ℕ → M) (is : IsSpace S) (reading : IsReading S order mark) where
   -- a slot that comes next to one vector on a path comes next to each

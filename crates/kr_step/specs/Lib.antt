@@ -5,3 +5,4 @@ pub mod Found
 pub mod Bases
 pub mod Keeps
 pub mod Scans
+pub mod Upto

@@ -3,9 +3,10 @@ ghost use Rattle.std.specs.Prelude.{◌≡◌, ◌++◌, length, drop, OnOk, OnE
 ghost use Rattle.kr_mean.specs.Readings.{AllBelow};
 ghost use Rattle.kr_step.specs.Steps.{path_of, indices_of};
 ghost use Rattle.kr_step.specs.Keeps.{Keeps};
+ghost use Rattle.kr_step.specs.Upto.{Rises};
 
 use crate::Candidate;
-use kr_base::NoMemory;
+use kr_base::{Bound, NoMemory};
 
 /// Adds the slots that follow a path in the last order, with their indices. On out-of-memory the path is unchanged.
 #[inline(always)]
@@ -74,4 +75,29 @@ pub(crate) fn write_key(
     fit(key, path, kept)?;
     copy_indices(key.as_mut_slice(), path, kept);
     Ok(())
+}
+
+/// Makes a key as long as these numbers. Without memory it stays as it was.
+fn fit_to(key: &mut Vec<u32>, numbers: &[u32]) -> Result<(), NoMemory>
+    ensures ok { OnOk result (length key.new.items ≡ length numbers.now) }
+    ensures err { OnErr result (key.new.items ≡ key.old.items) }
+{
+    key.resize(numbers.len(), 0)?;
+    Ok(())
+}
+
+/// Makes a bound the key, if it is a cut. Whether it did: without memory the key stays as it was.
+pub(crate) fn rise(key: &mut Vec<u32>, upto: &Bound) -> bool
+    ensures { Rises upto.now result key.old.items key.new.items }
+{
+    match upto {
+        Bound::End => false,
+        Bound::At(cut) => match fit_to(key, cut.numbers()) {
+            Err(_) => false,
+            Ok(()) => {
+                key.as_mut_slice().copy_from_slice(cut.numbers());
+                true
+            }
+        },
+    }
 }

@@ -1,16 +1,19 @@
 // The search, one entry at a time.
-ghost use Rattle.std.specs.Prelude.{◌≡◌, ◌<◌, ◌≤◌, ◌+◌, List, ℕ, [], length, replicate, IfOk, OnOk, OnErr};
+ghost use Rattle.std.specs.Prelude.{◌≡◌, ◌<◌, ◌≤◌, ◌+◌, List, ℕ, [], length, replicate, IfOk, OnOk, OnErr, true};
 ghost use Rattle.kr_step.specs.Steps.{IsMoved, path_of};
 ghost use Rattle.kr_step.specs.Stages.{StandsAt, ahead_of};
 ghost use Rattle.kr_step.specs.Found.{Finds, Counts};
 ghost use Rattle.kr_step.specs.Keeps.{Keeps};
+ghost use Rattle.kr_step.specs.Upto.{ComesUpto, Compares, is_past};
+ghost use Rattle.kr_base.specs.Bounds.{less};
+ghost use Rattle.kr_base.specs.declared.span.Bound.TheVariants.{At};
 
-use crate::path::{extend, write_key};
+use crate::path::{extend, rise, write_key};
 use crate::seeking::come_to;
-use crate::stage::Stage;
+use crate::stage::{Stage, Upto};
 use crate::turning::advance;
 use crate::{Candidate, Ending, Next};
-use kr_base::{NoMemory, Steps};
+use kr_base::{Bound, NoMemory, Steps};
 use std::alloc::Global;
 use std::marker::Model;
 use std::sync::ledger::Ledger;
@@ -100,6 +103,31 @@ fn find<C: Candidate, L: Ledger>(
     }
 }
 
+/// An entry with this key, compared with a bound.
+#[inline(always)]
+fn compared(ending: Ending, key: &[u32], upto: &Bound) -> Upto
+    ensures { Compares upto.now key.now ending result }
+{
+    if upto.is_above_key(key) {
+        return Upto::Inside(ending);
+    }
+    if upto.is_below_key(key) {
+        return Upto::Past;
+    }
+    Upto::Last(ending)
+}
+
+#[inline(always)]
+fn is_past(found: Upto) -> bool
+    ensures { result ≡ is_past found }
+{
+    match found {
+        Upto::Inside(_) => false,
+        Upto::Last(_) => false,
+        Upto::Past => true,
+    }
+}
+
 impl<C: Candidate + Drop> Search<C> {
     ghost use Rattle.kr_step.specs.Stages.{Answers, count_of};
 
@@ -155,6 +183,49 @@ impl<C: Candidate + Drop> Search<C> {
                 write_key(&mut self.after, self.path.as_slice(), kept)?;
                 self.stage = Stage::Behind;
                 Ok(Next::Found(ending))
+            }
+        }
+    }
+
+    /// The next entry above the cut that isn't above a bound: it is the candidate then, and its key is the cut. Where there is
+    /// none, the bound becomes the cut, if it is one and memory isn't refused: from there the search goes on with what it ran.
+    pub(crate) fn next_upto<L: Ledger>(
+        &mut self,
+        upto: &Bound,
+        runs: &mut Steps<L>,
+    ) -> Result<Upto, NoMemory>
+        requires { less (At self.old.cut) upto.now ≡ true }
+        ensures space { C.space self.new.candidates ≡ C.space self.old.candidates }
+        ensures order { C.order self.new.candidates ≡ C.order self.old.candidates }
+        ensures ending { C.ending self.new.candidates ≡ C.ending self.old.candidates }
+        ensures found { IfOk result (λ found. ComesUpto (C.space self.old.candidates) (C.order self.old.candidates) (C.ending self.old.candidates)
+            upto.now self.old.cut (C.vector self.new.candidates) self.new.cut found) }
+        ensures runs { IfOk result (λ found. runs.new ≤ runs.old + 1) }
+        ensures err { OnErr result (self.new.cut ≡ self.old.cut) }
+    {
+        self.candidates.laws();
+        let mut kept = 0;
+        match find(
+            &mut self.candidates,
+            &mut self.path,
+            &mut self.stage,
+            &mut kept,
+            runs,
+        )? {
+            None => {
+                if self.path.is_empty() {
+                    let _ = rise(&mut self.after, upto);
+                }
+                Ok(Upto::Past)
+            }
+            Some(ending) => {
+                write_key(&mut self.after, self.path.as_slice(), kept)?;
+                let found = compared(ending, self.after.as_slice(), upto);
+                if is_past(found) && rise(&mut self.after, upto) {
+                    return Ok(Upto::Past);
+                }
+                self.stage = Stage::Behind;
+                Ok(found)
             }
         }
     }

@@ -3,6 +3,7 @@ ghost use Rattle.std.specs.Prelude.{◌≡◌, ◌≤◌, ◌+◌, length, repli
 ghost use Rattle.kr_mean.specs.Problem.{Problem};
 ghost use Rattle.kr_step.specs.Scans.{RunsOn, Scans};
 
+use crate::stage::Upto;
 use crate::{Candidate, Next, Search, first_law};
 use kr_base::{Bound, NoMemory, Steps};
 use kr_laws_pruning::plain_law;
@@ -92,21 +93,15 @@ impl<C: Candidate + Drop> SpanSearch<C> {
         if !self.is_within {
             return Ok(Next::End);
         }
-        match self.search.next(runs)? {
-            Next::End => {
-                self.is_within = self.upto.is_above_key(self.search.cut());
-                return Ok(Next::End);
-            }
-            Next::Found(ending) => {
-                let is_within = self.upto.is_above_key(self.search.cut());
-                self.is_within = is_within;
-                if is_within {
-                    return Ok(Next::Found(ending));
-                }
-                if self.upto.is_below_key(self.search.cut()) {
-                    return Ok(Next::End);
-                }
+        match self.search.next_upto(&self.upto, runs)? {
+            Upto::Inside(ending) => Ok(Next::Found(ending)),
+            Upto::Last(ending) => {
+                self.is_within = false;
                 Ok(Next::Found(ending))
+            }
+            Upto::Past => {
+                self.is_within = self.upto.is_above_key(self.search.cut());
+                Ok(Next::End)
             }
         }
     }

@@ -17,3 +17,11 @@ pub enum Next {
     Found(Ending),
     End,
 }
+
+/// The result of the next step of a search up to a bound: an entry before the bound, the entry at it, or none up to it.
+#[derive(Clone, Copy)]
+pub(crate) enum Upto {
+    Inside(Ending),
+    Last(Ending),
+    Past,
+}

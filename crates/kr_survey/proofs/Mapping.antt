@@ -1,6 +1,7 @@
 -- What is said of entries is said of those with their rows made into others.
-use Rattle.std.proofs.Common.{◌≡◌, ℕ, zero, suc, List, [], ◌∷◌, ◌++◌, Bool, true, false, ◌||◌, cond, length, take, map, refl, sym, ap, ◌∙◌, ◌==◌}
+use Rattle.std.proofs.Common.{◌≡◌, ◌≤◌, ◌+◌, ℕ, List, [], ◌∷◌, ◌++◌, Bool, true, false, ◌||◌, cond, length, take, map, refl, sym, ap, ◌∙◌, ◌==◌, arith}
 use Rattle.std.specs.Prelude.{Result, Ok, Err, IfOk}
+use Rattle.std.proofs.lemmas.List.{take-map, length-map}
 use Rattle.kr_base.specs.declared.span.Bound.{Bound}
 use Rattle.kr_base.specs.declared.span.Bound.TheVariants.{At}
 use Rattle.kr_base.specs.declared.entry.Mark.{Mark}
@@ -29,15 +30,6 @@ map-more : {A B : Type 0} (f : A → B) (xs ys : List A) → map f (xs ++ ys) �
 map-more f [] ys = refl
 map-more f (x ∷ xs) ys = ap (λ l. f x ∷ l) (map-more f xs ys)
 
-take_by : {A B : Type 0} (f : A → B) (n : ℕ) (xs : List A) → take n (map f xs) ≡ map f (take n xs)
-take_by f zero xs = refl
-take_by f (suc n) [] = refl
-take_by f (suc n) (x ∷ xs) = ap (λ l. f x ∷ l) (take_by f n xs)
-
-length_by : {A B : Type 0} (f : A → B) (xs : List A) → length (map f xs) ≡ length xs
-length_by f [] = refl
-length_by f (x ∷ xs) = ap suc (length_by f xs)
-
 within_by : {R T : Type 0} (f : R → T) (a b : Bound) (es : List (Entry R)) → within a b (entries_by f es) ≡ entries_by f (within a b es)
 within_by f a b [] = refl
 within_by {R} {T} f a b (e ∷ es) =
@@ -57,7 +49,7 @@ entries_in_by {R} {T} f a b es = ap (λ (l : List (Entry T)). through_spent l) (
 
 walked_by : {R T : Type 0} (f : R → T) (all : List (Entry R)) (after : List ℕ) (upto : Bound) (most : ℕ) → walked (entries_by f all) after upto most ≡ entries_by f (walked all after upto most)
 walked_by {R} {T} f all after upto most =
-    ap (λ (l : List (Entry T)). take most l) (entries_in_by f (At after) upto all) ∙ take_by (entry_by f) most (entries_in (At after) upto all)
+    ap (λ (l : List (Entry T)). take most l) (entries_in_by f (At after) upto all) ∙ take-map (entry_by f) most (entries_in (At after) upto all)
 
 any_spent_by : {R T : Type 0} (f : R → T) (es : List (Entry R)) → any_spent (entries_by f es) ≡ any_spent es
 any_spent_by f [] = refl
@@ -76,7 +68,7 @@ rows_by {R} {T} f (e ∷ es) =
 
 -- their number
 pub length_of_entries_by : {R T : Type 0} (f : R → T) (es : List (Entry R)) → length (entries_by f es) ≡ length es
-length_of_entries_by f es = length_by (entry_by f) es
+length_of_entries_by f es = length-map es (entry_by f)
 
 reached_by : {R T : Type 0} (f : R → T) (upto : Bound) (most : ℕ) (es : List (Entry R)) → reached upto most (entries_by f es) ≡ reached upto most es
 reached_by f upto most es =
@@ -111,6 +103,11 @@ pub scan_made : {R T E : Type 0} (f : R → T) (all : List (Entry R)) (after : L
     → IsScan all after upto most part → IfOk r (IsMade f part) → IfOk r (IsScan (entries_by f all) after upto most)
 scan_made f all after upto most part (Ok made) s m = scan_by f all after upto most part made s m
 scan_made f all after upto most part (Err e) s m = tt
+
+-- as many runs as the scan has made
+pub runs_made : {R T E : Type 0} (f : R → T) (part : Part R) (r : Result (Part T) E) (before now : ℕ) (after : List ℕ) → now ≤ before + part.tried + length after + 3 → IfOk r (IsMade f part) → IfOk r (λ made. now ≤ before + made.tried + length after + 3)
+runs_made f part (Ok made) before now after n m = omega (arith, n, m.tried)
+runs_made f part (Err e) before now after n m = tt
 
 pub alike : {R T : Type 0} (f : R → T) (es : List (Entry R)) → AreAlike f es
 alike f es = record { span = λ a b. entries_in_by f a b es; rows = rows_by f es; number = length_of_entries_by f es }

@@ -5,6 +5,7 @@ use Rattle.std.proofs.lemmas.Bool.Decides.{nat_tests}
 use Rattle.std.proofs.lemmas.List.{append-nil, take-append-drop, drop_more, take_all}
 use Rattle.std.proofs.lemmas.List.Concat.{flat_map-append}
 use Rattle.std.proofs.lemmas.List.Folds.{list_any-append}
+use Rattle.std.proofs.lemmas.Bool.{eq-eqb}
 use Rattle.kr_base.specs.declared.span.Bound.{Bound}
 use Rattle.kr_base.specs.declared.span.Bound.TheVariants.{At}
 use Rattle.kr_base.specs.declared.entry.Entry.{Entry}
@@ -21,7 +22,7 @@ within-append {R} a b (x ∷ xs) ys =
       | false ↦ within-append a b xs ys
     ]
 
-through-append : {R : Type 0} (xs ys : List (Entry R)) → any_spent xs ≡ false → through_spent (xs ++ ys) ≡ xs ++ through_spent ys
+pub through-append : {R : Type 0} (xs ys : List (Entry R)) → any_spent xs ≡ false → through_spent (xs ++ ys) ≡ xs ++ through_spent ys
 through-append [] ys h = refl
 through-append {R} (x ∷ xs) ys h =
     elim (is_spent x.mark) as (λ t. (t || any_spent xs) ≡ false → x ∷ (if t then [] else through_spent (xs ++ ys)) ≡ x ∷ (xs ++ through_spent ys)) [
@@ -59,9 +60,6 @@ take-here {A} [] e (suc m) rest h (inr o) = let z : m ≡ 0 = omega arith in ap 
 take-here (x ∷ w) e zero rest h o = absurd (omega arith)
 take-here {A} (x ∷ w) e (suc m) rest h (inl o) = ap (λ (l : List A). x ∷ l) (take-here w e m rest (omega arith) (inl o))
 take-here {A} (x ∷ w) e (suc m) rest h (inr o) = ap (λ (l : List A). x ∷ l) (take-here w e m rest (omega arith) (inr (omega arith)))
-
-pub eq-eqb : (a b : ℕ) → a ≡ b → (a == b) ≡ true
-eq-eqb a b h = grind (arith, nat_tests)
 
 pub less-not : (a b : ℕ) → a < b → (a == b) ≡ false
 less-not a b h = grind (arith, nat_tests)

@@ -2,35 +2,14 @@
 use Rattle.std.proofs.Common.{◌≡◌, ℕ, zero, suc, ◌-◌, ◌<◌, List, [], ◌∷◌, Bool, true, false, ◌&&◌, not, ◌==◌, cond, length, take, refl, sym, ap, ◌∙◌, subst, arith}
 use Rattle.std.specs.Prelude.{◌||◌, if◌then◌else◌}
 use Rattle.std.proofs.lemmas.Bool.Decides.{nat_tests}
+use Rattle.std.proofs.lemmas.Bool.{and_parts, not-true}
 use Rattle.kr_base.specs.declared.span.Bound.{Bound}
 use Rattle.kr_base.specs.declared.span.Bound.TheVariants.{At}
 use Rattle.kr_base.specs.declared.entry.Entry.{Entry}
 use Rattle.kr_base.specs.Bounds.{less}
-use Rattle.kr_base.specs.Cuts.{Before}
 use Rattle.kr_base.specs.Entries.{AllAfter, Ascends, is_spent, is_within, within, through_spent}
-use Rattle.kr_base.proofs.Bounds.{irreflexive, transitive, not_above_less}
-use Rattle.kr_base.proofs.Orders.{test_from_before}
+use Rattle.kr_base.proofs.Bounds.{irreflexive, not_above_less, asymmetric, less_from_before}
 use Rattle.kr_survey.specs.Scans.{any_spent, last_key, reached, GoesOn, ScanLaw}
-
-pub less_from_before : (j k : List ℕ) → Before j k → less (At j) (At k) ≡ true
-unfolding less
-less_from_before j k h = test_from_before j k h
-
-pub and-left : (a b : Bool) → (a && b) ≡ true → a ≡ true
-and-left true b e = refl
-and-left false b e = cc
-
-pub and-right : (a b : Bool) → (a && b) ≡ true → b ≡ true
-and-right true b e = e
-and-right false b e = absurd (cc (e))
-
-pub not-true : (b : Bool) → not b ≡ true → b ≡ false
-not-true true e = cc
-not-true false e = refl
-
-not_both : (a b : Bound) → less a b ≡ true → less b a ≡ false
-not_both a b p =
-    elim (less b a) as (λ t. less b a ≡ t → t ≡ false) [ true ↦ λ q. absurd (cc (sym (transitive a b a p q) ∙ irreflexive a)) | false ↦ λ q. refl ] refl
 
 zero-not : (m : ℕ) → (0 == suc m) ≡ false
 zero-not m = grind (arith, nat_tests)
@@ -80,12 +59,12 @@ skip {R} a b e es w out asc c =
 
 only : {R : Type 0} (a b : Bound) (e : Entry R) (es : List (Entry R)) → is_within a b e.key ≡ true → Ascends (e ∷ es) → Comes (e ∷ es) a b (e ∷ [])
 only {R} a b e es inside asc =
-    let up : less a (At e.key) ≡ true = and-left (less a (At e.key)) (not (less b (At e.key))) inside in
+    let up : less a (At e.key) ≡ true = (and_parts (less a (At e.key)) (not (less b (At e.key))) inside).0 in
     let here : is_within a (At e.key) e.key ≡ true = rw (up, irreflexive (At e.key)) refl in
     record {
       entries = sym (ap (λ (t : Bool). cond t (e ∷ within a (At e.key) es) (within a (At e.key) es)) here ∙ ap (λ (l : List (Entry R)). e ∷ l) (none_after a e.key es asc.0));
       above = up;
-      below = not-true (less b (At e.key)) (and-right (less a (At e.key)) (not (less b (At e.key))) inside);
+      below = not-true (less b (At e.key)) (and_parts (less a (At e.key)) (not (less b (At e.key))) inside).1;
       later = λ x h. less_from_before x e.key h.0;
     }
 
@@ -97,8 +76,8 @@ same-last b c m (e ∷ w) h = refl
 more : {R : Type 0} (a b : Bound) (e : Entry R) (es w : List (Entry R)) → is_within a b e.key ≡ true → Ascends (e ∷ es) → last_key b w ≡ last_key (At e.key) w → Comes es a b w → Comes (e ∷ es) a b (e ∷ w)
 more {R} a b e es w inside asc same c =
     let k = last_key b w in
-    let up : less a (At e.key) ≡ true = and-left (less a (At e.key)) (not (less b (At e.key))) inside in
-    let low : less k (At e.key) ≡ false = not_both (At e.key) k (c.later e.key asc.0) in
+    let up : less a (At e.key) ≡ true = (and_parts (less a (At e.key)) (not (less b (At e.key))) inside).0 in
+    let low : less k (At e.key) ≡ false = asymmetric (At e.key) k (c.later e.key asc.0) in
     let here : is_within a k e.key ≡ true = rw (up, low) refl in
     let there : e ∷ w ≡ within a k (e ∷ es) = ap (λ (l : List (Entry R)). e ∷ l) c.entries ∙ sym (ap (λ (t : Bool). cond t (e ∷ within a k es) (within a k es)) here) in
     record {

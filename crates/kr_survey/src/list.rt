@@ -1,5 +1,5 @@
 // Entries in memory, as a survey.
-ghost use Rattle.std.specs.Prelude.{◌≡◌, ◌↔◌, ◌<◌, ◌++◌, List, ℕ, IsTrue, IfOk, OnOk};
+ghost use Rattle.std.specs.Prelude.{◌≡◌, ◌↔◌, ◌<◌, ◌≤◌, ◌+◌, ◌++◌, List, ℕ, IsTrue, IfOk, OnOk, length};
 ghost use Rattle.kr_base.specs.Entries.{Ascends, is_spent};
 ghost use Rattle.kr_survey.specs.Scans.{IsScan, row_of};
 ghost use Rattle.kr_survey.specs.Ascents.{ascends_from};
@@ -112,6 +112,7 @@ impl Survey for ListSurvey {
         requires made { Unit {0} }
         ensures part { IfOk result (IsScan self.now after.now upto.now most) }
         ensures made { Unit {0} }
+        ensures runs { IfOk result (λ part. runs.new ≤ runs.old + part.tried + length after.now + 3) }
         ensures no_run { runs.new ≡ runs.old }
     {
         let _ = scratch;
@@ -127,6 +128,7 @@ impl Survey for ListSurvey {
     ) -> Result<Part<Cut>, NoMemory>
         requires { 0 < most }
         ensures part { IfOk result (IsScan self.now after.now upto.now most) }
+        ensures runs { IfOk result (λ part. runs.new ≤ runs.old + part.tried + length after.now + 3) }
         ensures no_run { runs.new ≡ runs.old }
     {
         let _ = runs;

@@ -1,5 +1,5 @@
 // What is scanned.
-ghost use Rattle.std.specs.Prelude.{◌<◌, IfOk, List};
+ghost use Rattle.std.specs.Prelude.{◌<◌, ◌≤◌, ◌+◌, IfOk, List, length};
 ghost use Rattle.kr_base.specs.declared.entry.Entry.{Entry};
 ghost use Rattle.kr_base.specs.Entries.{Ascends};
 ghost use Rattle.kr_survey.specs.Scans.{IsScan};
@@ -39,10 +39,11 @@ pub trait Survey {
         requires some { 0 < most }
         requires made { made self.now scratch.old }
         ensures part { IfOk result (IsScan (all self.now) after.now upto.now most) }
-        ensures made { made self.now scratch.new };
+        ensures made { made self.now scratch.new }
+        ensures runs { IfOk result (λ part. runs.new ≤ runs.old + part.tried + length after.now + 3) };
 
     /// Walks the entries above `after` and not above `upto`, and stops after a spent one or after `most` entries. Each run
-    /// of a predicate ticks once.
+    /// of a predicate ticks once: there is one for each entry, one for each number of `after`, and at most three more.
     fn scan<L: Ledger>(
         &self,
         after: &Cut,
@@ -51,7 +52,8 @@ pub trait Survey {
         runs: &mut Steps<L>,
     ) -> Result<Part<Self::Row>, NoMemory>
         requires { 0 < most }
-        ensures part { IfOk result (IsScan (all self.now) after.now upto.now most) };
+        ensures part { IfOk result (IsScan (all self.now) after.now upto.now most) }
+        ensures runs { IfOk result (λ part. runs.new ≤ runs.old + part.tried + length after.now + 3) };
 
     /// The entries ascend. It does nothing.
     fn ascends(&self)

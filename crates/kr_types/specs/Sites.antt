@@ -33,6 +33,7 @@ use Rattle.kr_types.specs.Programs.{setting_in}
 use Rattle.kr_types.specs.declared.site.Inside.{Inside}
 use Rattle.kr_types.specs.declared.site.Site.{Site}
 use Rattle.kr_types.specs.declared.site.Spot.{Spot}
+use Rattle.kr_types.specs.declared.context.Context.{Context}
 use Rattle.kr_types.specs.declared.notes.Noted.{Noted}
 
 -- the tree of the file
@@ -82,6 +83,16 @@ pub record IsSpot (s : Site) (n : ℕ) (x : Spot) : Type 0 where
 -- the note of such a node
 abbrev pub IsSpotNote : Site → TypeList → List Note → Spot → Note → Type 0
 IsSpotNote s l ns x made = IsNoteOf s l ns (length ns) (scope_of s x.at) x.place x.node made
+
+-- a node of the file, with the types so far and the notes of the nodes before it
+pub record IsContext (c : Context) : Type 0 where
+  pub site : IsSite c.site c.types.now
+  pub notes : AreNotesWithin c.types.now c.notes.now
+  pub spot : IsSpot c.site (length c.notes.now) c.spot
+
+-- the note of that node
+abbrev pub IsNoted : Context → Note → Type 0
+IsNoted c made = IsSpotNote c.site c.types.now c.notes.now c.spot made
 
 -- the notes of the first nodes of the file: each follows from those of its parts
 pub record AreNoted (s : Site) (l : TypeList) (ns : List Note) : Type 0 where

@@ -1,35 +1,48 @@
 // Notes of contracts.
-ghost use Rattle.std.specs.Prelude.{length};
-ghost use Rattle.kr_types_expressions.specs.Notes.{AreNotesWithin};
-ghost use Rattle.kr_types.specs.Sites.{IsSite, IsSpot, IsSpotNote};
+ghost use Rattle.kr_types.specs.Sites.{IsContext, IsNoted};
 ghost use Rattle.kr_types.specs.Kinds.{IsContract};
 
-use crate::site::{Site, Spot, part_note};
+use crate::context::Context;
 use kr_ast::Node;
-use kr_classes_names::Types;
-use kr_types_expressions::{NoteList, contract_note, old_note};
+use kr_types_expressions::{contract_note, old_note};
 use kr_types_judging::{Note, plain};
 
 /// The note of a line of a contract, or of `\old(..)`.
-pub(crate) fn line_note(site: &Site<'_>, types: &Types, notes: &NoteList, spot: Spot) -> Note
-    requires site { IsSite site.now types.now }
-    requires notes { AreNotesWithin types.now notes.now }
-    requires spot { IsSpot site.now (length notes.now) spot }
-    requires kind { IsContract spot.node }
-    ensures { IsSpotNote site.now types.now notes.now spot result }
+pub(crate) fn line_note(context: &Context<'_, '_>) -> Note
+    requires context { IsContext context.now }
+    requires kind { IsContract context.now.spot.node }
+    ensures { IsNoted context.now result }
 {
-    match spot.node {
+    match context.spot.node {
         Node::Old { operand } => {
-            let x = part_note(types, notes, operand);
-            old_note(types, site.members, site.here(spot.at), spot.place, x)
+            let x = context.part(operand);
+            old_note(
+                context.types,
+                context.site.members,
+                context.here(),
+                context.spot.place,
+                x,
+            )
         }
         Node::Requires { condition } => {
-            let x = part_note(types, notes, condition);
-            contract_note(types, site.members, site.here(spot.at), spot.place, x)
+            let x = context.part(condition);
+            contract_note(
+                context.types,
+                context.site.members,
+                context.here(),
+                context.spot.place,
+                x,
+            )
         }
         Node::Ensures { condition } => {
-            let x = part_note(types, notes, condition);
-            contract_note(types, site.members, site.here(spot.at), spot.place, x)
+            let x = context.part(condition);
+            contract_note(
+                context.types,
+                context.site.members,
+                context.here(),
+                context.spot.place,
+                x,
+            )
         }
         _ => plain(None),
     }

@@ -5,20 +5,15 @@ ghost use Rattle.kr_types_expressions.specs.Notes.{AreNotesWithin, shown_notes};
 ghost use Rattle.kr_types.specs.Kinds.{IsOfBare, IsOfNamed};
 ghost use Rattle.kr_types.specs.Sites.{IsBefore, IsMeantBy, IsSite, IsSpot, IsSpotNote, scope_of};
 
-use crate::calls::call_group_note;
-use crate::classes::declaration_note;
-use crate::conditions::test_note;
+use crate::context::Context;
 use crate::contracts::line_note;
-use crate::dots::access_note;
+use crate::expressions::{leaf_note, operation_note, write_note};
 use crate::group::{Bare, Named};
 use crate::growing::growing_note;
-use crate::leaves::leaf_note;
-use crate::names::name_note;
-use crate::operations::operation_note;
-use crate::results::returned_note;
+use crate::resolved::{access_note, call_group_note, declaration_note, name_note};
 use crate::site::{Site, Spot};
+use crate::statements::{returned_note, test_note};
 use crate::types::type_note;
-use crate::writes::write_note;
 use kr_base::NoMemory;
 use kr_classes_names::Types;
 use kr_classes_table::ClassId;
@@ -42,14 +37,20 @@ pub(crate) fn bare_note(
     ensures extends { Extends types.old types.new }
     ensures note { IfOk result (λ note. IsSpotNote site.now types.new notes.now spot note) }
 {
+    let context = Context {
+        site: *site,
+        types: &*types,
+        notes: &*notes,
+        spot,
+    };
     match kind {
         Bare::Type => type_note(site, types, notes, spot),
-        Bare::Leaf => Ok(leaf_note(site, types, spot)),
-        Bare::Operation => Ok(operation_note(site, types, notes, spot)),
-        Bare::Write => Ok(write_note(site, types, notes, spot)),
-        Bare::Contract => Ok(line_note(site, types, notes, spot)),
-        Bare::Returned => Ok(returned_note(site, types, notes, spot)),
-        Bare::Test => Ok(test_note(site, types, notes, spot)),
+        Bare::Leaf => Ok(leaf_note(&context)),
+        Bare::Operation => Ok(operation_note(&context)),
+        Bare::Write => Ok(write_note(&context)),
+        Bare::Contract => Ok(line_note(&context)),
+        Bare::Returned => Ok(returned_note(&context)),
+        Bare::Test => Ok(test_note(&context)),
     }
 }
 
@@ -75,11 +76,17 @@ pub(crate) fn named_note(
     ensures extends { Extends types.old types.new }
     ensures note { IfOk result (λ note. IsSpotNote site.now types.new notes.now spot note) }
 {
+    let context = Context {
+        site: *site,
+        types: &*types,
+        notes: &*notes,
+        spot,
+    };
     match kind {
-        Named::Name => Ok(name_note(site, types, notes, spot, class)),
+        Named::Name => Ok(name_note(&context, class)),
         Named::Growing => growing_note(site, types, notes, spot, class),
-        Named::Access => access_note(alloc, site, types, notes, spot, before),
-        Named::Call => call_group_note(alloc, site, types, notes, spot, class, meaning),
-        Named::Declaration => Ok(declaration_note(site, types, notes, spot, class)),
+        Named::Access => access_note(alloc, &context, before),
+        Named::Call => call_group_note(alloc, &context, class, meaning),
+        Named::Declaration => Ok(declaration_note(&context, class)),
     }
 }

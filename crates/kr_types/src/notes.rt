@@ -12,12 +12,13 @@ ghost use Rattle.kr_types_resolving.specs.Shown.{IsMeant, meaning_at};
 ghost use Rattle.kr_types.specs.Kinds.{IsOfBare, IsOfNamed};
 ghost use Rattle.kr_types.specs.Sites.{AreKept, IsMeantBy, IsSite, IsSpot, IsSpotNote, scope_of, tree_there};
 
+use crate::context::Context;
 use crate::group::{Bare, Group, Named, group_of};
 use crate::lists::link_note;
 use crate::meanings::{class_before, node_meaning};
 use crate::nodes::{bare_note, named_note};
-use crate::plain::plain_note;
 use crate::site::{Inside, Site, Spot};
+use crate::statements::plain_note;
 use kr_base::NoMemory;
 use kr_classes_names::Types;
 use kr_types_expressions::NoteList;
@@ -163,7 +164,12 @@ fn add_node(
             add_note(site, types, noted, spot, note)
         }
         Group::Plain => {
-            let note = plain_note(site, types, &noted.notes, spot);
+            let note = plain_note(&Context {
+                site: *site,
+                types: &*types,
+                notes: &noted.notes,
+                spot,
+            });
             add_note(site, types, noted, spot, note)
         }
         Group::Bare(kind) => add_bare(site, types, noted, kind, spot),

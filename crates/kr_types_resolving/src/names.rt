@@ -81,7 +81,7 @@ pub fn variable_meaning(
         None => Ok(unbound_meaning(classes, class, name)),
         Some(local) => {
             if local.number >= 0xffff_ffff {
-                return Err(NoMemory::at_limit(local.number as u64));
+                return Err(NoMemory::at_sum(local.number as u64, 1));
             }
             Ok(Meaning::Local(local.number as u32))
         }

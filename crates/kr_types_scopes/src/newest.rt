@@ -129,7 +129,7 @@ impl Newest {
         }
         let count = self.newest.len();
         if count > 0xffff_ffff {
-            return Err(NoMemory::at_limit(count as u64));
+            return Err(NoMemory::at_limit(self.newest.as_slice()));
         }
         self.index.add(alloc, name, count as u32)?;
         self.newest.push(0)?;

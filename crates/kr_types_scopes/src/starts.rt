@@ -68,7 +68,7 @@ pub(crate) fn starts_of(
     ensures starts { IfOk result (λ starts. AreStarts tree.now bindings.now within.now.items starts.items 0) }
 {
     if bindings.len() >= 0xffff_ffff {
-        return Err(NoMemory::at_limit(bindings.len() as u64));
+        return Err(NoMemory::at_limit(bindings));
     }
     let nodes = tree.nodes();
     let mut starts = vec![in alloc; 0; nodes as usize]?;

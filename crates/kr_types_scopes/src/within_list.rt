@@ -68,7 +68,7 @@ impl WithinList {
     {
         let count = self.made.len();
         if count > 0xffff_ffff {
-            return Err(NoMemory::at_limit(count as u64));
+            return Err(NoMemory::at_limit(self.made.as_slice()));
         }
         self.made.push(here)?;
         self.numbers[node as usize] = count as u32;

@@ -4,24 +4,4 @@
 #![tactic(auto)]
 
 #[cfg(test)]
-mod classes;
-#[cfg(test)]
-mod constants;
-#[cfg(test)]
-mod expressions;
-#[cfg(test)]
-mod layers;
-#[cfg(test)]
-mod members;
-#[cfg(test)]
-mod names;
-#[cfg(test)]
-mod roster;
-#[cfg(test)]
-mod scopes;
-#[cfg(test)]
-mod statements;
-#[cfg(test)]
-mod type_numbers;
-#[cfg(test)]
-mod types;
+mod tests;

@@ -106,7 +106,7 @@ impl<R: Drop> Board<R> {
         let rows = self.core.front_rows();
         let count = self.core.segments().len();
         let front = Vec::with_capacity(self.alloc, count)?;
-        make_log_room(&mut self.log, count)?;
+        make_log_room(&mut self.log, self.core.segments())?;
         drain_in(&mut self.core, rows);
         let front = take_front(self.alloc, &mut self.kept, gone, front);
         let _ = self.log.push(Event::Drain { rows });

@@ -131,7 +131,7 @@ impl<R: Drop> Board<R> {
         let count = part.rows.len() as u64;
         let kept = self.rows_kept();
         if count > u64::MAX - kept {
-            let why = NoMemory::at_limit(count.saturating_add(kept));
+            let why = NoMemory::at_sum(count, kept);
             return Err(Refused { lease, part, why });
         }
         match copies_of(&part.reach) {

@@ -1,10 +1,11 @@
 use Rattle.std.proofs.Common.{ℕ, List, sym, subst}
-use Rattle.kr_args.specs.declared.forms.Command.{Command}
+use Rattle.kr_args.specs.declared.forms.Command.TheVariants as commands
+use Rattle.kr_args.specs.declared.forms.Search.{Search}
 use Rattle.kr_mean.specs.declared.mode.Mode.TheVariants.{List as Listing}
 use Rattle.korat_top_files.specs.Refusals.{files_of}
 use Rattle.korat_top_files.specs.Found.{FindsIn}
 use Rattle.korat_top.specs.Found.{Finds}
-use Rattle.korat_top.proofs.Answered.{shard_found, list_found, test_found, check_found, demo_found}
+use Rattle.korat_top.proofs.Answered.{shard_found, list_found, test_found, demo_found}
 use Rattle.korat_top.proofs.find.find.Goals as goal
 
 pub returns-in-List-clause-found : goal.returns-in-List-clause-found
@@ -14,7 +15,7 @@ returns-in-List-clause-found g c =
     let last = g.F.Files.last in
     let ask = c.in-List.ask in
     let found = subst (λ (fin : List ℕ). FindsIn held faults last Listing (files_of fin ask.sources) c.args.files.now c.find_files.new.files c.find_files.result) c.as_str.ensures c.find_files.ensures.found in
-    subst (λ (o : Command). Finds held faults last o c.args.files.now c.find_files.new.files c.find_files.result) (sym c.in-List.is)
+    subst (λ (o : Search). Finds held faults last (commands.Search o) c.args.files.now c.find_files.new.files c.find_files.result) (sym c.in-List.is)
     (list_found held faults last ask c.args.files.now c.find_files.new.files c.find_files.result found)
 
 pub returns-in-Shard-clause-found : goal.returns-in-Shard-clause-found
@@ -24,7 +25,7 @@ returns-in-Shard-clause-found g c =
     let last = g.F.Files.last in
     let ask = c.in-Shard.ask in
     let found = subst (λ (fin : List ℕ). FindsIn held faults last Listing (files_of fin ask.sources) c.args.files.now c.find_files-in-Shard.new.files c.find_files-in-Shard.result) c.as_str-in-Shard.ensures c.find_files-in-Shard.ensures.found in
-    subst (λ (o : Command). Finds held faults last o c.args.files.now c.find_files-in-Shard.new.files c.find_files-in-Shard.result) (sym c.in-Shard.is)
+    subst (λ (o : Search). Finds held faults last (commands.Search o) c.args.files.now c.find_files-in-Shard.new.files c.find_files-in-Shard.result) (sym c.in-Shard.is)
     (shard_found held faults last ask c.args.files.now c.find_files-in-Shard.new.files c.find_files-in-Shard.result found)
 
 pub returns-in-Test-clause-found : goal.returns-in-Test-clause-found
@@ -32,23 +33,13 @@ returns-in-Test-clause-found g c =
     let held = g.F.Files.held in
     let faults = g.F.Files.faults in
     let last = g.F.Files.last in
-    subst (λ (o : Command). Finds held faults last o c.args.files.now c.find_test.new.files c.find_test.result) (sym c.in-Test.is)
+    subst (λ (o : Search). Finds held faults last (commands.Search o) c.args.files.now c.find_test.new.files c.find_test.result) (sym c.in-Test.is)
     (test_found held faults last c.in-Test.method c.in-Test.ask c.args.files.now c.find_test.new.files c.find_test.result c.find_test.ensures.found)
-
-pub returns-in-Check-clause-found : goal.returns-in-Check-clause-found
-returns-in-Check-clause-found g c =
-    let held = g.F.Files.held in
-    let faults = g.F.Files.faults in
-    let last = g.F.Files.last in
-    let found = subst (λ (fin : List ℕ). FindsIn held faults last Listing (files_of fin c.in-Check.sources) c.args.files.now c.find_files-in-Check.new.files c.find_files-in-Check.result)
-    c.as_str-in-Check.ensures c.find_files-in-Check.ensures.found in
-    subst (λ (o : Command). Finds held faults last o c.args.files.now c.find_files-in-Check.new.files c.find_files-in-Check.result) (sym c.in-Check.is)
-    (check_found held faults last c.in-Check.fin c.in-Check.sources c.args.files.now c.find_files-in-Check.new.files c.find_files-in-Check.result found)
 
 pub returns-in-Demo-clause-found : goal.returns-in-Demo-clause-found
 returns-in-Demo-clause-found g c =
     let held = g.F.Files.held in
     let faults = g.F.Files.faults in
     let last = g.F.Files.last in
-    subst (λ (o : Command). Finds held faults last o c.args.files.now c.args.files.now c.find_demo.result) (sym c.in-Demo.is)
+    subst (λ (o : Search). Finds held faults last (commands.Search o) c.args.files.now c.args.files.now c.find_demo.result) (sym c.in-Demo.is)
     (demo_found held faults last c.in-Demo.n c.in-Demo.workers c.args.files.now c.args.files.now c.find_demo.result c.find_demo.ensures.judged)

@@ -1,4 +1,4 @@
-use Rattle.std.proofs.Common.{Some, List, ℕ, inr, refl, arith, []}
+use Rattle.std.proofs.Common.{Some, List, ℕ, inl, inr, refl, arith, []}
 use Rattle.std.specs.Prelude.{slice_index_or}
 use Rattle.kr_args.specs.declared.forms.Command.TheVariants as commands
 use Rattle.kr_report.specs.Reports.{bytes_of, line_answer}
@@ -50,4 +50,4 @@ returns-in-Err-Refused g c =
     let after = seen g.F.Files.held g.F.Files.faults g.F.Files.last g.K.Sink.taken g.K.Sink.faults c.find_merged.new.files c.put_fault.new.out in
     let written = writes_seen g.F.Files.held g.F.Files.faults g.F.Files.last g.K.Sink.taken g.K.Sink.faults c.args.files.now c.find_merged.new.files c.args.out.now c.put_fault.new.out text c.put_fault.result c.put_fault.ensures in
     put_answer before after c.once_written-in-Err-Refused.result command (line_answer 9 text) c.put_fault.result
-    (λ told. merged (line_answer 9 text) (found told)) (λ e. omega (arith, e)) (inr refl) (rw c.in-Err-Refused.field-0-is at c.in-Err-Refused.ensures.count) written c.once_written-in-Err-Refused.ensures
+    (λ told. merged (line_answer 9 text) (found told)) (λ e. omega (arith, e)) (inr (inl refl)) (rw c.in-Err-Refused.field-0-is at c.in-Err-Refused.ensures.count) written c.once_written-in-Err-Refused.ensures

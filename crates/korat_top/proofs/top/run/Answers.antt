@@ -1,36 +1,20 @@
-use Rattle.std.proofs.Common.{◌≡◌, refl, sym, subst, Option, Some, None}
+use Rattle.std.proofs.Common.{◌≡◌, sym, subst, Option, Some}
 use Rattle.kr_args.specs.declared.forms.Command.{Command}
-use Rattle.kr_report.specs.Texts.{usage_text, memory_text}
+use Rattle.kr_args.specs.declared.forms.Command.TheVariants as commands
 use Rattle.korat_top.specs.Answer.{asked_of}
 use Rattle.korat_top.specs.Ends.{EndsFor, seen}
-use Rattle.korat_top.proofs.Calls.{writes_seen, put_usage, put_memory, complete}
+use Rattle.korat_top.proofs.Calls.{complete}
 use Rattle.korat_top.proofs.top.run.Goals as goal
 
-pub returns-in-Ok : goal.returns-in-Ok
-returns-in-Ok g c =
+pub returns-in-Shared : goal.returns-in-Shared
+returns-in-Shared g c =
     let words = c.args.words.now in
-    let asked : asked_of words ≡ Some c.in-Ok.asked = c.in-Ok.ensures.means in
-    let before = seen g.F.Files.held g.F.Files.faults g.F.Files.last g.K.Sink.taken g.K.Sink.faults c.args.files.now c.args.out.now in
-    let after = seen g.F.Files.held g.F.Files.faults g.F.Files.last g.K.Sink.taken g.K.Sink.faults c.serve.new.files c.serve.new.out in
-    let ends = subst (λ (a : Option Command). EndsFor a before after c.serve.result) (sym asked) c.serve.ensures in
-    record { headline = ends; complete = complete (asked_of words) before after c.serve.result ends }
-
-pub returns-in-Err-Usage : goal.returns-in-Err-Usage
-returns-in-Err-Usage g c =
-    let words = c.args.words.now in
-    let asked : asked_of words ≡ None = c.in-Err-Usage.ensures.means c.in-Err-Usage.field-0-is in
-    let before = seen g.F.Files.held g.F.Files.faults g.F.Files.last g.K.Sink.taken g.K.Sink.faults c.args.files.now c.args.out.now in
-    let after = seen g.F.Files.held g.F.Files.faults g.F.Files.last g.K.Sink.taken g.K.Sink.faults c.args.files.now c.put_usage_fault.new.out in
-    let written = writes_seen g.F.Files.held g.F.Files.faults g.F.Files.last g.K.Sink.taken g.K.Sink.faults c.args.files.now c.args.files.now c.args.out.now c.put_usage_fault.new.out usage_text c.put_usage_fault.result c.put_usage_fault.ensures in
-    let ends = put_usage before after c.once_written.result (asked_of words) c.put_usage_fault.result asked refl written c.once_written.ensures in
-    record { headline = ends; complete = complete (asked_of words) before after c.once_written.result ends }
-
-pub returns-in-Err-NoMemory : goal.returns-in-Err-NoMemory
-returns-in-Err-NoMemory g c =
-    let words = c.args.words.now in
-    let status = c.once_written-in-Err-NoMemory.result in
-    let before = seen g.F.Files.held g.F.Files.faults g.F.Files.last g.K.Sink.taken g.K.Sink.faults c.args.files.now c.args.out.now in
-    let after = seen g.F.Files.held g.F.Files.faults g.F.Files.last g.K.Sink.taken g.K.Sink.faults c.args.files.now c.put_out_of_memory.new.out in
-    let written = writes_seen g.F.Files.held g.F.Files.faults g.F.Files.last g.K.Sink.taken g.K.Sink.faults c.args.files.now c.args.files.now c.args.out.now c.put_out_of_memory.new.out memory_text c.put_out_of_memory.result c.put_out_of_memory.ensures in
-    let ends = put_memory before after status (asked_of words) c.put_out_of_memory.result refl written c.once_written-in-Err-NoMemory.ensures in
+    let status = c.run_shared.result in
+    let left = c.in-Shared.ensures.left in
+    let see = seen g.F.Files.held g.F.Files.faults g.F.Files.last g.K.Sink.taken g.K.Sink.faults in
+    let before = see c.args.files.now c.args.out.now in
+    let after = see c.run_shared.new.files c.run_shared.new.out in
+    let read = subst (λ (files : g.row.F.Denot). EndsFor (Some (commands.Search c.in-Shared.search)) (see files c.run_alone.new.out) after status) left.2 c.run_shared.ensures in
+    let written = subst (λ (out : g.row.K.Denot). EndsFor (Some (commands.Search c.in-Shared.search)) (see c.args.files.now out) after status) left.3 read in
+    let ends = subst (λ (a : Option Command). EndsFor a before after status) (sym left.0) written in
     record { headline = ends; complete = complete (asked_of words) before after status ends }

@@ -1,7 +1,8 @@
 use Rattle.std.proofs.Common.{◌≡◌, take}
 use Rattle.std.specs.Prelude.{Ok}
 use Rattle.korat_top_files.specs.Chains.{each}
-use Rattle.korat_top_files.specs.Found.{IsLater, telling_source}
+use Rattle.korat_top_files.specs.Found.{telling_source}
+use Rattle.kr_io.specs.Held.{IsLater}
 use Rattle.korat_top_files.proofs.find.read_sources.Given as goal
 
 abbrev pub invariant-loop-number : goal.invariant-loop-number

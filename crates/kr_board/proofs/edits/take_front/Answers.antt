@@ -1,8 +1,9 @@
 use Rattle.std.proofs.Common.{◌≡◌, ◌<◌, ◌++◌, ◌∷◌, [], ◌∙◌, ℕ, List, Vec, Global, ap, arith, length, refl, subst, vec_len, vec_capacity}
 use Rattle.kr_survey.specs.Joins.{lists}
-use Rattle.kr_board.proofs.Lists.{length-lists, when_ok}
+use Rattle.kr_board.proofs.Lists.{length-lists}
 use Rattle.kr_board.proofs.Fronts.{Moved, moves_on, some_left, last_taken, last_left}
 use Rattle.kr_board.proofs.edits.take_front.Goals as goal
+use Rattle.kr_core.proofs.Places.{inserted}
 
 pub loop-i-init : goal.loop-i-init
 loop-i-init g c =
@@ -36,7 +37,7 @@ returns-clause-taken g c =
     let mr = m.room in
     let place : vec_len c.loop-i.front < vec_capacity c.loop-i.front = omega (arith, ml, mr) in
     last_taken old c.args.gone c.loop-i.kept.items c.loop-i.front c.push.new.self c.replace_first-last.result m c.replace_first-last.ensures.was
-    (when_ok c.push.result c.push.new.self.items (c.loop-i.front.items ++ c.replace_first-last.result ∷ []) c.loop-i.front.items c.push.ensures.items (c.push.ensures.succeeds place))
+    (inserted c.push.result c.push.new.self.items (c.loop-i.front.items ++ c.replace_first-last.result ∷ []) c.loop-i.front.items c.push.ensures.items (c.push.ensures.succeeds place))
 
 pub returns-clause-left : goal.returns-clause-left
 returns-clause-left g c =

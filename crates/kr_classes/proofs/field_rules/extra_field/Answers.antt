@@ -18,7 +18,7 @@ loop-field-preserved c =
       small = omega (arith, c.loop-field.invariant.small, c.counted-seen.ensures.small);
       counted = λ files. counted_more (λ f. is_instance (field_shown files f)) xs i absent c.loop-field.seen c.counted-seen.result l (c.loop-field.invariant.counted files) (c.counted-seen.ensures.value ∙ sym (one_length (field_shown files x)));
       so = λ files. past_each (field_shown files) c.args.room c.loop-field.seen xs i absent c.is_past.result c.loop-field.first c.if_broken.result c.earlier-first.result l (c.loop-field.invariant.counted files) (c.loop-field.invariant.so files)
-          c.earlier-first.ensures (c.if_broken.ensures 8) c.is_past.ensures;
+          c.earlier-first.ensures.fault (c.if_broken.ensures 8) c.is_past.ensures;
     }
 
 pub returns : goal.returns

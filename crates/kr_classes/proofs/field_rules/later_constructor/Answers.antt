@@ -15,7 +15,7 @@ loop-constructor-preserved c =
     let xs = take (length ks - 1) (drop 1 ks) in
     let i = c.loop-constructor.constructor-index in
     let l : i < length xs = c.loop-constructor-test.true in
-    one_each 4 (λ k. break_if true 4 k.place) xs i absent c.loop-constructor.first c.if_broken.result c.earlier-first.result l c.loop-constructor.invariant c.earlier-first.ensures (c.if_broken.ensures 4)
+    one_each 4 (λ k. break_if true 4 k.place) xs i absent c.loop-constructor.first c.if_broken.result c.earlier-first.result l c.loop-constructor.invariant c.earlier-first.ensures.fault (c.if_broken.ensures 4)
 
 pub returns : goal.returns
 returns c = λ files h.

@@ -26,7 +26,7 @@ loop-number-preserved c =
     let name : n ≡ field_name files x = c.name-name.ensures ∙ ap (λ (a : Arena). name_in a.text x.name) c.tree_of.ensures in
     let own : map (λ (f : table.Field). f.name) (own_fields t c.args.class) ≡ map (field_name files) xs =
     ap (map (λ (f : table.Field). f.name)) (sym (c.fields-field-items.ensures.shown files c.requires)) ∙ map_map (λ (f : table.Field). f.name) (field_shown files) xs in
-    one_more 4 (inherited_names t c.args.class) (field_name files) (λ f. f.place) xs i absent c.is_repeated_field-is_repeated.result c.loop-number.first c.if_broken.result c.earlier-first.result l c.loop-number.invariant c.earlier-first.ensures (c.if_broken.ensures 4)
+    one_more 4 (inherited_names t c.args.class) (field_name files) (λ f. f.place) xs i absent c.is_repeated_field-is_repeated.result c.loop-number.first c.if_broken.result c.earlier-first.result l c.loop-number.invariant c.earlier-first.ensures.fault (c.if_broken.ensures 4)
     (c.is_repeated_field-is_repeated.ensures files c.requires
     ∙ ap (λ b. b || not (is_number (position_from (bytes_eq n) 0 (map (λ (f : table.Field). f.name) (own_fields t c.args.class))) (Some i))) (found_among (λ (f : table.Field). f.name) n (flat_map (own_fields t) (ancestors t c.args.class)))
     ∙ ap (λ (ns : List (List ℕ)). is_name_among n (inherited_names t c.args.class) || not (is_number (position_from (bytes_eq n) 0 ns) (Some i))) own

@@ -20,4 +20,4 @@ returns c =
     of_both 4 (repeated 4 (inherited_names t class) (field_places d.fields)) (flat_map g (drop 1 d.constructors)) c.repeated_field-field.result c.later_constructor-constructor.result c.earlier.result
     (c.repeated_field-field.ensures ∙ ap (λ fs. least (repeated 4 (inherited_names t class) (field_places fs))) (fields_there t class l))
     (c.later_constructor-constructor.ensures files h ∙ ap (λ ks. least (flat_map g (drop 1 ks))) (constructors_there t class l))
-    c.earlier.ensures
+    c.earlier.ensures.fault

@@ -21,4 +21,4 @@ returns c = λ files h.
     of_both 8 (break_if (nat_lt 63 class) 8 d.place) (past (32 - (length (fields_of t class) - length (flat_map is_instance d.fields))) (flat_map is_instance d.fields)) c.extra_class.result c.extra_field.result c.earlier.result
     (c.extra_class.ensures files h)
     (c.extra_field.ensures files h ∙ ap (λ fs. least (past (32 - c.inherited_count-room.result) (flat_map is_instance fs))) own ∙ ap (λ k. least (past k (flat_map is_instance d.fields))) room)
-    c.earlier.ensures
+    c.earlier.ensures.fault

@@ -29,7 +29,7 @@ loop-class-preserved c =
     let xs = c.headings-items.result.now in
     let i = c.loop-class.class in
     let l : i < length xs = c.loop-class-test.true in
-    more_in (member_number r) (rule_of r) files xs i no_class c.loop-class.first c.in_ok-place.place c.earlier-first.result (c.headings-items.ensures.shown files c.requires.heads) l c.loop-class.invariant c.earlier-first.ensures c.in_ok-place.ensures
+    more_in (member_number r) (rule_of r) files xs i no_class c.loop-class.first c.in_ok-place.place c.earlier-first.result (c.headings-items.ensures.shown files c.requires.heads) l c.loop-class.invariant c.earlier-first.ensures.fault c.in_ok-place.ensures
 
 pub returns : goal.returns
 returns c =

@@ -19,7 +19,7 @@ loop-method-preserved c =
     let l : i < length xs = c.loop-method-test.true in
     let x = get_or xs i absent in
     let name : c.name-name.result.now ≡ method_name files x = c.name-name.ensures ∙ ap (λ (a : Arena). name_in a.text x.name) c.tree_of.ensures in
-    one_each 6 (λ m. break_if (is_name_among (method_name files m) object_methods) 6 m.place) xs i absent c.loop-method.first c.if_broken.result c.earlier-first.result l c.loop-method.invariant c.earlier-first.ensures
+    one_each 6 (λ m. break_if (is_name_among (method_name files m) object_methods) 6 m.place) xs i absent c.loop-method.first c.if_broken.result c.earlier-first.result l c.loop-method.invariant c.earlier-first.ensures.fault
     (c.if_broken.ensures 6 ∙ ap (λ (b : Bool). least (break_if b 6 x.place)) (c.is_object_method.ensures ∙ ap (λ (n : List ℕ). is_name_among n object_methods) name))
 
 pub returns : goal.returns

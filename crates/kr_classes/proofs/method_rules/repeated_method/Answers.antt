@@ -25,7 +25,7 @@ loop-number-preserved c =
     let name : n ≡ method_name files x = c.name-name.ensures ∙ ap (λ (a : Arena). name_in a.text x.name) c.tree_of.ensures in
     let own : map (λ (f : table.Method). f.name) (own_methods t c.args.class) ≡ map (method_name files) xs =
     ap (map (λ (f : table.Method). f.name)) (sym (c.methods-method-items.ensures.shown files c.requires)) ∙ map_map (λ (f : table.Method). f.name) (method_shown files) xs in
-    one_more 5 [] (method_name files) (λ f. f.place) xs i absent c.is_repeated_method-is_repeated.result c.loop-number.first c.if_broken.result c.earlier-first.result l c.loop-number.invariant c.earlier-first.ensures (c.if_broken.ensures 5)
+    one_more 5 [] (method_name files) (λ f. f.place) xs i absent c.is_repeated_method-is_repeated.result c.loop-number.first c.if_broken.result c.earlier-first.result l c.loop-number.invariant c.earlier-first.ensures.fault (c.if_broken.ensures 5)
     (c.is_repeated_method-is_repeated.ensures files c.requires
     ∙ ap (λ (ns : List (List ℕ)). not (is_number (position_from (bytes_eq n) 0 ns) (Some i))) own
     ∙ ap (λ (m : List ℕ). not (is_number (position_from (bytes_eq m) 0 (map (method_name files) xs)) (Some i))) name)

@@ -15,7 +15,7 @@ loop-class-preserved c =
     let absent : Heading = record { file = 0; name = record { start = 0; end = 0 }; place = record { file = 0; line = 0; col = 0 }; outer = None; extended = 0; members = 0 } in
     let x = get_or xs i absent in
     let place = c.own_ancestor_place-place.result in
-    more 3 C3 c.args.heads.now xs c.args.supers.now i no_class c.loop-class.first place c.earlier-first.result c.headings-heading-items.ensures.shown l c.loop-class.invariant c.earlier-first.ensures
+    more 3 C3 c.args.heads.now xs c.args.supers.now i no_class c.loop-class.first place c.earlier-first.result c.headings-heading-items.ensures.shown l c.loop-class.invariant c.earlier-first.ensures.fault
     (λ files h a. own_ancestor files xs x i no_class place (c.headings-heading-items.ensures.shown files h) l (same_item xs i absent x l) (c.own_ancestor_place-place.ensures (table_in files) a))
 
 pub returns : goal.returns

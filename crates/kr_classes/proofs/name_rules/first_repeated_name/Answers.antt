@@ -19,7 +19,7 @@ loop-class-preserved c =
     let x = get_or xs i absent in
     let name : c.name-name.result.now ≡ name_in (file_at files x.file).text x.name = c.name-name.ensures ∙ ap (λ (a : Arena). name_in a.text x.name) c.tree_of.ensures in
     let place = c.repeated_place-place.result in
-    more_in 1 repeats files xs i no_class c.loop-class.first place c.earlier-first.result shown l c.loop-class.invariant c.earlier-first.ensures
+    more_in 1 repeats files xs i no_class c.loop-class.first place c.earlier-first.result shown l c.loop-class.invariant c.earlier-first.ensures.fault
     (repeated_here files xs x i no_class place c.name-name.result.now shown l (same_item xs i absent x l) name (c.repeated_place-place.ensures files c.requires))
 
 pub returns : goal.returns

@@ -17,7 +17,7 @@ loop-class-preserved c =
     let x = get_or xs i absent in
     let place = c.unknown_place-place.result in
     let n : length c.args.supers.now ≡ length xs = omega (arith, c.requires.count, c.headings-heading-items.ensures.count) in
-    more_in 2 C2 files xs i no_class c.loop-class.first place c.earlier-first.result shown l c.loop-class.invariant c.earlier-first.ensures
+    more_in 2 C2 files xs i no_class c.loop-class.first place c.earlier-first.result shown l c.loop-class.invariant c.earlier-first.ensures.fault
     (unknown files xs c.args.supers.now x i no_class place c.extended_place-extended.result shown c.requires.supers l n (same_item xs i absent x l) c.extended_place-extended.ensures c.unknown_place-place.ensures)
 
 pub returns : goal.returns

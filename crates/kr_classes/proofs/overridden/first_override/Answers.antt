@@ -16,7 +16,7 @@ loop-method-preserved c =
     let xs = c.methods-method-items.result.now in
     let i = c.loop-method.method-index in
     let l : i < length xs = c.loop-method-test.true in
-    one_each (rule_for s) (λ m. overrides t c.args.class (rule_for s) (is_shared s t) (method_shown files m)) xs i absent c.loop-method.first c.in_ok-place.place c.earlier-first.result l c.loop-method.invariant c.earlier-first.ensures c.in_ok-place.ensures
+    one_each (rule_for s) (λ m. overrides t c.args.class (rule_for s) (is_shared s t) (method_shown files m)) xs i absent c.loop-method.first c.in_ok-place.place c.earlier-first.result l c.loop-method.invariant c.earlier-first.ensures.fault c.in_ok-place.ensures
 
 pub returns : goal.returns
 returns c =

@@ -20,4 +20,4 @@ returns c =
     of_both 5 (repeated 5 [] (method_places d.methods)) (flat_map (overrides t class 5 (is_shared Parameters t)) d.methods) c.repeated_method-repeated.result c.in_ok-overriding.overriding c.earlier.result
     (c.repeated_method-repeated.ensures ∙ ap (λ ms. least (repeated 5 [] (method_places ms))) own)
     (c.in_ok-overriding.ensures ∙ ap (λ ms. least (flat_map (overrides t class 5 (is_shared Parameters t)) ms)) own)
-    c.earlier.ensures
+    c.earlier.ensures.fault

@@ -24,6 +24,6 @@ loop-class-preserved c =
           ap (map (method_shown files)) all ∙ (map-append (method_shown files) old own ∙ (ap (λ w. w ++ map (method_shown files) own) (i.shown files h) ∙ (ap (λ w. flat_map methods_of_class (take class (table_in files).classes) ++ w) (c.methods.ensures.shown files h) ∙ sym (one_more methods_of_class (table_in files).classes class))));
       first = λ files h.
           let n : length old ≡ first_of methods_of_class (table_in files) class = sym (length-map old (method_shown files)) ∙ ap length (i.shown files h) in
-          let k : c.in_ok-counted.field-0 ≡ length old = omega (arith, c.in_ok-counted.ensures.0, c.len.ensures, c.loop-class.all.ok.0) in
+          let k : c.in_ok-counted.field-0 ≡ length old = omega (arith, c.in_ok-counted.ensures.0, ap (λ (xs : List Method). length xs) c.as_slice.ensures.value) in
           first_push methods_of_class (table_in files) c.loop-class.first.items c.push.new.self.items c.in_ok-counted.field-0 (i.first files h) first (k ∙ (n ∙ ap (first_of methods_of_class (table_in files)) (sym i.count)));
     }

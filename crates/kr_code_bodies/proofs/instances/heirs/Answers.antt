@@ -7,6 +7,6 @@ use Rattle.kr_code_bodies.proofs.instances.heirs.Goals as goal
 
 pub returns : goal.returns
 returns c = λ files h.
-    let count = c.len.ensures.all files h in
+    let count = c.len-count.ensures.all files h in
     whole_row false (λ d b. b ≡ is_below (table_in files) d c.args.class) c.loop-column.column c.loop-column.row.items (c.loop-column.invariant files h)
     (λ d l. sym (below_past (table_in files) d (omega (arith, l, count, c.max-columns.ensures)) c.args.class (λ e. absurd (omega (arith, e, l, c.max-columns.ensures)))))

@@ -7,9 +7,9 @@ use Rattle.kr_code_lowering.proofs.nodes.resolve_nodes.Goals as goal
 pub loop-file-init : goal.loop-file-init
 unfolding first_node
 loop-file-init c = record {
-  count = ap length c.new-nodes.ensures.items;
+  count = ap length c.in_ok-nodes.ensures.items;
   names = c.in_ok-names.ensures.first;
-  nodes = nodes_none c.args.program.now c.args.arrays.now c.in_ok-names.names c.new-links.result c.new-nodes.result.items c.new-nodes.ensures.items;
+  nodes = nodes_none c.args.program.now c.args.arrays.now c.in_ok-names.names c.new-links.result c.in_ok-nodes.nodes.items c.in_ok-nodes.ensures.items;
 }
 
 pub loop-file-preserved : goal.loop-file-preserved

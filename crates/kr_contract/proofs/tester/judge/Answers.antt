@@ -34,5 +34,5 @@ pub returns-clause-verdict : goal.returns-clause-verdict
 returns-clause-verdict c =
     let P = posed c.args.prepared.now.problem in
     let v = c.args.vector.now in
-    all_tested P (record { predicate = c.predicate-predicate.result.now; contract = c.args.prepared.now.contract }) c.predicate-predicate.ensures.tested v c.args.fuel c.args.contract.now c.rep_ok-root.result (state_of c.begin.new.world) c.test.result c.requires.contract
-    (c.in_ok-begin.ensures.state ∙ begun_laid P c.layout-layout.result.now v c.args.fuel c.layout-layout.ensures.laid) c.rep_ok-root.ensures c.test.ensures
+    all_tested P (record { predicate = c.predicate-predicate.result.now; contract = c.args.prepared.now.contract }) c.predicate-predicate.ensures.tested v c.args.fuel c.args.contract.now c.rep_ok-root.result (state_of c.begin.new.world) c.test-verdict.result c.requires.contract
+    (c.in_ok-begin.ensures.state ∙ begun_laid P c.layout-layout.result.now v c.args.fuel c.layout-layout.ensures.laid) c.rep_ok-root.ensures c.test-verdict.ensures

@@ -2,14 +2,14 @@ use Rattle.std.proofs.Common.{sym, ap, ◌∙◌}
 use Rattle.kr_base.specs.declared.span.Bound.{Bound}
 use Rattle.kr_base.specs.declared.span.Bound.TheVariants.{At}
 use Rattle.kr_base.specs.Bounds.{less}
-use Rattle.kr_deque_hands.proofs.Covers.{not_both}
 use Rattle.kr_deque.proofs.Following.{ahead_at, refused, one_more, last_says}
 use Rattle.kr_deque.proofs.joining.check_from.Goals as goal
+use Rattle.kr_base.proofs.Bounds.{asymmetric}
 
 pub loop-piece-init : goal.loop-piece-init
 loop-piece-init g c = (
   sym c.requires.start,
-  ap (λ (b : Bound). less c.args.asked.now.upto b) c.requires.start ∙ not_both (At c.args.asked.now.after) c.args.asked.now.upto c.requires.asked,
+  ap (λ (b : Bound). less c.args.asked.now.upto b) c.requires.start ∙ asymmetric (At c.args.asked.now.after) c.args.asked.now.upto c.requires.asked,
 )
 
 pub check_next-requires : goal.check_next-requires

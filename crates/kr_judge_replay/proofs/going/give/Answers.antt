@@ -1,4 +1,3 @@
-use Rattle.std.proofs.Common.{ℕ, ◌+◌, ap}
 use Rattle.kr_judge_replay.proofs.Steps.{halts_on, finishes_on, more_on, stays_on}
 use Rattle.kr_judge_replay.proofs.going.give.Goals as goal
 
@@ -12,7 +11,7 @@ pub consider-requires-clause-goes_on : goal.consider-requires-clause-goes_on
 consider-requires-clause-goes_on c = more_on c.args.input.layout.now c.args.input.predicate.now c.args.input.vector.now c.args.condition c.steps.stack c.advance.new.stack c.steps.next c.advance.new.task c.in-Ok.stepped c.steps.world c.advance.new.world c.in-More.is c.steps.invariant.0 c.in-Ok.ensures
 
 pub steps-preserved : goal.steps-preserved
-steps-preserved c = (more_on c.args.input.layout.now c.args.input.predicate.now c.args.input.vector.now c.args.condition c.steps.stack c.advance.new.stack c.steps.next c.advance.new.task c.in-Ok.stepped c.steps.world c.advance.new.world c.in-More.is c.steps.invariant.0 c.in-Ok.ensures, c.consider.ensures.kept, ap (λ (n : ℕ). n + 1) c.steps.invariant.2)
+steps-preserved c = (more_on c.args.input.layout.now c.args.input.predicate.now c.args.input.vector.now c.args.condition c.steps.stack c.advance.new.stack c.steps.next c.advance.new.task c.in-Ok.stepped c.steps.world c.advance.new.world c.in-More.is c.steps.invariant.0 c.in-Ok.ensures, c.consider.ensures.kept)
 
 pub returns-in-Err-clause-stays : goal.returns-in-Err-clause-stays
 returns-in-Err-clause-stays c = stays_on c.args.input.layout.now c.args.input.predicate.now c.args.input.vector.now c.args.condition c.steps.stack c.advance.new.stack c.steps.next c.advance.new.task c.in-Err.halt c.steps.world c.advance.new.world c.steps.invariant.0 c.in-Err.ensures

@@ -1,4 +1,4 @@
-use Rattle.std.proofs.Common.{◌≡◌, ◌+◌, ℕ, true, false, refl, rules, ap}
+use Rattle.std.proofs.Common.{◌≡◌, ◌+◌, true, false, Some, None, refl, sym, rules}
 use Rattle.kr_judge_replay.proofs.Steps.{all_hold_so, next_so, false_so, stays_halted, stuck_so}
 use Rattle.kr_judge_replay.proofs.going.go_on.Goals as goal
 
@@ -13,9 +13,9 @@ returns-in-Ref-clause-means c = stuck_so c.args.input.layout.now c.args.input.pr
 
 pub conditions-preserved : goal.conditions-preserved
 conditions-preserved c =
-    let on : c.in-Some.following ≡ c.conditions.at + 1 = search rules in
     let yes : c.in-Bool.truth ≡ true = search rules in
-    (next_so c.args.input.layout.now c.args.input.predicate.now c.args.input.vector.now c.conditions.at c.in-Some.following c.in-Some-condition_at.node c.condition_at.result c.in-Ok.given c.in-Bool.truth c.clear.new.self c.give.new.world c.in-Bool.is yes on c.condition_at.ensures c.in-Some-condition_at.is c.clear.ensures c.in-Ok.ensures.gives, c.in-Ok.ensures.kept, ap (λ (n : ℕ). n + 1) c.conditions.invariant.2)
+    let following = c.in-Some.following in
+    (next_so c.args.input.layout.now c.args.input.predicate.now c.args.input.vector.now c.conditions.at following.at following.node (Some following.node) c.in-Ok.given c.in-Bool.truth c.clear.new.self c.give.new.world c.in-Bool.is yes c.in-Some.ensures.0 (sym c.in-Some.ensures.1) refl c.clear.ensures c.in-Ok.ensures.gives, c.in-Ok.ensures.kept)
 
 pub returns-then-not-truth-clause-means : goal.returns-then-not-truth-clause-means
 returns-then-not-truth-clause-means c =
@@ -24,9 +24,8 @@ returns-then-not-truth-clause-means c =
 
 pub returns-in-None-clause-means : goal.returns-in-None-clause-means
 returns-in-None-clause-means c =
-    let on : c.in-Some.following ≡ c.conditions.at + 1 = search rules in
     let yes : c.in-Bool.truth ≡ true = search rules in
-    all_hold_so c.args.input.layout.now c.args.input.predicate.now c.args.input.vector.now c.conditions.at c.in-Some.following c.condition_at.result c.in-Ok.given c.in-Bool.truth c.give.new.world c.in-Bool.is yes on c.condition_at.ensures c.in-None.is c.in-Ok.ensures.gives
+    all_hold_so c.args.input.layout.now c.args.input.predicate.now c.args.input.vector.now c.conditions.at (c.conditions.at + 1) None c.in-Ok.given c.in-Bool.truth c.give.new.world c.in-Bool.is yes refl (sym c.in-None.ensures) refl c.in-Ok.ensures.gives
 
 pub returns-in-Int-clause-stays : goal.returns-in-Int-clause-stays
 returns-in-Int-clause-stays c = c.in-Ok.ensures.stays

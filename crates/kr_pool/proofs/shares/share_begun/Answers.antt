@@ -1,5 +1,5 @@
-use Rattle.std.proofs.Common.{ℕ, ◌∙◌, sym, subst, ap}
-use Rattle.std.specs.Prelude.{Ok, Err}
+use Rattle.std.proofs.Common.{◌≡◌, ℕ, subst}
+use Rattle.std.specs.Prelude.{Ok, Err, IfOk}
 use Rattle.kr_core.specs.Rows.{drained}
 use Rattle.kr_survey.specs.Listings.{listed_in}
 use Rattle.kr_survey.specs.declared.taker.Room.{Room}
@@ -22,8 +22,8 @@ returns-in-More-clause-shares g c =
     let now = c.go_rounds.new in
     let h = subst (λ (d : ℕ). ReachesTo g.T.Taker.takes es d now.rounds.lead.0 c.args.taker.now c.args.out.now now.taker now.out (Ok c.in-Ok.came.room)) c.requires.none c.in-Ok.ensures.comes in
     let more = subst (λ (room : Room). ReachesTo g.T.Taker.takes es 0 now.rounds.lead.0 c.args.taker.now c.args.out.now now.taker now.out (Ok room)) c.in-More.is h in
-    let rest = subst (λ (d : ℕ). SharesRest g.T.Taker.takes es d now.taker now.out c.go_on_alone.new.taker c.go_on_alone.new.out c.go_on_alone.result) c.into_alone-alone.ensures c.go_on_alone.ensures.shares in
-    shares_then g.T.Taker.takes es 0 now.rounds.lead.0 c.args.taker.now c.args.out.now now.taker now.out c.go_on_alone.new.taker c.go_on_alone.new.out c.go_on_alone.result more rest
+    let rest = subst (λ (d : ℕ). SharesRest g.T.Taker.takes es g.N.Crew.workers d now.taker now.out c.go_on_alone.new.taker c.go_on_alone.new.out c.go_on_alone.result) c.into_alone-alone.ensures c.go_on_alone.ensures.shares in
+    shares_then g.T.Taker.takes es g.N.Crew.workers 0 now.rounds.lead.0 c.args.taker.now c.args.out.now now.taker now.out c.go_on_alone.new.taker c.go_on_alone.new.out c.go_on_alone.result more rest
 
 pub returns-in-Full-clause-shares : goal.returns-in-Full-clause-shares
 returns-in-Full-clause-shares g c =
@@ -31,4 +31,5 @@ returns-in-Full-clause-shares g c =
     let now = c.go_rounds.new in
     let h = subst (λ (d : ℕ). ReachesTo g.T.Taker.takes es d now.rounds.lead.0 c.args.taker.now c.args.out.now now.taker now.out (Ok c.in-Ok.came.room)) c.requires.none c.in-Ok.ensures.comes in
     let full = subst (λ (room : Room). ReachesTo g.T.Taker.takes es 0 now.rounds.lead.0 c.args.taker.now c.args.out.now now.taker now.out (Ok room)) c.in-Full.is h in
-    shares_full g.T.Taker.takes es 0 now.rounds.lead.0 c.args.taker.now c.args.out.now now.taker now.out c.end_full.result full c.end_full.ensures.full
+    let drained_is = subst (λ (d : ℕ). IfOk c.end_full.result (λ r. drained r.1.items ≡ d)) c.into_alone-alone.ensures c.end_full.ensures.drained in
+    shares_full g.T.Taker.takes es g.N.Crew.workers 0 now.rounds.lead.0 c.args.taker.now c.args.out.now now.taker now.out c.end_full.result full c.end_full.ensures.full drained_is

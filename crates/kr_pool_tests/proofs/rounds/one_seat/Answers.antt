@@ -1,6 +1,6 @@
 use Rattle.std.proofs.Common.{List, ℕ, sym, subst, ◌∙◌}
 use Rattle.kr_core.specs.Openings.{AreInside}
-use Rattle.kr_pool_desk.proofs.Cuts.{cuts_inside}
+use Rattle.kr_core.proofs.Cuts.{cuts_inside}
 use Rattle.kr_pool_tests.proofs.rounds.one_seat.Goals as goal
 
 pub start_one-requires-clause-inside : goal.start_one-requires-clause-inside

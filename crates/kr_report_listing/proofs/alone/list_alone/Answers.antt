@@ -15,4 +15,4 @@ returns g c =
     let w = c.new-writer.result in
     ends_listed g.K.Sink.taken g.K.Sink.faults (posed c.args.prepared.now.problem) (posed lines.making) (posed lines.survey) c.args.limit w.limit c.args.span c.mode-mode.result.now c.args.out.now c.close.new.out c.close.result (ap posed is.making)
     (ap posed is.survey) (c.mode-mode.ensures ∙ ap (λ (l : Layout). l.mode) c.layout.ensures.same) c.new-writer.ensures.limit c.lines_law.ensures
-    (c.close.ensures.ends w c.args.out.now (lines_in (posed lines.making) (posed lines.survey) c.args.span) c.walk-put.ensures)
+    (c.close.ensures.ends w c.args.out.now (lines_in (posed lines.making) (posed lines.survey) c.args.span) c.walk-put.ensures.hands)

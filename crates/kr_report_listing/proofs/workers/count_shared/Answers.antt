@@ -18,11 +18,11 @@ returns-in-Ok g c =
     let survey = posed c.units_of-units.result.survey in
     let span : Span = record { after = c.empty.result; upto = End } in
     ends_tallied g.K.Sink.taken g.K.Sink.faults (posed c.args.prepared.now.problem) survey c.args.nodes span c.args.out.now c.close.new.out c.close.result (ap posed c.units_of-units.ensures) c.empty.ensures refl c.count_law.ensures
-    (c.close.ensures c.new-counter.result c.args.out.now (listed_in (entries_by (λ (row : Row). tt) (all_entries survey)) span) c.in-Ok.ensures.shares)
+    (c.close.ensures.ends c.new-counter.result c.args.out.now (listed_in (entries_by (λ (row : Row). tt) (all_entries survey)) span) c.in-Ok.ensures.shares)
 
 pub returns : goal.returns
 returns g c =
     let survey = posed c.units_of-units.result.survey in
     let span : Span = record { after = c.empty.result; upto = End } in
     ends_tallied g.K.Sink.taken g.K.Sink.faults (posed c.args.prepared.now.problem) survey c.args.nodes span c.args.out.now c.close-in-Err.new.out c.close-in-Err.result (ap posed c.units_of-units.ensures) c.empty.ensures refl c.count_law.ensures
-    (c.close-in-Err.ensures c.new-counter.result c.args.out.now (listed_in (entries_by (λ (row : Row). tt) (all_entries survey)) span) c.in-Err.ensures.shares)
+    (c.close-in-Err.ensures.ends c.new-counter.result c.args.out.now (listed_in (entries_by (λ (row : Row). tt) (all_entries survey)) span) c.in-Err.ensures.shares)

@@ -1,4 +1,4 @@
-use Rattle.std.specs.Prelude.{◌-◌, Ok}
+use Rattle.std.specs.Prelude.{Ok}
 use Rattle.kr_run_frames.specs.Frames.{resumed}
 use Rattle.kr_run_frames.specs.Leads.{Leads}
 use Rattle.kr_run_state.specs.Worlds.{state_at}
@@ -9,4 +9,4 @@ abbrev pub invariant-steps : goal.invariant-steps
 invariant-steps l = Leads l.code (Ok l.next) l.stack l.world l.fn.world (λ d x. resumed l.code d l.fn.stack l.fn.task (state_at l.fn.world x))
 
 abbrev pub decreases-steps : goal.decreases-steps
-decreases-steps l = 18446744073709551615 - l.taken
+decreases-steps l = l.left

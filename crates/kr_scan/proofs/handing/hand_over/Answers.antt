@@ -15,7 +15,8 @@ use Rattle.kr_survey.specs.declared.taker.Room.{Room}
 use Rattle.kr_scan.specs.Stops.{IsSpent}
 use Rattle.kr_scan.proofs.Gathering.{runs_along}
 use Rattle.kr_scan.proofs.Marks.{spent_as}
-use Rattle.kr_scan.proofs.Walking.{IsWalked, at_start, ends_full, ends_whole, goes_on, halts, halts_memory, one_more, spent_exit}
+use Rattle.kr_scan.proofs.Walking.{IsWalked, at_start, ends_full, ends_whole, goes_on, halts, halts_memory, if_ok, one_more, runs_in, spent_exit}
+use Rattle.kr_survey.proofs.Scanning.{length-more}
 use Rattle.kr_scan.proofs.handing.hand_over.Goals as goal
 
 pub loop-why-init : goal.loop-why-init
@@ -25,11 +26,11 @@ loop-why-init g c = record {
   ending = refl;
   upto = refl;
   maker = refl;
-  so_far = ([], at_start (left (posed c.args.maker.now.problem) c.args.span.now.upto c.args.span.now.cut), c.requires.fresh);
+  so_far = ([], at_start (left (posed c.args.maker.now.problem) c.args.span.now.upto c.args.span.now.cut), c.requires.fresh, omega arith);
 }
 
-pub returns-in-Err : goal.returns-in-Err
-returns-in-Err g c =
+pub returns-in-Err-clause-hands : goal.returns-in-Err-clause-hands
+returns-in-Err-clause-hands g c =
     let P = posed c.args.maker.now.problem in
     let f = g.M.Making.made_of c.args.making.now in
     let takes = g.T.Taker.takes in
@@ -42,8 +43,8 @@ returns-in-Err g c =
     let taken = inv.so_far.2 in
     halts_memory es done (left P upto cut) c.loop-why.tried is takes f c.args.taker.now c.loop-why.taker c.args.out.now c.loop-why.out taken c.in-Err.why
 
-pub returns-in-Ok-End : goal.returns-in-Ok-End
-returns-in-Ok-End g c =
+pub returns-in-Ok-End-clause-hands : goal.returns-in-Ok-End-clause-hands
+returns-in-Ok-End-clause-hands g c =
     let P = posed c.args.maker.now.problem in
     let f = g.M.Making.made_of c.args.making.now in
     let takes = g.T.Taker.takes in
@@ -61,8 +62,8 @@ returns-in-Ok-End g c =
     let none = subst (λ (n : Next). Scans P upto cut v new n) c.in-Ok-End.field-0-is (c.in-Ok-End.ensures.found P runs) in
     ends_whole es done (left P upto cut) c.loop-why.tried is takes f c.args.taker.now c.loop-why.taker c.args.out.now c.loop-why.out taken none.0
 
-pub returns-then-is_spent : goal.returns-then-is_spent
-returns-then-is_spent g c =
+pub returns-then-is_spent-clause-hands : goal.returns-then-is_spent-clause-hands
+returns-then-is_spent-clause-hands g c =
     let P = posed c.args.maker.now.problem in
     let f = g.M.Making.made_of c.args.making.now in
     let takes = g.T.Taker.takes in
@@ -84,8 +85,8 @@ returns-then-is_spent g c =
     let spent = spent_as P v ending true found.ends (subst (λ (b : Bool). IsSpent ending b) c.if-is_spent.true c.is_spent.ensures) in
     spent_exit es done (left P upto cut) c.loop-why.tried is takes f c.args.taker.now c.loop-why.taker c.args.out.now c.loop-why.out taken e rest c.one_more-tried.result c.cut.result.now c.spent_at.result c.spent_at.ensures found.entries spent c.one_more-tried.ensures (c.cut.ensures ∙ found.key)
 
-pub returns-in-Err-hand_entry : goal.returns-in-Err-hand_entry
-returns-in-Err-hand_entry g c =
+pub returns-in-Err-hand_entry-clause-hands : goal.returns-in-Err-hand_entry-clause-hands
+returns-in-Err-hand_entry-clause-hands g c =
     let P = posed c.args.maker.now.problem in
     let f = g.M.Making.made_of c.args.making.now in
     let takes = g.T.Taker.takes in
@@ -109,8 +110,8 @@ returns-in-Err-hand_entry g c =
     (c.in-Err-hand_entry.ensures.took c.args.taker.now c.args.out.now (map f (rows_of done)) taken) in
     halts es done (left P upto cut) c.loop-why.tried is takes f c.args.taker.now c.hand_entry.new.taker c.args.out.now c.hand_entry.new.out e rest found.entries unspent c.in-Err-hand_entry.halt took
 
-pub returns-in-Ok-Full : goal.returns-in-Ok-Full
-returns-in-Ok-Full g c =
+pub returns-in-Ok-Full-clause-hands : goal.returns-in-Ok-Full-clause-hands
+returns-in-Ok-Full-clause-hands g c =
     let P = posed c.args.maker.now.problem in
     let f = g.M.Making.made_of c.args.making.now in
     let takes = g.T.Taker.takes in
@@ -169,5 +170,27 @@ loop-why-preserved g c =
         done ++ e ∷ [],
         subst (λ (b : Bound). IsWalked es (done ++ e ∷ []) (left P b new) c.one_more-tried.result) (sym c.next.ensures.upto) (one_more es done (left P upto cut) c.loop-why.tried is e rest c.one_more-tried.result found.entries unspent c.one_more-tried.ensures),
         goes_on es done (left P upto cut) c.loop-why.tried is takes f c.args.taker.now c.hand_entry.new.taker c.args.out.now c.hand_entry.new.out e rest found.entries unspent more,
+        omega (arith, inv.so_far.3, c.in-Ok-Found.ensures.runs, length-more done e),
       );
     }
+
+pub returns-in-Ok-End-clause-runs : goal.returns-in-Ok-End-clause-runs
+returns-in-Ok-End-clause-runs g c =
+    let P = posed c.args.maker.now.problem in
+    let es = entries_in (At c.args.span.now.cut) c.args.span.now.upto (all_entries P) in
+    let inv = c.loop-why.invariant.so_far in
+    runs_in es inv.0 (left P c.loop-why.span.upto c.loop-why.span.cut) c.loop-why.tried inv.1 c.args.runs.now c.loop-why.runs c.next.new.runs inv.3 c.in-Ok-End.ensures.runs
+
+pub returns-then-is_spent-clause-runs : goal.returns-then-is_spent-clause-runs
+returns-then-is_spent-clause-runs g c =
+    let P = posed c.args.maker.now.problem in
+    let es = entries_in (At c.args.span.now.cut) c.args.span.now.upto (all_entries P) in
+    let inv = c.loop-why.invariant.so_far in
+    if_ok c.spent_at.result _ (runs_in es inv.0 (left P c.loop-why.span.upto c.loop-why.span.cut) c.loop-why.tried inv.1 c.args.runs.now c.loop-why.runs c.next.new.runs inv.3 c.in-Ok-Found.ensures.runs)
+
+pub returns-in-Ok-Full-clause-runs : goal.returns-in-Ok-Full-clause-runs
+returns-in-Ok-Full-clause-runs g c =
+    let P = posed c.args.maker.now.problem in
+    let es = entries_in (At c.args.span.now.cut) c.args.span.now.upto (all_entries P) in
+    let inv = c.loop-why.invariant.so_far in
+    runs_in es inv.0 (left P c.loop-why.span.upto c.loop-why.span.cut) c.loop-why.tried inv.1 c.args.runs.now c.loop-why.runs c.next.new.runs inv.3 c.in-Ok-Found.ensures.runs

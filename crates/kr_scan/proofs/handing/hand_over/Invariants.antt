@@ -1,4 +1,4 @@
-use Rattle.std.proofs.Common.{◌≡◌, List, length, map}
+use Rattle.std.proofs.Common.{◌≡◌, ◌≤◌, ◌+◌, List, length, map}
 use Rattle.std.specs.Prelude.{Some}
 use Rattle.kr_base.specs.declared.entry.Entry.{Entry}
 use Rattle.kr_base.specs.declared.span.Bound.TheVariants.{At}
@@ -21,7 +21,8 @@ invariant-loop-why g l = record {
   maker : l.maker ≡ l.initial.maker;
   so_far : (done : List (Entry Row))
       × IsWalked (entries_in (At l.initial.span.cut) l.initial.span.upto (all_entries (posed l.initial.maker.problem))) done (left (posed l.initial.maker.problem) l.span.upto l.span.cut) l.tried
-      × g.T.Taker.takes l.initial.taker l.initial.out (map (g.M.Making.made_of l.making) (rows_of done)) l.taker l.out (Some More);
+      × g.T.Taker.takes l.initial.taker l.initial.out (map (g.M.Making.made_of l.making) (rows_of done)) l.taker l.out (Some More)
+      × (l.runs ≤ l.initial.runs + length done);
 }
 
 abbrev pub decreases-loop-why : goal.decreases-loop-why

@@ -1,5 +1,6 @@
 use Rattle.std.proofs.Common.{◌≡◌, take}
-use Rattle.kr_shard.specs.Found.{AreShards, IsLater}
+use Rattle.kr_shard.specs.Found.{AreShards}
+use Rattle.kr_io.specs.Held.{IsLater}
 use Rattle.kr_shard.proofs.files.read_files.Given as goal
 
 abbrev pub invariant-loop-number : goal.invariant-loop-number

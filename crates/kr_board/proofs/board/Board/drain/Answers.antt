@@ -31,7 +31,7 @@ invariant_of-self-2 g c =
     let core = c.self.inside.core in
     let kept = lists c.self.inside.kept.items in
     let k = c.self.invariant.0 in
-    let n : length c.segments-count.result.now ≡ length core.segments = ap (λ (ss : List Segment). length ss) c.segments-count.ensures in
+    let n : length c.segments.result.now ≡ length core.segments = ap (λ (ss : List Segment). length ss) c.segments.ensures in
     let mid = c.make_log_room.new.log in
     let room : vec_len mid + (length core.segments + 2) ≤ vec_capacity mid = omega (arith, c.in_ok-make_log_room.ensures.room, n) in
     let none : List g.row.R.Denot = [] in
@@ -56,7 +56,7 @@ returns-clause-event g c =
     let core = c.self.inside.core in
     let kept = lists c.self.inside.kept.items in
     let k = c.self.invariant.0 in
-    let n : length c.segments-count.result.now ≡ length core.segments = ap (λ (ss : List Segment). length ss) c.segments-count.ensures in
+    let n : length c.segments.result.now ≡ length core.segments = ap (λ (ss : List Segment). length ss) c.segments.ensures in
     let mid = c.make_log_room.new.log in
     let room : vec_len mid + (length core.segments + 2) ≤ vec_capacity mid = omega (arith, c.in_ok-make_log_room.ensures.room, n) in
     let old : Held g.row.R.Denot = record { core = c.self.inside.core; kept = lists c.self.inside.kept.items; log = c.self.inside.log.items; window = c.self.inside.window } in

@@ -4,9 +4,9 @@ use Rattle.kr_core.specs.declared.event.Event.TheVariants.{GiveUp}
 use Rattle.kr_core.specs.declared.event.Reply.TheVariants.{Noted}
 use Rattle.kr_board.specs.Held.{Held}
 use Rattle.kr_board.specs.Boards.{Adds}
-use Rattle.kr_board.proofs.Lists.{when_ok}
 use Rattle.kr_board.proofs.Releasing.{released_sound, released_room}
 use Rattle.kr_board.proofs.board.Board.release.Goals as goal
+use Rattle.kr_core.proofs.Places.{inserted}
 
 pub invariant_of-self : goal.invariant_of-self
 invariant_of-self g c = (released_sound c.self.inside.core _ c.self.inside.log c.push.new.self c.args.seat c.args.segment _ c.give_up_in.new.core c.push.result c.self.invariant.0 c.give_up_in.ensures c.push.ensures.len c.push.ensures.succeeds c.push.ensures.capacity, c.self.invariant.1)
@@ -19,7 +19,7 @@ returns g c =
     let adds : Adds old (GiveUp c.args.seat c.args.segment) Noted [] new = record {
       step = c.give_up_in.ensures;
       kept = refl;
-      logged = when_ok c.push.result c.push.new.self.items _ c.self.inside.log.items c.push.ensures.items (c.push.ensures.succeeds place);
+      logged = inserted c.push.result c.push.new.self.items _ c.self.inside.log.items c.push.ensures.items (c.push.ensures.succeeds place);
       window = refl;
     } in
     subst (λ (o : Held g.row.R.Denot). Adds o (GiveUp c.args.seat c.args.segment) Noted [] new) c.self.view_is adds

@@ -8,6 +8,6 @@ pub returns : goal.returns
 returns c =
     let e : length c.args.self.now ≡ length c.self.inside.items.items = ap length (sym c.self.view_is) ∙ length-reverse c.self.inside.items.items in
     let l : c.len.result ≡ length c.self.inside.items.items = grind (arith, common_steps) in
-    ap reverse c.truncate.ensures.items
+    ap reverse (c.give_back.ensures ∙ c.truncate.ensures.items)
     ∙ reverse_take c.self.inside.items.items (c.len.result - c.args.count) c.args.count (omega (arith, c.requires))
     ∙ ap (drop c.args.count) c.self.view_is

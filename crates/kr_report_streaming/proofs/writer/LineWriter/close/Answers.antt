@@ -1,17 +1,20 @@
+use Rattle.std.proofs.Common.{refl}
 use Rattle.kr_report_streaming.specs.Followed.{followed_by}
 use Rattle.kr_report_streaming.specs.Lines.{entries_answer}
 use Rattle.kr_report_streaming.specs.Traces.{trace_text}
 use Rattle.kr_report_streaming.proofs.Closed.{ended_put, halted, halted_put}
+use Rattle.kr_report_streaming.proofs.Endings.{ends_broken}
 use Rattle.kr_report_streaming.proofs.writer.LineWriter.close.Goals as goal
 
 pub returns-in-Err-clause-ends : goal.returns-in-Err-clause-ends
 returns-in-Err-clause-ends g c = λ a from es h.
-    c.put_halt.ensures (followed_by (trace_text c.args.log.now) (entries_answer c.args.mode.now a.limit es)) from
-    (halted_put g.K.Sink.taken g.K.Sink.faults c.args.mode.now es a c.args.self from c.args.out.now (trace_text c.args.log.now) c.args.put c.in-Err.halt c.in-Err.is h)
+    let answer = entries_answer c.args.mode.now a.limit es in
+    ends_broken answer (followed_by (trace_text c.args.log.now) answer) c.put_halt.result refl
+    (c.put_halt.ensures.ends answer from (halted_put g.K.Sink.taken g.K.Sink.faults c.args.mode.now es a c.args.self from c.args.out.now c.args.put c.in-Err.halt c.in-Err.is h))
 
 pub returns-in-Err-clause-halted : goal.returns-in-Err-clause-halted
-returns-in-Err-clause-halted g c = rw c.in-Err.is (λ a from es text h.
-    c.put_halt.ensures (followed_by text (entries_answer c.args.mode.now a.limit es)) from (halted g.K.Sink.taken g.K.Sink.faults c.args.mode.now es a c.args.self from c.args.out.now text c.in-Err.halt h))
+returns-in-Err-clause-halted g c = rw c.in-Err.is (λ a from es h.
+    c.put_halt.ensures.ends (entries_answer c.args.mode.now a.limit es) from (halted g.K.Sink.taken g.K.Sink.faults c.args.mode.now es a c.args.self from c.args.out.now c.in-Err.halt h))
 
 pub returns-in-Ok-clause-ends : goal.returns-in-Ok-clause-ends
 returns-in-Ok-clause-ends g c = λ a from es h.

@@ -1,0 +1,44 @@
+use Rattle.std.proofs.Common.{◌≡◌, true, refl, sym, subst}
+use Rattle.std.specs.Prelude.{IfOk}
+use Rattle.kr_args.specs.declared.forms.Search.{Search}
+use Rattle.kr_args.specs.declared.forms.Search.TheVariants as searches
+use Rattle.kr_space_problem.specs.Posed.{posed}
+use Rattle.korat_top_reports.specs.Reports.{EndsReport, Reports, is_alone, shard_of, tally_of}
+use Rattle.korat_top_reports.proofs.Reporting.{by_one_ok, reported, reported_ok}
+use Rattle.korat_top_reports.proofs.alone.report_prepared.Goals as goal
+
+pub returns-in-List-clause-ends : goal.returns-in-List-clause-ends
+returns-in-List-clause-ends g c =
+    let taken = g.K.Sink.taken in
+    let faults = g.K.Sink.faults in
+    let P = posed c.args.prepared.now.problem in
+    let ask = c.in-List.ask in
+    let one = subst (λ (s : Search). is_alone s ≡ true) c.in-List.is c.requires in
+    subst (λ (s : Search). IfOk c.list.result (EndsReport taken faults s P c.args.out.now c.list.new.out)) (sym c.in-List.is)
+    (by_one_ok taken faults P c.args.out.now c.list.new.out ask c.list.result one c.list.ensures.ends)
+
+pub returns-in-Test-clause-ends : goal.returns-in-Test-clause-ends
+returns-in-Test-clause-ends g c =
+    let taken = g.K.Sink.taken in
+    let faults = g.K.Sink.faults in
+    let P = posed c.args.prepared.now.problem in
+    let ask = c.in-Test.ask in
+    let one = subst (λ (s : Search). is_alone s ≡ true) c.in-Test.is c.requires in
+    subst (λ (s : Search). IfOk c.list-in-Test.result (EndsReport taken faults s P c.args.out.now c.list-in-Test.new.out)) (sym c.in-Test.is)
+    (by_one_ok taken faults P c.args.out.now c.list-in-Test.new.out ask c.list-in-Test.result one c.list-in-Test.ensures.ends)
+
+pub returns-in-Demo-clause-ends : goal.returns-in-Demo-clause-ends
+returns-in-Demo-clause-ends g c =
+    let taken = g.K.Sink.taken in
+    let faults = g.K.Sink.faults in
+    let P = posed c.args.prepared.now.problem in
+    subst (λ (s : Search). EndsReport taken faults s P c.args.out.now c.count_alone.new.out c.count_alone.result) (sym c.in-Demo.is)
+    (reported taken faults P c.args.out.now c.count_alone.new.out c.count_alone.result (Reports (searches.Demo c.in-Demo.n c.in-Demo.workers) P) (tally_of c.in-Demo.n P) refl c.count_alone.ensures.ends)
+
+pub returns-in-Shard-clause-ends : goal.returns-in-Shard-clause-ends
+returns-in-Shard-clause-ends g c =
+    let taken = g.K.Sink.taken in
+    let faults = g.K.Sink.faults in
+    let P = posed c.args.prepared.now.problem in
+    subst (λ (s : Search). IfOk c.shard.result (EndsReport taken faults s P c.args.out.now c.shard.new.out)) (sym c.in-Shard.is)
+    (reported_ok taken faults P c.args.out.now c.shard.new.out (Reports (searches.Shard c.in-Shard.ask) P) (shard_of c.in-Shard.ask P) c.shard.result refl c.shard.ensures.ends)

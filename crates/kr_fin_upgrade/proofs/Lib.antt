@@ -1,0 +1,16 @@
+pub mod Examples
+pub mod Maps
+pub mod Puts
+pub mod Ordered
+pub mod Written
+pub mod OneText
+pub mod Fuels
+pub mod Depths
+pub mod Read
+pub mod Identifiers
+pub mod Meant
+pub mod Added
+pub mod Values
+pub mod Kept
+pub mod Stands
+pub mod Carries

@@ -1,6 +1,0 @@
-use Rattle.std.proofs.Common.{◌≡◌}
-use Rattle.kr_pool_desk.specs.Cutting.{cuts_for}
-use Rattle.kr_pool_desk.proofs.cutting.cuts_for.Given as goal
-
-abbrev pub invariant-loop-number : goal.invariant-loop-number
-invariant-loop-number l = l.cuts.items ≡ cuts_for l.span l.number

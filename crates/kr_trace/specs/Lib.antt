@@ -1,0 +1,9 @@
+pub mod Words
+pub mod Checked
+pub mod Worked
+pub mod Codes
+pub mod Files
+pub mod Found
+pub mod Reading
+pub mod Tables
+pub mod Stages

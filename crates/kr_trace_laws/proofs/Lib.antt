@@ -1,0 +1,7 @@
+pub mod Pieces
+pub mod Lines
+pub mod Logs
+pub mod Texts
+pub mod Counted
+pub mod Honest
+pub mod Whole

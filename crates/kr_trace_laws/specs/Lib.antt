@@ -1,0 +1,4 @@
+pub mod Printed
+pub mod Traced
+pub mod Honest
+pub mod Whole
