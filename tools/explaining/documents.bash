@@ -118,6 +118,10 @@ explain_key() {
     objects.*) keys="class count" ;;
     fields.* | params.*) keys="from to" ;;
     esac
+    if [ "$item" = collections ]; then
+        echo "\`[collections]\` is for tools/adapt, which makes a finitization without it: tools/adapt FIN SOURCE.. -o FOLDER"
+        return
+    fi
     if [ -z "$keys" ]; then
         echo "\`$item\` is no key of a finitization$(fixed_keys | nearest "$item")"
         return

@@ -3,8 +3,8 @@
 # refused or warned of as its line says; those of books/, as textbooks and libraries write them; and classes made at random.
 #
 #     tools/tests/meaning.sh              60 of the tables, in one machine
-#     tools/tests/meaning.sh --all [N]    all of the tables and of books/, and N made at random (2,000), and a
-#                                       quarter as many with a method under test
+#     tools/tests/meaning.sh --all [N]    all of the tables and of books/, and N made at random (2,000), a quarter as many with a
+#                                       method under test, and as many of these with collections as fields
 set -u
 . "$(dirname "$(readlink -f "$0")")/common.bash"
 folder=$tools/tests/meaning
@@ -37,7 +37,7 @@ if [ "${1-}" = --all ]; then
     all=yes
     meaning "$folder"/*.table
     meaning --folders "$tools"/tests/books/*/
-    meaning --random "${2:-2000}" --tested $((${2:-2000} / 4))
+    meaning --random "${2:-2000}" --tested $((${2:-2000} / 4)) --held $((${2:-2000} / 4))
 else
     meaning --some 60 "$folder"/*.table
 fi

@@ -332,6 +332,66 @@ junit 'push(1)' "$list/fin.toml" SortedList.java '' '10 0' <"$list/expected"
 junit 'repOk()' "$top/examples/two-stack-queue/fin.toml" "$top/examples/two-stack-queue/TwoStackQueue.java" '' '49 0' <"$top/examples/two-stack-queue/expected"
 junit 'equals(null)' odd.toml my/own/Odd.java my.own. "$(yes 'looked at' | head -n 8)
 8 0" <odd
+cat >Shelf.java <<'END'
+import java.util.ArrayList;
+import java.util.HashMap;
+import java.util.List;
+import java.util.Map;
+
+class Shelf {
+    private final List<Integer> items = new ArrayList<>();
+    private Map<Character, Shelf> parts;
+
+    boolean repOk() {
+        return items.size() == parts.size();
+    }
+
+    void put(int item) {
+        items.add(item);
+        parts.put('z', item > 5 ? this : null);
+        if (parts.get('a') == this) items.clear();
+    }
+}
+END
+cat >shelf.toml <<'END'
+# In what Replay reads, ListOfHeldInt is a java.util.ArrayList of java.lang.Integer.
+# In what Replay reads, MapOfHeldIntToShelf is a java.util.HashMap of java.lang.Character and Shelf.
+root = "Shelf"
+fuel = 1000
+[objects]
+Shelf = 1
+ListOfHeldInt = 1
+CellOfHeldInt = 1
+MapOfHeldIntToShelf = 1
+PairOfHeldIntToShelf = 2
+[fields]
+"Shelf.items" = ["ListOfHeldInt"]
+"Shelf.parts" = ["MapOfHeldIntToShelf"]
+"ListOfHeldInt.first" = ["null", "CellOfHeldInt"]
+"ListOfHeldInt.size" = [0, 1]
+"CellOfHeldInt.item" = [5, 6]
+"CellOfHeldInt.next" = ["null", "CellOfHeldInt"]
+"MapOfHeldIntToShelf.first" = ["null", "PairOfHeldIntToShelf"]
+"MapOfHeldIntToShelf.size" = [{ from = 0, to = 2 }]
+"PairOfHeldIntToShelf.key" = [98, 97]
+"PairOfHeldIntToShelf.value" = ["Shelf"]
+"PairOfHeldIntToShelf.next" = ["null", "PairOfHeldIntToShelf"]
+END
+{
+    echo '0 Shelf#0{items=ListOfHeldInt#0,parts=MapOfHeldIntToShelf#0} ListOfHeldInt#0{first=null,size=0} MapOfHeldIntToShelf#0{first=null,size=0}'
+    for item in 5 6; do
+        for key in 97 98; do
+            echo "$item.$key Shelf#0{items=ListOfHeldInt#0,parts=MapOfHeldIntToShelf#0} ListOfHeldInt#0{first=CellOfHeldInt#0,size=1} MapOfHeldIntToShelf#0{first=PairOfHeldIntToShelf#0,size=1} CellOfHeldInt#0{item=$item,next=null} PairOfHeldIntToShelf#0{key=$key,value=Shelf#0,next=null}"
+        done
+    done
+    echo 'valid 5 tried 20'
+} >shelf
+rows 0 'agree 5' --all shelf.toml Shelf.java <shelf
+rows 0 'agree 5' --all --plain shelf.toml Shelf.java <shelf
+rows 1 $'missing Shelf#0{items=ListOfHeldInt#0,parts=MapOfHeldIntToShelf#0} ListOfHeldInt#0[5] MapOfHeldIntToShelf#0[98,Shelf#0]\nagree 4 differ 1' --all shelf.toml Shelf.java < <(grep -v '^5.98' shelf)
+refused "a collection that isn't whole" shelf.toml Shelf.java < <(sed 's/size=1/size=2/' shelf)
+refused "a collection that isn't whole" shelf.toml Shelf.java < <(sed 's/item=5,next=null/item=5,next=CellOfHeldInt#0/' shelf)
+junit 'put(6)' shelf.toml Shelf.java '' '3 2' <shelf
 refused 'no test with insrt(3): ' --junit 'insrt(3)' "$list/fin.toml" SortedList.java <"$list/expected"
 
 # ---- wrong words and files

@@ -84,6 +84,7 @@ final class Aliases {
         ExpressionTree bare = Program.bare(tree);
         while (bare instanceof TypeCastTree cast) bare = Program.bare(cast.getExpression());
         Element element = program.element(bare);
+        if (kinds.held.ofKind(kinds.of(bare)) != null) return Kinds.partOf(kinds.of(bare));
         if (element instanceof VariableElement) return kinds.flow.root(element);
         if (bare instanceof MethodInvocationTree call && program.isOwn(element)) return kinds.flow.root(element);
         return kinds.of(tree).replaceAll("^(Linked|Sorted|Deque)?(List|Set|Map|Deque)?Of", "");
@@ -127,6 +128,7 @@ final class Aliases {
     /** Whether a collection may be one in the order of hashes. */
     boolean isHashed(ExpressionTree tree) {
         String kind = kinds.of(tree);
+        if (kinds.held.ofKind(kind) != null) return kinds.held.ofKind(kind).type().startsWith("Hash");
         if (!kind.matches("HashSet<.*|SetOf.*|MapOf.*")) return kind.matches("LinkedList<.*|ListOf.*") && madeBy(tree, "HashSet|Set.of", false);
         return madeBy(tree, "LinkedHashSet|LinkedHashMap|TreeSet|TreeMap", true);
     }

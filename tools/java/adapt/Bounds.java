@@ -31,6 +31,7 @@ final class Bounds {
         fin = document;
         String none = kinds.hasNone() ? "# In what Replay reads, null is " + Kinds.NONE + ".\n" : "";
         String version = fin.written().second() ? "version = 2\n" : "";
+        for (Held.One one : kinds.held.all()) none += "# In what Replay reads, " + one.made() + " is a java.util." + one.type() + " of " + String.join(" and ", one.real()) + ".\n";
         StringBuilder text = new StringBuilder(none + version + "root = \"" + fin.written().root() + "\"\nfuel = " + fin.fuel() + "\n");
         table(text, "objects", objects());
         table(text, "arrays", arrays());
@@ -51,9 +52,31 @@ final class Bounds {
         fin.written().domains().forEach((name, domain) -> {
             TypeElement type = program.classes.get(domain.type());
             if (type != null && type.getKind() == ElementKind.ENUM) return;
-            result.put(name, fin.written().second() ? "{ class = \"" + domain.type() + "\", count = " + domain.count() + " }" : String.valueOf(domain.count()));
+            result.put(name, counted(domain.type(), domain.count()));
         });
+        for (Held.One one : kinds.held.all()) {
+            result.put(one.made(), counted(one.made(), kinds.held.count(one)));
+            result.put(one.cell(), counted(one.cell(), kinds.held.cells(one)));
+            notes.changed(fin.name(), one.name() + " became the class " + one.made());
+        }
         return result;
+    }
+
+    private String counted(String type, long count) {
+        return fin.written().second() ? "{ class = \"" + type + "\", count = " + count + " }" : String.valueOf(count);
+    }
+
+    /** The fields of a collection and of its cells. */
+    private void addCollection(Map<String, String> result, Held.One one) {
+        result.put(one.base() + ".first", "[\"null\", \"" + one.cell() + "\"]");
+        result.put(one.base() + ".size", domain(kinds.held.sizes(one), null, ""));
+        List<String> slots = one.isMap() ? List.of(".key", ".value") : List.of(".item");
+        for (int i = 0; i < slots.size(); i++) {
+            List<Object> items = fin.written().fields().getOrDefault(one.keys().get(i), List.of());
+            checkRange(one.keys().get(i), items, one.real().get(i));
+            result.put(one.cell() + slots.get(i), domain(items, program.classes.get(one.real().get(i)), one.members().get(i)));
+        }
+        result.put(one.cell() + ".next", "[\"null\", \"" + one.cell() + "\"]");
     }
 
     private Map<String, String> arrays() {
@@ -90,6 +113,7 @@ final class Bounds {
         Map<String, String> result = new LinkedHashMap<>();
         fin.written().fields().forEach((key, items) -> {
             VariableElement field = kinds.field(key);
+            if (fin.collections().containsKey(key.substring(0, Math.max(key.lastIndexOf('.'), 0)))) return;
             if (key.endsWith("[].*")) {
                 String name = key.substring(0, key.length() - 2);
                 String kind = kinds.arrayKind(name);
@@ -109,6 +133,7 @@ final class Bounds {
             }
         });
         addOuters(result);
+        kinds.held.all().forEach(one -> addCollection(result, one));
         return result;
     }
 
@@ -195,6 +220,7 @@ final class Bounds {
     private String text(Object item) {
         if (item instanceof Map<?, ?> range) return "{ from = " + range.get("from") + ", to = " + range.get("to") + " }";
         if (!(item instanceof String name)) return String.valueOf(item);
+        if (fin.collections().containsKey(name) && kinds.held.of(name) != null) return "\"" + kinds.held.of(name).made() + "\"";
         return "\"" + (name.endsWith("[]") ? Kinds.printed(kinds.arrayKind(name)) : name) + "\"";
     }
 }

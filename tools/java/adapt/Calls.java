@@ -250,11 +250,30 @@ final class Calls {
         List<String> texts = new ArrayList<>();
         for (int i = 0; i < tree.getArguments().size(); i++) {
             boolean number = byIndex && i == 0;
-            texts.add(argument(tree, i, all ? "" : number ? "int" : element));
+            texts.add(all ? members(tree.getArguments().get(i), name.equals("addAll") ? kind : kinds.list(element)) : argument(tree, i, number ? "int" : element));
         }
-        String result = expressions.operand(kinds.receiver(tree)) + "." + name + "(" + String.join(", ", texts) + ")";
+        String receiver = name.equals("containsAll") ? Expressions.tight(members(kinds.receiver(tree), kinds.list(element))) : expressions.operand(kinds.receiver(tree));
+        String result = receiver + "." + name + "(" + String.join(", ", texts) + ")";
         if (name.equals("add") && stack && !(program.parent(tree) instanceof ExpressionStatementTree)) return null;
         return result;
+    }
+
+    /** A collection as one of the same classes as another: the same, or its members in a new one. */
+    private String members(ExpressionTree tree, String like) {
+        String kind = kinds.of(tree);
+        Held.One from = kinds.held.ofKind(kind);
+        Held.One to = kinds.held.ofKind(like);
+        String member = kinds.elementOf(kind);
+        String wanted = kinds.elementOf(like);
+        boolean boxed = Kinds.isBox(wanted) && Kinds.unboxOf(wanted).equals(member);
+        boolean mayBeNull = Kinds.isBox(member) && Kinds.isBoxable(wanted);
+        if ((from != null || to != null || mayBeNull) && !member.equals(wanted) && !boxed)
+                return rewriter.refused(tree, "members that may be null, given to the collection of a candidate or looked for in it", "go through them by a loop");
+        if (from == to) return rewriter.of(tree);
+        library.need(kinds, kind, expressions);
+        String made = to == null ? rewriter.type(tree, like) : to.made();
+        if (to != null) library.need(kinds, made, expressions);
+        return library.copyOfMembers(from == null ? "ListOf" + Kinds.partOf(kind) : from.base(), kinds.cellOf(kind), made, boxed ? "new " + library.box(wanted) + "(cell.item)" : "cell.item") + "(" + rewriter.of(tree) + ")";
     }
 
     private static String onList(String call, boolean byIndex) {
@@ -324,11 +343,13 @@ final class Calls {
     // ---- collections that are made
 
     String newCollection(NewClassTree tree, TypeElement type) {
-        String kind = kinds.kind(program.type(tree));
+        Held.One held = kinds.heldBy(tree);
+        String kind = held != null ? held.kind() : kinds.kind(program.type(tree));
         if (!kinds.isList(kind) && !kinds.isMap(kind))
                 return rewriter.type(tree, kind.startsWith("?") ? kind : "?" + type.getSimpleName());
         String element = kinds.elementOf(kind);
-        if (type.getSimpleName().contentEquals("ArrayDeque") && !element.equals("int")) kind = kinds.added("DequeOf", element);
+        if (held != null) kind = held.made();
+        else if (type.getSimpleName().contentEquals("ArrayDeque") && !element.equals("int")) kind = kinds.added("DequeOf", element);
         rewriter.type(tree, kind);
         if (tree.getArguments().size() > 2 || tree.getArguments().size() == 2 && !(tree.getArguments().get(1) instanceof LiteralTree))
                 return rewriter.refused(tree, "`new " + type.getSimpleName() + "` with these arguments", "make it without them");
@@ -341,7 +362,7 @@ final class Calls {
         if (!kinds.isList(argument) || kinds.isMap(kind))
                 return rewriter.refused(tree, "a collection made of " + program.text(tree.getArguments().get(0)),
                 "add the members one by one");
-        return "new " + kind + "().withAll(" + rewriter.of(tree.getArguments().get(0)) + ")";
+        return "new " + kind + "().withAll(" + members(tree.getArguments().get(0), held != null ? held.kind() : kinds.kind(program.type(tree))) + ")";
     }
 
     /** A collection that is made with a capacity, which may not be negative but for an ArrayDeque. */

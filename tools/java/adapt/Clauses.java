@@ -1,6 +1,7 @@
 package adapt;
 
 import com.sun.source.tree.BlockTree;
+import com.sun.source.tree.ExpressionTree;
 import com.sun.source.tree.IfTree;
 import com.sun.source.tree.MethodTree;
 import com.sun.source.tree.StatementTree;
@@ -85,6 +86,19 @@ final class Clauses {
             if (member instanceof ExecutableElement method && member.getSimpleName().contentEquals(name) && program.isOwn(member)) tested = method;
         }
         return tested;
+    }
+
+    /** The expressions of a method's contract. */
+    static List<ExpressionTree> conditions(Program program, MethodTree method) {
+        List<ExpressionTree> found = new ArrayList<>();
+        for (StatementTree first : method.getBody().getStatements()) {
+            if (!(first instanceof IfTree block) || !isBlock(program, block)) break;
+            for (StatementTree statement : ((BlockTree) block.getThenStatement()).getStatements()) {
+                VariableTree variable = (VariableTree) statement;
+                if (!variable.getName().contentEquals(RESULT)) found.add(variable.getInitializer());
+            }
+        }
+        return found;
     }
 
     static boolean isBlock(Program program, IfTree tree) {

@@ -58,6 +58,7 @@ final class Expressions extends SimpleTreeVisitor<String, Void> {
     /** The variables of patterns by their names in the adapted code. */
     private final Map<Element, String> patterns = new HashMap<>();
     private final Calls calls;
+    final Wholeness wholeness;
 
     Expressions(Rewriter rewriter, Program program, Kinds kinds, Reach reach, Library library, Notes notes, MethodNames names, Outers outers) {
         this.outers = outers;
@@ -69,6 +70,7 @@ final class Expressions extends SimpleTreeVisitor<String, Void> {
         this.notes = notes;
         this.names = names;
         calls = new Calls(rewriter, this, program, kinds, library, notes);
+        wholeness = new Wholeness(this, program, kinds, reach, library);
     }
 
     @Override
@@ -88,7 +90,11 @@ final class Expressions extends SimpleTreeVisitor<String, Void> {
             if (Kinds.isBoxable(wanted))
                     return rewriter.refused(tree, "null where the values are numbers", "use a number that stands for none");
         }
-        return converted(rewriter.of(tree), kinds.of(tree), wanted);
+        String kind = kinds.of(tree);
+        boolean other = !kind.equals(wanted) && (kinds.isList(wanted) || kinds.isMap(wanted)) && (kinds.isList(kind) || kinds.isMap(kind))
+                && kinds.held.ofKind(kind) != kinds.held.ofKind(wanted);
+        if (other) return rewriter.refused(tree, "a candidate's collection `" + program.text(tree) + "` among others", "copy it by `new`");
+        return converted(rewriter.of(tree), kind, wanted);
     }
 
     /** A text of a kind as a value of another. */
@@ -522,6 +528,9 @@ final class Expressions extends SimpleTreeVisitor<String, Void> {
             notes.changed(program.place(tree), "the cast to " + type + " became arithmetic");
             return range.replace("#", operand(tree.getExpression()));
         }
+        boolean collection = kinds.isList(kind) || kinds.isMap(kind);
+        if (collection && !program.types.isSubtype(program.types.erasure(program.type(tree.getExpression())), program.types.erasure(type)))
+                return rewriter.refused(tree, "a cast of a collection to " + type, "declare the variable with its own class");
         if (kind.startsWith("?") || kind.equals(from) && !type.getKind().isPrimitive())
                 return rewriter.of(tree.getExpression());
         if (kinds.isAdded(kind) || kind.endsWith(">") || kind.endsWith("[]")) return rewriter.of(tree.getExpression());
@@ -533,6 +542,7 @@ final class Expressions extends SimpleTreeVisitor<String, Void> {
         if (tree.getPattern() != null) return pattern(tree);
         String kind = kinds.kind(program.type(tree.getType()));
         String from = kinds.of(tree.getExpression());
+        if (kinds.isList(kind) || kinds.isMap(kind)) return rewriter.refused(tree, "`instanceof` of a collection", "leave it out");
         if (Kinds.isBoxable(kind) && kind.equals(from)) return "!" + absent(tree.getExpression(), from);
         if (Kinds.isBoxable(kind) && Kinds.boxOf(kind).equals(from) || Kinds.isEnum(kind) && kind.equals(from))
                 return "(" + rewriter.of(tree.getExpression()) + (Kinds.isEnum(kind) ? " >= 0)" : " != null)");

@@ -10,7 +10,7 @@ import javax.lang.model.element.TypeElement;
  * its class's.
  */
 record Finitization(String name, String root, long fuel, Map<String, Long> objects,
-        Map<String, Map<String, Object>> arrays, Map<String, List<Object>> fields, Map<String, List<Object>> params, Written written) {
+        Map<String, Map<String, Object>> arrays, Map<String, Map<String, Object>> collections, Map<String, List<Object>> fields, Map<String, List<Object>> params, Written written) {
 
     /** An object domain: the class of its objects, and how many there are. */
     record Domain(String type, long count) {}
@@ -42,6 +42,7 @@ record Finitization(String name, String root, long fuel, Map<String, Long> objec
             boolean second = Long.valueOf(2).equals(document.get("version"));
             check(document, "objects", second ? Map.class : Long.class);
             check(document, "arrays", Map.class);
+            check(document, "collections", Map.class);
             check(document, "fields", List.class);
             check(document, "params", List.class);
             Map<String, Domain> domains = new LinkedHashMap<>();
@@ -51,6 +52,7 @@ record Finitization(String name, String root, long fuel, Map<String, Long> objec
                     (Map<String, List<Object>>) document.getOrDefault("params", Map.of()));
             return new Finitization(path, written.classOf(written.root()), (Long) document.get("fuel"), written.counts(),
                     (Map<String, Map<String, Object>>) document.getOrDefault("arrays", Map.of()),
+                    (Map<String, Map<String, Object>>) document.getOrDefault("collections", Map.of()),
                     written.ofClasses(written.fields()), written.ofClasses(written.params()), written);
         } catch (IllegalArgumentException | ClassCastException | NullPointerException e) {
             String where = e instanceof IllegalArgumentException ? " (" + e.getMessage() + ")" : "";

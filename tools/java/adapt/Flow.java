@@ -77,6 +77,11 @@ final class Flow {
         return find(element);
     }
 
+    /** What stands for an expression and all that flows together with it. */
+    Object root(ExpressionTree tree) {
+        return find(node(tree));
+    }
+
     /** The variables that may hold the same as one. */
     List<Element> sharing(Element element) {
         Object root = find(element);

@@ -60,6 +60,7 @@ final class Kinds {
     final Program program;
     final Finitization fin;
     final Flow flow;
+    final Held held;
     private final Notes notes;
     /** What the finitization says of fields whose declared types don't tell. */
     private final Map<Element, String> given = new HashMap<>();
@@ -74,13 +75,17 @@ final class Kinds {
     private final Map<Element, ExpressionTree> loops = new HashMap<>();
     private final Set<String> boxedMembers = new HashSet<>();
     private final Map<Element, Set<Element>> linked = new HashMap<>();
+    /** What stands for the variables that hold a candidate's collection, with its name. */
+    private final Map<Object, String> heldRoots = new HashMap<>();
 
     Kinds(Program program, Finitization fin, Notes notes) {
         this.program = program;
         this.fin = fin;
         this.notes = notes;
         flow = new Flow(program);
+        held = new Held(program, this, fin);
         fin.fields().forEach(this::learnField);
+        held.all();
     }
 
     // ---- what the finitization tells
@@ -97,6 +102,7 @@ final class Kinds {
         VariableElement field = field(key);
         if (field == null) return;
         TypeMirror type = field.asType();
+        if (held.has(field)) learnMembers(field, held.fields().get(field));
         String kind = ofDomain(domain);
         if (domain.equals(List.of("null")) && type instanceof DeclaredType && kind(type).startsWith("?")) given.put(field, fin.root());
         if (kind.startsWith("?") || !isOpen(type)) return;
@@ -107,6 +113,16 @@ final class Kinds {
                 && kind.endsWith("[]")) {
             bind(program.types.asElement(array.getComponentType()), kind.substring(0, kind.length() - 2).replace("~", ""));
         } else if (kind(type).startsWith("?")) given.put(field, kind);
+    }
+
+    /** Learns what type parameters are from the members of a collection. */
+    private void learnMembers(VariableElement field, String name) {
+        List<? extends TypeMirror> arguments = held.argumentsOf(field);
+        for (int i = 0; i < arguments.size(); i++) {
+            String key = name + (arguments.size() == 1 ? ".*" : i == 0 ? ".key" : ".value");
+            String kind = ofDomain(fin.fields().getOrDefault(key, List.of()));
+            if (arguments.get(i).getKind() == TypeKind.TYPEVAR && !kind.startsWith("?")) bind(program.types.asElement(arguments.get(i)), kind);
+        }
     }
 
     /** What the values of a domain are. */
@@ -305,7 +321,7 @@ final class Kinds {
         if (Set.of("java.lang.Integer", "java.lang.Short", "java.lang.Byte", "java.lang.Character").contains(whole))
                 return "int";
         if (whole.equals("java.lang.Boolean")) return "boolean";
-        List<String> arguments = type.getTypeArguments().stream().map(this::kind).map(kind -> boxedMembers.contains(kind) ? boxOf(kind) : kind).toList();
+        List<String> arguments = type.getTypeArguments().stream().map(this::member).toList();
         if (!whole.matches("java\\.(util|lang)\\..*") || arguments.isEmpty()) return "?" + name;
         Optional<String> missing = arguments.stream().filter(kind -> kind.startsWith("?")).findFirst();
         if (missing.isPresent() && !name.equals("Comparable")) return missing.get();
@@ -320,6 +336,12 @@ final class Kinds {
         if (SORTED_MAPS.contains(name)) return pair("SortedMap", arguments);
         if (MAPS.contains(name)) return pair("Map", arguments);
         return whole.equals("java.util.Map.Entry") ? pair("Pair", arguments) : "?" + name;
+    }
+
+    /** The kind of a collection's members. */
+    String member(TypeMirror type) {
+        String kind = kind(type);
+        return boxedMembers.contains(kind) ? boxOf(kind) : kind;
     }
 
     String list(String element) {
@@ -345,9 +367,34 @@ final class Kinds {
         return name;
     }
 
+    /** Members within the names of the classes of a candidate's collection, which no other has. */
+    String heldPart(List<String> members) {
+        String wanted = "Held" + members.stream().map(Kinds::mangled).collect(java.util.stream.Collectors.joining("To"));
+        String name = wanted;
+        for (int i = 2; isTaken(name) || program.classes.containsKey(name) || elements.containsKey("ListOf" + name) || elements.containsKey("MapOf" + name); i++) name = wanted + i;
+        return name;
+    }
+
+    /** Says what the members of a candidate's collection are, by the names of its classes. */
+    void register(Held.One one) {
+        String members = String.join(" ", one.members());
+        for (String prefix : one.isMap() ? List.of("MapOf", "PairOf") : List.of("ListOf", "SetOf", "DequeOf", "IteratorOf")) elements.put(prefix + one.part(), members);
+        elements.put(one.kind(), members);
+    }
+
+    /** The class of a collection's cells. */
+    String cellOf(String kind) {
+        return kind.endsWith(">") ? "CellOf" + part(elementOf(kind)) : (isMap(kind) ? "PairOf" : "CellOf") + partOf(kind);
+    }
+
+    /** What is behind the prefix of an added class. */
+    static String partOf(String kind) {
+        return kind.replaceFirst("^(Sorted|Linked)?(List|Set|Map|Deque|Cell|Pair|Iterator)Of", "");
+    }
+
     private boolean isTaken(String part) {
         return program.classes.keySet().stream().anyMatch(name ->
-                name.matches("(List|(Linked|Sorted)?Set|Deque|Cell|Iterator|Array|Slot)Of" + java.util.regex.Pattern.quote(part)));
+                name.matches("(List|(Linked|Sorted)?(Set|Map)|Deque|Cell|Pair|Iterator|Array|Slot)Of" + java.util.regex.Pattern.quote(part)));
     }
 
     static String mangled(String kind) {
@@ -401,14 +448,48 @@ final class Kinds {
 
     String of(Element element) {
         if (element instanceof ExecutableElement method && program.recordField(method) != null) return read(of(program.recordField(method)));
+        Held.One collection = heldBy(element);
+        if (collection != null) return collection.kind();
         TypeMirror type = element instanceof ExecutableElement method ? method.getReturnType() : element.asType();
         String kind = given.containsKey(element) ? given.get(element) : kind(type);
         if (kind.endsWith("[]") && flow.isScratch((Object) element)) return scratch(kind, type);
-        if (kind.startsWith("?") && isOpen(type) || kind.startsWith("IteratorOf")) return inferred(element, kind);
+        if (kind.startsWith("PairOf") && loops.containsKey(element)) return pairOf(loops.get(element), kind);
+        if (kind.startsWith("?") && isOpen(type) || kind.matches("(Iterator|Pair)Of.*")) return inferred(element, kind);
         if (!isBoxable(kind) || type.getKind().isPrimitive()) return kind;
         if (element.getKind() == ElementKind.FIELD && fin.counts(program, Program.classOf(element)))
                 return mayBeNullInCandidates(element) ? "~" + kind : kind;
         return isNullable(element) ? boxOf(kind) : kind;
+    }
+
+    /** The class of the pairs that a loop over a map's entries goes through. */
+    private String pairOf(ExpressionTree over, String declared) {
+        ExpressionTree map = Program.bare(over) instanceof MethodInvocationTree call ? receiver(call) : null;
+        String kind = map == null ? "?" : of(map);
+        return isMap(kind) ? "PairOf" + partOf(kind) : declared;
+    }
+
+    // ---- the collections of candidates
+
+    /** Finds the variables that hold the collections of candidates' fields, once it is known what flows where. */
+    void settleHeld() {
+        held.fields().forEach((field, name) -> {
+            String other = heldRoots.putIfAbsent(flow.root(field), name);
+            if (other != null && !other.equals(name)) notes.refuse(program.place(program.trees.getTree(field)),
+                    "the collections " + other + " and " + name + " meet in one variable", "use a variable for each, or one name in the finitization");
+        });
+    }
+
+    /** The collection of candidates that a variable holds, or null. */
+    Held.One heldBy(Element element) {
+        if (element instanceof VariableElement field && held.has(field)) return held.of(field);
+        String name = heldRoots.isEmpty() ? null : heldRoots.get(flow.root(element));
+        return name == null ? null : held.of(name);
+    }
+
+    /** The collection of candidates that an expression may be, or null. */
+    Held.One heldBy(ExpressionTree tree) {
+        String name = heldRoots.isEmpty() ? null : heldRoots.get(flow.root(tree));
+        return name == null ? null : held.of(name);
     }
 
     /** Whether the type of a variable says less than what comes into it. */
@@ -539,6 +620,7 @@ final class Kinds {
             return kind.endsWith("[]") && flow.isScratch(bare) ? scratch(kind, program.type(bare)) : kind;
         }
         if (bare instanceof LambdaExpressionTree lambda) return program.nameOf(lambda);
+        if ((bare instanceof com.sun.source.tree.NewClassTree || bare instanceof TypeCastTree) && heldBy(bare) != null) return heldBy(bare).kind();
         if (bare instanceof NewArrayTree && flow.isScratch(bare)) return scratch(kind(program.type(bare)), program.type(bare));
         TypeMirror type = program.type(bare);
         String kind = type == null ? "?" : kind(type);
@@ -615,6 +697,7 @@ final class Kinds {
         }
         String kind = of(receiver);
         String name = method.getSimpleName().toString();
+        if (isList(kind) && !kind.endsWith(">") && name.equals("iterator")) return "IteratorOf" + partOf(kind);
         if (isAdded(kind) && kind.startsWith("PairOf")) return elements.get(kind).split(" ")[name.equals("getKey") ? 0 : 1];
         if (isBoxable(declared) && !method.getReturnType().getKind().isPrimitive()) {
             String member = isMap(kind) ? elementOf(kind).replaceFirst(".* ", "") : isList(kind) || kind.startsWith("IteratorOf") ? elementOf(kind) : declared;

@@ -81,6 +81,7 @@ final class Library {
     private final Map<String, String> methods = new LinkedHashMap<>();
     private final Map<String, String> classes = new TreeMap<>();
     private final Set<String> taken = new HashSet<>();
+    private final Set<String> kept = new HashSet<>();
     TypeElement host;
 
     Library(Program program) {
@@ -150,6 +151,17 @@ final class Library {
                         + "(end - start); for (int i = start; i < end && i < from.length; i++) made.set(i - start, from[i]); return made; }");
     }
 
+    /** A method that gives the members of a collection in one of another class. */
+    String copyOfMembers(String from, String cell, String made, String member) {
+        return add("membersOf" + from + "In" + made, "static " + made + " $(" + from + " from) { " + made + " made = new " + made + "(); for (" + cell
+                + " cell = from.first; cell != null; cell = cell.next) made.add(" + member + "); return made; }");
+    }
+
+    /** A method of its own text, in which `$` is its name. */
+    String own(String wanted, String text) {
+        return add(wanted, text);
+    }
+
     /** A method that gives a constant that has to be there. */
     String presentConstant() {
         String type = Program.outermost(host).getSimpleName().toString();
@@ -167,9 +179,14 @@ final class Library {
         classes.put(name, text.apply(name));
     }
 
+    /** Keeps a class that the finitization alone names. */
+    void keep(String type) {
+        kept.add(type);
+    }
+
     /** The added classes, with those of their methods that the sources come to use. */
     String classes(Collection<String> sources) {
-        StringBuilder used = new StringBuilder(String.join("\n", sources));
+        StringBuilder used = new StringBuilder(String.join("\n", sources) + "\n" + String.join("\n", this.kept));
         Map<String, List<String>> kept = new TreeMap<>();
         boolean more = true;
         while (more) {
@@ -210,7 +227,8 @@ final class Library {
     }
 
     private void collection(Kinds kinds, String kind, String element, Expressions expressions) {
-        String of = kinds.part(element);
+        String of = Kinds.partOf(kind);
+        Held.One held = kinds.held.ofKind(kind);
         String equality = expressions.equality(element);
         Map<String, String> words = of("$L", "ListOf" + of, "$C", "CellOf" + of, "$X", kinds.qualified(element), "$E",
                 names(equality, "item", "cell.item"), "$H", names(expressions.hashEquality(element), "item", "cell.item"),
@@ -222,7 +240,8 @@ final class Library {
         add("IteratorOf" + of, name -> Templates.fill(Templates.ITERATOR, words));
         if (kind.matches("(Sorted|Linked)?SetOf.*")) {
             boolean hashed = kinds.hasEquals(element);
-            add("SetOf" + of, name -> Templates.fill(Templates.SET.replace("$N", name).replace("$F\n", hashed ? Templates.FIND : ""), words));
+            String set = held != null && held.isAscending() ? Templates.SET.replace(Templates.APPENDING, Templates.INSERTING) : Templates.SET;
+            add("SetOf" + of, name -> Templates.fill(set.replace("$N", name).replace("$F\n", hashed ? Templates.FIND : ""), words));
         }
         if (kind.startsWith("LinkedSetOf")) add(kind, name -> Templates.fill(Templates.LINKED_SET.replace("$B", "SetOf" + of), words));
         if (kind.startsWith("SortedSetOf")) add(kind, name -> Templates.fill(Templates.SORTED.replace("$B", "SetOf" + of), words));
@@ -246,7 +265,7 @@ final class Library {
     }
 
     /** Whether the first of two comes before the second in a sorted collection. */
-    private static String isLess(String element, String a, String b) {
+    static String isLess(String element, String a, String b) {
         String value = Kinds.isBox(element) ? ".value" : "";
         String plain = Kinds.unboxOf(element);
         if (plain.equals("int") || Kinds.isEnum(element)) return a + value + " < " + b + value;
@@ -273,7 +292,9 @@ final class Library {
                 "$D", isLess(sides[0], "pair.key", "key"), "$S", isLevel(sides[0], "pair.key", "key"));
         words.putAll(absence(kinds, sides[1]));
         add("PairOf" + of, name -> Templates.fill(Templates.PAIR, words));
-        add("MapOf" + of, name -> Templates.fill(Templates.MAP, words)
+        Held.One held = kinds.held.ofKind(kind);
+        String plain = held != null && held.isAscending() ? Templates.MAP.replaceFirst("(?m)^ *void append.*$", java.util.regex.Matcher.quoteReplacement(Templates.INSERTING_PAIR)) : Templates.MAP;
+        add("MapOf" + of, name -> Templates.fill(plain, words)
                 + (sides[1].equals("int") ? Templates.fill(Templates.SUM, words) : "") + "}\n");
         if (kind.startsWith("LinkedMapOf")) add(kind, name -> "// A map.\nclass " + name + " extends MapOf" + of + " { }\n");
         if (kind.startsWith("SortedMapOf")) add(kind, name -> Templates.fill(Templates.SORTED_MAP, words));

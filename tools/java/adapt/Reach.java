@@ -57,6 +57,7 @@ final class Reach {
     private final List<EnhancedForLoopTree> loops = new ArrayList<>();
     private final List<ExpressionTree> creations = new ArrayList<>();
     private final List<Tree> writes = new ArrayList<>();
+    private final List<NewClassTree> collections = new ArrayList<>();
     ExecutableElement predicate;
     ExecutableElement tested;
     private boolean predicateIsCalled;
@@ -88,9 +89,12 @@ final class Reach {
         fin.fields().keySet().stream().map(kinds::field).filter(Objects::nonNull).forEach(this::keepField);
         reach(predicate);
         close();
+        if (method != null) reachContract(root, method);
         List<TypeElement> pureMade = List.copyOf(made);
         List<Tree> pureWrites = List.copyOf(writes);
         List<ExpressionTree> pureCreations = List.copyOf(creations);
+        List<MethodInvocationTree> pureCalls = List.copyOf(calls);
+        List<NewClassTree> pureCollections = List.copyOf(collections);
         if (method != null) {
             reachTested(root, method);
             close();
@@ -99,7 +103,47 @@ final class Reach {
         boxMembers();
         kinds.flow.settle(creations.stream().filter(creation -> isScratch(creation, pureCreations.contains(creation)))
                 .toList(), kinds.linked());
+        kinds.settleHeld();
         refuseImpure(pureMade, pureWrites);
+        kinds.held.check(notes);
+        pureCalls.forEach(this::refuseChange);
+        calls.forEach(this::refuseNumbersOrNull);
+        calls.stream().filter(call -> kinds.heldBy(call) != null).forEach(call -> refuseOther(call, call.getMethodSelect().toString()));
+        for (NewClassTree made : collections) refuseMade(made, pureCollections.contains(made));
+        if (tested != null) tested.getParameters().stream().filter(parameter -> kinds.heldBy(parameter) != null).forEach(parameter ->
+                notes.refuse(program.place(program.trees.getTree(parameter)), "the parameter `" + parameter + "` is a collection", "pass its members one by one"));
+    }
+
+    // ---- the collections of candidates
+
+    private void refuseChange(MethodInvocationTree call) {
+        ExpressionTree receiver = kinds.receiver(call);
+        if (receiver == null || !Checks.isChange((ExecutableElement) program.element(call)) || !kinds.held.isPart(kinds.of(receiver))) return;
+        notes.refuse(program.place(call), "the predicate changes the collection `" + program.text(receiver) + "` of a candidate", "let repOk leave the candidate as it is");
+    }
+
+    /** Refuses null where a candidate's collection has numbers. */
+    private void refuseNumbersOrNull(MethodInvocationTree call) {
+        ExpressionTree receiver = kinds.receiver(call);
+        Held.One one = receiver == null ? null : kinds.held.ofKind(kinds.of(receiver));
+        if (one == null || one.members().stream().noneMatch(Kinds::isBoxable)) return;
+        for (ExpressionTree argument : call.getArguments()) {
+            String kind = kinds.of(argument);
+            if (Kinds.isBox(kind) || kind.equals("null") && Kinds.isBoxable(one.members().get(Math.min(call.getArguments().indexOf(argument), one.members().size() - 1))))
+                notes.refuse(program.place(call), "a number that may be null, given to the collection " + one.name() + " of a candidate", "test it before, and take its value");
+        }
+    }
+
+    private void refuseMade(NewClassTree made, boolean pure) {
+        Held.One one = kinds.heldBy(made);
+        if (one == null) return;
+        if (pure) notes.refuse(program.place(made), "this collection and the field `" + one.field() + "` meet in one variable", "use a variable for each");
+        else if (!Program.classOf(program.element(made)).getSimpleName().contentEquals(one.type())) refuseOther(made, "new " + Program.classOf(program.element(made)).getSimpleName());
+    }
+
+    private void refuseOther(ExpressionTree tree, String what) {
+        Held.One one = kinds.heldBy(tree);
+        notes.refuse(program.place(tree), "`" + what + "` where the finitization has " + one.name(), "make it by `new " + one.type() + "`");
     }
 
     /** Tells the kinds which methods override others. */
@@ -147,6 +191,15 @@ final class Reach {
         if (type == null || count == 0 || !type.getModifiers().contains(Modifier.ABSTRACT) || type.getKind() == ElementKind.ENUM) return;
         notes.refuse(program.place(program.trees.getTree(type)), type.getSimpleName() + " is abstract, so that no object is one of its own",
                 "count the classes below it, and name one of them where it is the root");
+    }
+
+    /** What a contract reaches is as free of effects as the predicate. */
+    private void reachContract(TypeElement root, String name) {
+        ExecutableElement method = Clauses.tested(program, root, name);
+        MethodTree tree = method == null ? null : program.trees.getTree(method);
+        if (tree == null || tree.getBody() == null) return;
+        Clauses.conditions(program, tree).forEach(condition -> scanner.scan(condition, null));
+        close();
     }
 
     private void reachTested(TypeElement root, String name) {
@@ -443,7 +496,10 @@ final class Reach {
                 flowArguments(constructor, tree.getArguments());
                 reach(constructor);
                 make(Program.classOf(constructor));
-            } else if (Collected.needsOwn(tree)) {
+            } else if (tree.getClassBody() == null && Held.isKnown(Program.classOf(constructor).getSimpleName().toString())) {
+                collections.add(tree);
+            }
+            if (!program.isOwn(constructor) && Collected.needsOwn(tree)) {
                 kinds.own(kinds.elementOf(kinds.kind(program.type(tree))).replaceFirst(" .*", ""));
             }
             if (tree.getClassBody() == null) return super.visitNewClass(tree, nothing);

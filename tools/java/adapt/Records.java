@@ -88,8 +88,9 @@ final class Records {
     private String accessor(ClassTree tree, TypeElement type, VariableElement field) {
         ExecutableElement accessor = program.method(type, field.getSimpleName().toString(), 0);
         if (accessor == null || !reach.kept.contains(accessor) || program.recordField(accessor) == null) return "";
+        String read = expressions.read(field.getSimpleName().toString(), kinds.of(field));
         return " " + rewriter.type(tree, kinds.of(accessor)) + " " + names.of(accessor) + "() { return "
-                + expressions.read(field.getSimpleName().toString(), kinds.of(field)) + "; }";
+                + (kinds.held.has(field) ? expressions.wholeness.read(kinds.held.of(field), read) : read) + "; }";
     }
 
     /** The `equals` that a record has of itself. */

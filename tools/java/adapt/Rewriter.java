@@ -74,7 +74,9 @@ final class Rewriter {
                 return expressions.isDeclared((ExpressionTree) tree) ? program.text(tree) : refusedNumber(tree, type.toString());
         String text = tree.accept(expressions, null);
         boolean place = tree instanceof IdentifierTree || tree instanceof MemberSelectTree || tree instanceof ArrayAccessTree;
-        return place ? expressions.read(text, kinds.placeOf((ExpressionTree) tree)) : text;
+        if (!place) return text;
+        String read = expressions.read(text, kinds.placeOf((ExpressionTree) tree));
+        return kinds.held.has(program.element(tree)) ? expressions.wholeness.read(kinds.held.of((VariableElement) program.element(tree)), read) : read;
     }
 
     private String refusedNumber(Tree tree, String type) {
@@ -230,7 +232,7 @@ final class Rewriter {
             String made = member(group);
             String gap = source.text().substring(at, from);
             boolean contract = reach.tested != null && group.get(0) == program.trees.getTree(reach.tested);
-            if (contract) gap = statements.clauses.contract(gap);
+            if (contract) gap = expressions.wholeness.required(statements.clauses.contract(gap), reach.tested);
             text.append(made == null ? emptied(gap, keptBefore) : keptBefore ? contract ? gap : gap(gap)
                     : behindDropped(gap, contract));
             text.append(padded(made == null ? "" : made, source.text().substring(from, to)));
@@ -491,13 +493,15 @@ final class Rewriter {
         boolean constant = Bounds.isConstant(field);
         boolean isStatic = field.getModifiers().contains(Modifier.STATIC);
         String access = modifiers(tree.getModifiers(), constant ? "static" : "").replace("final ", "").strip();
+        boolean visited = !kinds.held.fields().isEmpty() && kinds.fin.counts(program, type);
+        if (visited) access = access.replace("private", "").strip();
         if (isStatic || constant) return constant(tree, field, kind, access, constant);
         if (hidesAnother(field, type))
                 refused(tree, "the field `" + field + "` hides one of a superclass", "rename one of them");
         boolean counted = kinds.fin.counts(program, type);
-        if (counted && (kinds.isList(kind) || kinds.isMap(kind) || isCollection(field))) {
-            refused(tree, "the field `" + field + "` holds a collection, which no candidate has",
-                    "write an array or linked nodes in its place");
+        if (counted && !kinds.held.has(field) && (kinds.isList(kind) || kinds.isMap(kind) || isCollection(field))) {
+            refused(tree, "the field `" + field + "` holds a collection that the finitization doesn't count",
+                    "count it in [collections], and name it as the value of the field; or write an array or linked nodes in its place");
         } else if (counted && !kinds.fin.fields().containsKey(type.getSimpleName() + "." + field.getSimpleName())) {
             notes.warn(program.place(tree),
                     "the finitization has no values for " + type.getSimpleName() + "." + field.getSimpleName()

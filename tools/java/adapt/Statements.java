@@ -222,7 +222,7 @@ final class Statements extends SimpleTreeVisitor<String, Void> {
         String cell = program.freshName("cell");
         String element = kinds.elementOf(kind);
         library.need(kinds, kind, expressions);
-        return "for (CellOf" + kinds.part(element) + " " + cell + " = " + expressions.operand(tree.getExpression())
+        return "for (" + kinds.cellOf(kind) + " " + cell + " = " + expressions.operand(tree.getExpression())
                 + ".first; " + cell + " != null; " + cell + " = " + cell + ".next) "
                 + body(tree, cell + ".item", element);
     }
@@ -249,7 +249,7 @@ final class Statements extends SimpleTreeVisitor<String, Void> {
                 return rewriter.refused(tree, "a `for` over `" + part + "` of a map", "write it over its entrySet");
         String pair = program.freshName("pair");
         String[] sides = kinds.elementOf(map).split(" ");
-        String type = map.replaceFirst("^.*?MapOf", "PairOf");
+        String type = kinds.cellOf(map);
         library.need(kinds, map, expressions);
         notes.changed(program.place(tree), "`for` over a map became a loop");
         String item = part.equals("entrySet") ? pair : pair + (part.equals("keySet") ? ".key" : ".value");
@@ -538,7 +538,9 @@ final class Statements extends SimpleTreeVisitor<String, Void> {
         if (tree.getExpression() == null)
                 return method.getKind() == ElementKind.CONSTRUCTOR
                 && expressions.isMethod(method) ? "return this;" : rewriter.plain(tree);
-        return "return " + expressions.value(tree.getExpression(), kinds.of(method)) + ";";
+        String value = expressions.value(tree.getExpression(), kinds.of(method));
+        boolean judges = method.equals(reach.predicate) && !kinds.held.fields().isEmpty() && !value.equals("false");
+        return "return " + (judges ? Expressions.tight(value) + " && " + expressions.wholeness.all() + "(this)" : value) + ";";
     }
 
     @Override

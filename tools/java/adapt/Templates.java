@@ -82,6 +82,10 @@ final class Templates {
                 $N withAll($L items) { addAll(items); return this; }
             }
             """;
+    /** How a set gets a member at its end, and how one does whose members stand in ascending order. */
+    static final String APPENDING = "boolean add($X item) { return !contains(item) && super.add(item); }";
+    static final String INSERTING = "boolean add($X item) { if (contains(item)) return false; int index = 0; for ($C after = first; after != null && $D; after = after.next) index++; insert(index, item); return true; }";
+    static final String INSERTING_PAIR = "    void append($K key, $V value) { $Q last = null; for ($Q pair = first; pair != null && $D; pair = pair.next) last = pair; if (last == null) first = new $Q(key, value, first); else last.next = new $Q(key, value, last.next); }";
     static final String FIND = """
                 int indexOf($X item) { int index = 0; for ($C cell = first; cell != null; cell = cell.next) { if ($H) return index; index++; } return -1; }
             """;

@@ -11,6 +11,8 @@ import java.util.LinkedHashSet;
 import java.util.List;
 import java.util.Map;
 import java.util.Set;
+import java.util.regex.Matcher;
+import java.util.regex.Pattern;
 import java.util.stream.Collectors;
 import javax.lang.model.element.ElementKind;
 import javax.lang.model.element.ExecutableElement;
@@ -18,6 +20,7 @@ import javax.lang.model.element.Modifier;
 import javax.lang.model.element.TypeElement;
 import javax.lang.model.element.VariableElement;
 import javax.lang.model.type.ArrayType;
+import javax.lang.model.type.DeclaredType;
 import javax.lang.model.type.TypeKind;
 import javax.lang.model.type.TypeMirror;
 import javax.lang.model.util.ElementFilter;
@@ -32,6 +35,11 @@ final class First {
     private static final String COUNTS = "(?i).*(size|count|length|height|depth|level|rank|degree|capacity|free|used)|n|num.*";
     private static final String PLACES = "(?i).*(head|tail|front|rear|top|first|last|index|next|prev|parent)";
     private static final String BALANCES = "(?i).*balance.*|bf";
+    /** Which collection a field has whose type is none that there are objects of. */
+    private static final Map<String, String> COLLECTIONS = Map.ofEntries(Map.entry("List", "ArrayList"), Map.entry("Collection", "ArrayList"),
+            Map.entry("Iterable", "ArrayList"), Map.entry("Queue", "LinkedList"), Map.entry("Deque", "ArrayDeque"), Map.entry("Set", "HashSet"),
+            Map.entry("SortedSet", "TreeSet"), Map.entry("Map", "HashMap"), Map.entry("SortedMap", "TreeMap"), Map.entry("Stack", "Stack"),
+            Map.entry("Vector", "Vector"), Map.entry("LinkedHashSet", "LinkedHashSet"), Map.entry("LinkedHashMap", "LinkedHashMap"));
     private final Program program;
     private final TypeElement root;
     private final ExecutableElement tested;
@@ -41,6 +49,8 @@ final class First {
     private final Map<String, String> params = new LinkedHashMap<>();
     /** Array types with how many classes' fields hold one. */
     private final Map<String, Integer> arrays = new LinkedHashMap<>();
+    /** Collections by their names. */
+    private final Set<String> collections = new LinkedHashSet<>();
     private final List<VariableElement> open = new ArrayList<>();
 
     First(Program program, TypeElement root, String method) throws Fault {
@@ -82,7 +92,8 @@ final class First {
                 open.remove(field);
                 more = true;
                 String name = field.getSimpleName().toString();
-                fields.put(declaring.getSimpleName() + "." + name, domain(field.asType(), name));
+                String collection = collectionOf(field);
+                fields.put(declaring.getSimpleName() + "." + name, collection != null ? "[\"" + collection + "\"]  # `\"null\"` too, where it may be null" : domain(field.asType(), name));
             }
         }
     }
@@ -110,6 +121,37 @@ final class First {
         below.forEach(this::add);
         String names = below.stream().filter(candidates::contains).map(other -> ", \"" + other.getSimpleName() + "\"").collect(Collectors.joining());
         return "[\"null\"" + names + "]";
+    }
+
+    // ---- collections
+
+    /** The name of the collection that a field holds, whose members get a domain too; null where it holds none. */
+    private String collectionOf(VariableElement field) {
+        String declared = program.types.erasure(field.asType()).toString();
+        if (!declared.startsWith("java.util.") || !(field.asType() instanceof DeclaredType type) || type.getTypeArguments().isEmpty()) return null;
+        String made = madeFor(field);
+        String simple = made != null && COLLECTIONS.containsValue(made) ? made : COLLECTIONS.getOrDefault(simpleName(type), simpleName(type));
+        if (!COLLECTIONS.containsValue(simple)) return null;
+        List<? extends TypeMirror> members = type.getTypeArguments();
+        String name = simple + "<" + members.stream().map(this::memberName).collect(Collectors.joining(", ")) + ">";
+        if (!collections.add(name)) return name;
+        for (int i = 0; i < members.size(); i++) {
+            String key = name + (members.size() == 1 ? ".*" : i == 0 ? ".key" : ".value");
+            fields.put(key, domain(members.get(i), "element").replaceFirst("\"null\", (?=\")", ""));
+        }
+        return name;
+    }
+
+    private String memberName(TypeMirror type) {
+        String name = type.getKind() == TypeKind.TYPEVAR ? type.toString() : program.types.erasure(type).toString();
+        return name.substring(name.lastIndexOf('.') + 1);
+    }
+
+    /** The class of which the sources make a collection for a field. */
+    private String madeFor(VariableElement field) {
+        String text = program.sourceOf(program.trees.getPath(field).getCompilationUnit()).text();
+        Matcher made = Pattern.compile("\\b" + field.getSimpleName() + "\\s*=\\s*new\\s+(?:java\\.util\\.)?(\\w+)\\s*<").matcher(text);
+        return made.find() ? made.group(1) : null;
     }
 
     private static String numbers(String name) {
@@ -176,6 +218,8 @@ final class First {
         if (!arrays.isEmpty()) text.append("[arrays]\n");
         arrays.forEach((name, holders) -> text.append("\"").append(name).append("\" = { count = ").append(count(name))
                 .append(", lengths = [{ from = 0, to = ").append(MOST).append(" }] }\n"));
+        if (!collections.isEmpty()) text.append("[collections]\n");
+        collections.forEach(name -> text.append("\"").append(name).append("\" = { count = ").append(count(name)).append(", sizes = [{ from = 0, to = ").append(MOST).append(" }] }\n"));
         text.append("[fields]\n");
         ordered(fields).forEach((name, domain) -> text.append("\"").append(name).append("\" = ").append(domain).append("\n"));
         if (!params.isEmpty()) text.append("[params]\n");

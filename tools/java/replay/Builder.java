@@ -2,7 +2,9 @@ package replay;
 
 import java.lang.reflect.Array;
 import java.lang.reflect.Field;
+import java.util.ArrayList;
 import java.util.LinkedHashMap;
+import java.util.List;
 import java.util.Map;
 
 /** Builds the structures of rows. */
@@ -25,12 +27,34 @@ final class Builder {
         }
         for (Map.Entry<Name, Map<String, Object>> entry : structure.objects().entrySet()) {
             Object holder = objects.get(entry.getKey());
-            for (Map.Entry<String, Object> slot : entry.getValue().entrySet()) {
-                fill(entry.getKey(), holder, slot.getKey(), slot.getValue(), objects);
-            }
+            fillAll(entry.getKey(), holder, entry.getValue(), objects);
             model.join(holder, root);
         }
         return root;
+    }
+
+    /** Gives an object what its slots say. */
+    void fillAll(Name name, Object holder, Map<String, Object> slots, Map<Name, Object> objects) throws Fault {
+        if (name.isCollection()) {
+            Held one = model.collection(name.type());
+            List<Object> members = new ArrayList<>();
+            for (Object value : slots.values()) {
+                members.add(model.converted(model.member(one, members.size()), known(value, objects), name.type()));
+            }
+            one.fill(holder, members);
+            return;
+        }
+        for (Map.Entry<String, Object> slot : slots.entrySet()) {
+            fill(name, holder, slot.getKey(), slot.getValue(), objects);
+        }
+    }
+
+    private static Object known(Object value, Map<Name, Object> objects) throws Fault {
+        Object known = value instanceof Name ? objects.get(value) : value;
+        if (value instanceof Name && known == null) {
+            throw new Fault("a row names " + value + " and doesn't have it");
+        }
+        return known;
     }
 
     private Object empty(Name name, int size) throws Fault {
@@ -38,10 +62,7 @@ final class Builder {
     }
 
     private void fill(Name name, Object holder, String key, Object value, Map<Name, Object> objects) throws Fault {
-        Object known = value instanceof Name ? objects.get(value) : value;
-        if (value instanceof Name && known == null) {
-            throw new Fault("a row names " + value + " and doesn't have it");
-        }
+        Object known = known(value, objects);
         if (name.isArray()) {
             Array.set(holder, Integer.parseInt(key), model.converted(model.component(name.type()), known, name.type() + ".*"));
         } else {

@@ -5,6 +5,9 @@ import java.lang.reflect.Field;
 import java.lang.reflect.InvocationTargetException;
 import java.lang.reflect.Method;
 import java.util.ArrayDeque;
+import java.util.ArrayList;
+import java.util.Arrays;
+import java.util.Collection;
 import java.util.IdentityHashMap;
 import java.util.LinkedHashMap;
 import java.util.List;
@@ -89,21 +92,8 @@ final class Called {
         }
         root = objects.get(structure.root());
         for (Map.Entry<Name, Map<String, Object>> entry : structure.objects().entrySet()) {
-            for (Map.Entry<String, Object> slot : entry.getValue().entrySet()) {
-                fill(entry.getKey(), slot.getKey(), slot.getValue());
-            }
+            new Builder(model).fillAll(entry.getKey(), objects.get(entry.getKey()), entry.getValue(), objects);
             model.join(objects.get(entry.getKey()), root);
-        }
-    }
-
-    private void fill(Name holder, String key, Object value) throws Fault {
-        Object known = value instanceof Name ? objects.get(value) : value;
-        String place = holder.type() + "." + key;
-        if (holder.isArray()) {
-            Array.set(objects.get(holder), Integer.parseInt(key), model.converted(model.component(holder.type()), known, place));
-        } else {
-            Field field = model.field(holder, key);
-            model.set(field, objects.get(holder), model.converted(field.getType(), known, place));
         }
     }
 
@@ -147,19 +137,37 @@ final class Called {
         while (!waiting.isEmpty()) {
             Object object = waiting.remove();
             Name name = names.get(object);
-            text.append(text.length() > 0 ? " " : "").append(name).append(object.getClass().isArray() ? '[' : '{');
+            text.append(text.length() > 0 ? " " : "").append(name).append(isIndexed(object) ? '[' : '{');
             String between = "";
             for (Map.Entry<String, Object> slot : slots(object, name, shown).entrySet()) {
-                text.append(between).append(object.getClass().isArray() ? "" : slot.getKey() + "=").append(told(slot.getValue(), counts, met, waiting));
+                text.append(between).append(isIndexed(object) ? "" : slot.getKey() + "=").append(told(slot.getValue(), counts, met, waiting));
                 between = ",";
             }
-            text.append(object.getClass().isArray() ? ']' : '}');
+            text.append(isIndexed(object) ? ']' : '}');
         }
         return text.toString();
     }
 
+    private static boolean isIndexed(Object object) {
+        return object.getClass().isArray() || isCollection(object);
+    }
+
+    private static boolean isCollection(Object object) {
+        return object instanceof Collection<?> || object instanceof Map<?, ?>;
+    }
+
     private Map<String, Object> slots(Object object, Name name, Map<String, Set<String>> shown) throws Fault {
         Map<String, Object> slots = new LinkedHashMap<>();
+        if (isCollection(object)) {
+            List<Object> members = new ArrayList<>();
+            if (object instanceof Map<?, ?> map) {
+                map.forEach((key, value) -> members.addAll(Arrays.asList(key, value)));
+            } else {
+                members.addAll((Collection<?>) object);
+            }
+            members.forEach(member -> slots.put(String.valueOf(slots.size()), member));
+            return slots;
+        }
         if (object.getClass().isArray()) {
             for (int at = 0; at < Array.getLength(object); at++) {
                 slots.put(String.valueOf(at), Array.get(object, at));
@@ -181,7 +189,7 @@ final class Called {
 
     private String told(Object value, Map<String, Integer> counts, Map<Object, Boolean> met, ArrayDeque<Object> waiting) {
         boolean own = value != null && !(value instanceof Enum<?>)
-                && (value.getClass().isArray() || value.getClass().getClassLoader() == model.sources || names.containsKey(value));
+                && (isIndexed(value) || value.getClass().getClassLoader() == model.sources || names.containsKey(value));
         if (!own) {
             return String.valueOf(value).replaceAll("[ ,]", "_");
         }

@@ -51,6 +51,9 @@ final class Comparison {
     void candidate(Object root, Space space) throws Fault {
         String why = judge.why(root, space);
         space.decideReachable(why == null);
+        if ((why == null || why.endsWith("steps")) && !space.isListed()) {
+            return;
+        }
         if (why == null) {
             String text = space.structure().canonical(model);
             if (found.add(text) && unmet.remove(text) == null) {

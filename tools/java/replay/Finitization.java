@@ -20,6 +20,9 @@ final class Finitization {
     private final Map<String, String> classes = new LinkedHashMap<>();
     final Map<String, Bound> arrays = new LinkedHashMap<>();
     final Map<String, List<Item>> fields = new LinkedHashMap<>();
+    /** The classes that stand for the library's collections, and the sizes and members' values of each. */
+    final List<Held> held = new ArrayList<>();
+    final Map<String, List<Integer>> sizes = new LinkedHashMap<>();
 
     private Finitization(Path file) {
         this.file = file;
@@ -42,7 +45,32 @@ final class Finitization {
         for (Map.Entry<String, Object> entry : bounds.table(document, "fields").entrySet()) {
             bounds.fields.put(entry.getKey(), bounds.domain(entry.getValue(), "fields." + entry.getKey()));
         }
+        bounds.held.addAll(Held.of(text));
+        for (Held one : bounds.held) {
+            bounds.fold(one);
+        }
         return bounds;
+    }
+
+    /** Counts a collection under its folded name, and drops what its cells have. */
+    private void fold(Held one) throws Fault {
+        Integer count = objects.remove(one.name());
+        objects.remove(one.cell());
+        objects.put(one.folded(), count == null ? 0 : count);
+        classes.put(one.folded(), one.folded());
+        List<Integer> lengths = new ArrayList<>();
+        for (Item size : fields.getOrDefault(one.base() + ".size", List.of())) {
+            for (long n = size.from(); n <= size.to(); n++) {
+                lengths.add((int) n);
+            }
+        }
+        sizes.put(one.folded(), lengths);
+        for (String slot : one.slots()) {
+            fields.put(one.folded() + "." + slot, fields.getOrDefault(one.cell() + "." + slot, List.of()));
+            fields.remove(one.cell() + "." + slot);
+        }
+        fields.keySet().removeAll(List.of(one.base() + ".first", one.base() + ".size", one.cell() + ".next"));
+        fields.replaceAll((key, items) -> items.stream().map(item -> one.name().equals(item.name()) ? new Item(0, -1, null, one.folded()) : item).toList());
     }
 
     private void objects(String name, Object value, boolean second) throws Fault {

@@ -23,10 +23,15 @@ final class Model {
     private final Map<String, Class<?>> classes = new HashMap<>();
     private final Map<String, Map<String, Field>> fields = new HashMap<>();
     private final Map<String, Class<?>> components = new HashMap<>();
+    private final Map<String, Held> collections = new HashMap<>();
 
     Model(Sources sources, Finitization bounds) throws Fault {
         this.sources = sources;
         this.bounds = bounds;
+        for (Held one : bounds.held) {
+            collections.put(one.folded(), one);
+            classes.put(one.folded(), one.type());
+        }
         this.root = type(bounds.classOf(bounds.root));
         if (root == Object.class) {
             throw new Fault("the sources have no class " + bounds.classOf(bounds.root));
@@ -84,6 +89,21 @@ final class Model {
     /** The field of an object's class. */
     Field field(Name object, String name) throws Fault {
         return field(bounds.classOf(object.type()), name);
+    }
+
+    /** The collection that a folded name stands for. */
+    Held collection(String folded) {
+        return collections.get(folded);
+    }
+
+    /** The class of the members of a collection at a place. */
+    Class<?> member(Held one, int place) throws Fault {
+        String name = one.members().get(place % one.members().size());
+        try {
+            return name.startsWith("java.lang.") ? Class.forName(name) : type(name);
+        } catch (ClassNotFoundException none) {
+            throw new Fault("no class " + name);
+        }
     }
 
     /** These fields in the order in which the object's class has them. */
@@ -185,6 +205,9 @@ final class Model {
 
     /** A new object of the name's class: of its constructor without parameters, or of none where it has no such one that returns. */
     Object made(Name name) throws Fault {
+        if (name.isCollection()) {
+            return collection(name.type()).made();
+        }
         Class<?> type = classOf(name.type());
         if (Modifier.isAbstract(type.getModifiers()) || type.isEnum()) {
             throw new Fault(type.getSimpleName() + " has no objects of its own");
@@ -230,12 +253,15 @@ final class Model {
         }
     }
 
-    /** Leaves such fields out of the bounds and of rows: the outer object is the root. */
-    void leaveOutersOut(List<Row> rows) {
-        bounds.fields.keySet().removeIf(key -> isOuter(key.substring(0, Math.max(key.lastIndexOf('.'), 0)), key.substring(key.lastIndexOf('.') + 1)));
+    /** Leaves such fields out of the bounds and of rows, the outer object is the root; and gives collections their members. */
+    void leaveOutersOut(List<Row> rows) throws Fault {
+        for (Row row : rows) {
+            Held.fold(bounds.held, row.structure());
+        }
+        bounds.fields.keySet().removeIf(key -> !key.contains(Name.COLLECTION) && isOuter(key.substring(0, Math.max(key.lastIndexOf('.'), 0)), key.substring(key.lastIndexOf('.') + 1)));
         for (Row row : rows) {
             row.structure().objects().forEach((name, slots) -> {
-                if (!name.isArray()) {
+                if (!name.isIndexed()) {
                     slots.keySet().removeIf(key -> isOuter(bounds.classOf(name.type()), key));
                 }
             });

@@ -4,6 +4,7 @@ import java.lang.reflect.Array;
 import java.lang.reflect.Field;
 import java.util.ArrayDeque;
 import java.util.ArrayList;
+import java.util.Arrays;
 import java.util.HashMap;
 import java.util.IdentityHashMap;
 import java.util.LinkedHashMap;
@@ -49,7 +50,7 @@ final class Space implements ObjIntConsumer<Object> {
             int dot = Math.max(entry.getKey().lastIndexOf('.'), 0);
             String type = entry.getKey().substring(0, dot);
             String name = entry.getKey().substring(Math.min(dot + 1, entry.getKey().length()));
-            if (!name.equals("*")) {
+            if (!name.equals("*") && !type.endsWith(Name.COLLECTION)) {
                 domains.put(model.field(type, name), entry.getValue());
             }
         }
@@ -59,7 +60,8 @@ final class Space implements ObjIntConsumer<Object> {
         for (Map.Entry<String, Integer> entry : bounds.objects.entrySet()) {
             List<List<Cell>> pool = pool(entry.getKey());
             for (int number = 0; number < entry.getValue(); number++) {
-                pool.add(List.of(objectCell(new Name(entry.getKey(), number))));
+                Name name = new Name(entry.getKey(), number);
+                pool.add(name.isCollection() ? collectionCells(name) : List.of(objectCell(name)));
             }
         }
         for (Map.Entry<String, Bound> entry : bounds.arrays.entrySet()) {
@@ -99,6 +101,25 @@ final class Space implements ObjIntConsumer<Object> {
                 slots.add(new Slot(String.valueOf(index), null, -1, choices));
             }
             variants.add(cell(name, Array.newInstance(component, length), slots));
+        }
+        return variants;
+    }
+
+    /** A collection of each size. */
+    private List<Cell> collectionCells(Name name) throws Fault {
+        Held one = model.collection(name.type());
+        List<List<Choice>> choices = new ArrayList<>();
+        for (String slot : one.slots()) {
+            String key = name.type() + "." + slot;
+            choices.add(choices(model.member(one, choices.size()), bounds.fields.get(key), key));
+        }
+        List<Cell> variants = new ArrayList<>();
+        for (int size : bounds.sizes.get(name.type())) {
+            List<Slot> slots = new ArrayList<>();
+            while (slots.size() < size * choices.size()) {
+                slots.add(new Slot(String.valueOf(slots.size()), null, -1, choices.get(slots.size() % choices.size())));
+            }
+            variants.add(cell(name, one.made(), slots));
         }
         return variants;
     }
@@ -176,7 +197,7 @@ final class Space implements ObjIntConsumer<Object> {
     /** Gives the slots that aren't decided the first of their values. It changes alone where it is an array, of another length. */
     private void fillUndecided(Cell cell, boolean arraysAlone) throws Fault {
         for (int slot = 0; slot < cell.told.length; slot++) {
-            boolean array = cell.held[slot] != null && cell.held[slot].name.isArray();
+            boolean array = cell.held[slot] != null && cell.held[slot].name.isIndexed();
             if (!cell.decided[slot] && (array || !arraysAlone)) {
                 put(cell, slot, values(cell.slots.get(slot)).get(0));
             }
@@ -212,6 +233,10 @@ final class Space implements ObjIntConsumer<Object> {
         Field field = cell.slots.get(slot).field();
         if (field != null) {
             model.set(field, cell.real, value.real());
+        } else if (cell.name.isCollection()) {
+            if (cell.isWhole(slot, value.real())) {
+                refill(cell);
+            }
         } else {
             Array.set(cell.real, slot, value.real());
         }
@@ -230,6 +255,7 @@ final class Space implements ObjIntConsumer<Object> {
                 decideAll(cell);
             } else if (index >= 0 && index < cell.slots.size()) {
                 decide(cell, index);
+                decideCollection(cell.held[index]);
             }
             return;
         }
@@ -263,9 +289,26 @@ final class Space implements ObjIntConsumer<Object> {
     }
 
     private void decideArray(Cell held) {
-        if (held != null && held.name.isArray()) {
+        if (held != null && held.name.isIndexed()) {
             decideAll(held);
         }
+    }
+
+    /** Decides the members of a collection, whose reads aren't seen. */
+    private void decideCollection(Cell held) {
+        if (held != null && held.name.isCollection()) {
+            decideAll(held);
+        }
+    }
+
+    /** Gives a collection the members that its slots hold. */
+    private void refill(Cell cell) {
+        model.collection(cell.name.type()).fill(cell.real, Arrays.asList(cell.members));
+    }
+
+    /** Whether the members of all collections that are reachable stand in the order in which they are listed. */
+    boolean isListed() {
+        return reachable(false).stream().allMatch(cell -> !cell.name.isCollection() || model.collection(cell.name.type()).isListed(Arrays.asList(cell.told)));
     }
 
     /** How much of all choices, in percent, is before the present ones, as if the choices at each slot had equal shares. */

@@ -73,15 +73,15 @@ record Structure(Map<Name, Map<String, Object>> objects) {
             if (slots == null) {
                 throw new Fault("a row names " + name + " and doesn't have it");
             }
-            text.append(text.length() > 0 ? " " : "").append(names.get(name)).append(name.isArray() ? '[' : '{');
+            text.append(text.length() > 0 ? " " : "").append(names.get(name)).append(name.isIndexed() ? '[' : '{');
             String between = "";
-            for (String key : name.isArray() ? slots.keySet() : model.ordered(name, slots.keySet())) {
+            for (String key : name.isIndexed() ? slots.keySet() : model.ordered(name, slots.keySet())) {
                 Object value = slots.get(key);
                 Object told = value instanceof Name met ? meet(met, names, counts, waiting) : value;
-                text.append(between).append(name.isArray() ? "" : key + "=").append(told);
+                text.append(between).append(name.isIndexed() ? "" : key + "=").append(told);
                 between = ",";
             }
-            text.append(name.isArray() ? ']' : '}');
+            text.append(name.isIndexed() ? ']' : '}');
         }
         return text.toString();
     }

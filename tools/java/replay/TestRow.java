@@ -43,7 +43,7 @@ record TestRow(String key, String verdict, String arguments, Structure structure
     }
 
     /** Leaves the fields out that stand for outer objects. */
-    static void leaveOutersOut(Model model, List<TestRow> rows) {
+    static void leaveOutersOut(Model model, List<TestRow> rows) throws Fault {
         model.leaveOutersOut(rows.stream().map(row -> new Row(row.text, row.structure)).toList());
     }
 

@@ -145,18 +145,38 @@ final class Tests {
         StringBuilder filled = new StringBuilder();
         for (Map.Entry<Name, Map<String, Object>> entry : structure.objects().entrySet()) {
             String variable = variables.get(entry.getKey());
+            if (entry.getKey().isCollection()) {
+                made.append("        Object " + variable + " = new " + model.collection(entry.getKey().type()).type().getName() + "();\n");
+                filled.append(adding(entry.getKey(), variable, entry.getValue(), variables));
+                continue;
+            }
             made.append("        Object " + variable + " = " + making(entry.getKey(), entry.getValue().size()) + ";\n");
             for (Map.Entry<String, Object> slot : entry.getValue().entrySet()) {
                 Object value = slot.getValue();
                 String told = value instanceof Name ? variables.get(value) : told(entry.getKey(), slot.getKey(), value);
                 filled.append("        " + setting(entry.getKey(), variable, slot.getKey(), told) + ";\n");
             }
-            Field outer = entry.getKey().isArray() ? null : model.outer(model.classOf(entry.getKey().type()));
+            Field outer = entry.getKey().isIndexed() ? null : model.outer(model.classOf(entry.getKey().type()));
             if (outer != null) {
                 filled.append("        " + setting(entry.getKey(), variable, outer.getName(), "object0") + ";\n");
             }
         }
         return made.append(filled).toString();
+    }
+
+    /** The statements that give a collection its members. */
+    private String adding(Name name, String variable, Map<String, Object> slots, Map<Name, String> variables) throws Fault {
+        Held one = model.collection(name.type());
+        StringBuilder text = new StringBuilder();
+        List<String> told = new ArrayList<>();
+        for (Object value : slots.values()) {
+            told.add(value instanceof Name ? variables.get(value) : written(model.converted(model.member(one, told.size()), value, name.type())));
+            if (told.size() % one.slots().size() == 0) {
+                String members = String.join(", ", told.subList(told.size() - one.slots().size(), told.size()));
+                text.append("        ((java.util." + (one.isMap() ? "Map) " + variable + ").put(" : "Collection) " + variable + ").add(") + members + ");\n");
+            }
+        }
+        return text.toString();
     }
 
     private String making(Name name, int size) throws Fault {

@@ -13,12 +13,13 @@ import java.util.regex.Pattern;
 record Case(String place, String expected, String part, String method, String finitization, String source) {
     private static final Pattern HEAD = Pattern.compile("(agree|warned|refused)(?: \\[(.*?)])?(?: --method (\\w+))?: ?(.*)");
     private static final Pattern CHOICE = Pattern.compile("\\{\\{(.*?)}}", Pattern.DOTALL);
+    private static final String BETWEEN = "\0";
     private static final String PLAIN = "root = \"Cell\"\nfuel = 100000\nobjects.Cell = 1\n";
 
     /**
      * Reads a table. A line that begins with a word of what is expected begins a case; the lines after it that begin with two
      * spaces go on, of which those that begin with `# ` belong to the finitization. Of `{{a|b}}` each is taken once, and
-     * `{{=}}` is the same again; of `{{a~x|b~y}}` it is x with a.
+     * `{{=}}` is the same again, in the finitization too; of `{{a~x|b~y}}` it is x with a.
      */
     static List<Case> read(Path file) throws java.io.IOException {
         List<Case> cases = new ArrayList<>();
@@ -37,10 +38,11 @@ record Case(String place, String expected, String part, String method, String fi
                 if (line.startsWith("# ")) bounds.append(line.substring(2)).append('\n');
                 else text.append('\n').append(line);
             }
-            List<String> variants = variants(text.toString());
+            List<String> variants = variants(text + BETWEEN + bounds);
             for (int n = 0; n < variants.size(); n++) {
+                String[] parts = variants.get(n).split(BETWEEN, 2);
                 cases.add(of(place + (variants.size() > 1 ? "." + (n + 1) : ""), head.group(1),
-                        head.group(2) == null ? "" : head.group(2), head.group(3), bounds.toString(), variants.get(n)));
+                        head.group(2) == null ? "" : head.group(2), head.group(3), parts[1], parts[0]));
             }
         }
         return cases;

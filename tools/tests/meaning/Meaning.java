@@ -1,7 +1,7 @@
 // Adapts small classes, lists what was made by the program, and compares the listing with the original on this Java virtual machine.
 //
 //     Meaning KORAT FOLDER [--some N] [--only PLACE] TABLE..
-//     Meaning KORAT FOLDER --random N [--seed S] [--tested N]
+//     Meaning KORAT FOLDER --random N [--seed S] [--tested N] [--held N]
 //     Meaning KORAT FOLDER --folders FOLDER..
 //
 // A line for each class that doesn't what its table says, and at last `A agree, W warned, R refused, S spent, F failed`. FOLDER is where it
@@ -72,9 +72,11 @@ public final class Meaning {
     private void random(PrintStream out, Map<String, String> options) throws Exception {
         int count = Integer.parseInt(options.get("--random"));
         long seed = Long.parseLong(options.getOrDefault("--seed", "1"));
-        for (int i = 0; i < count; i++) report(out, new RandomClass(seed + i, false).made());
+        for (int i = 0; i < count; i++) report(out, new RandomClass(seed + i, false, false).made());
         int tested = Integer.parseInt(options.getOrDefault("--tested", "0"));
-        for (int i = 0; i < tested; i++) report(out, new RandomClass(seed + i, true).made());
+        for (int i = 0; i < tested; i++) report(out, new RandomClass(seed + i, true, false).made());
+        int held = Integer.parseInt(options.getOrDefault("--held", "0"));
+        for (int i = 0; i < held; i++) report(out, new RandomClass(seed + i, i % 2 == 1, true).made());
     }
 
     /** A folder with a finitization, sources and `wanted`: the first line of a case. */

@@ -20,10 +20,13 @@ final class RandomClass {
     /** Whether a method under test is made, and whether it is being made: it may write fields. */
     private final boolean isTested;
     private boolean writes;
+    /** Whether fields of candidates hold collections. */
+    private final boolean isHeld;
 
-    RandomClass(long seed, boolean isTested) {
+    RandomClass(long seed, boolean isTested, boolean isHeld) {
         this.seed = seed;
         this.isTested = isTested;
+        this.isHeld = isHeld;
         random = new Random(seed * 7919 + 17);
     }
 
@@ -39,12 +42,34 @@ final class RandomClass {
             field(fields, bounds, "Integer[]", "b", "[\"Integer[]\"]");
             bounds.append("arrays.\"Integer[]\" = { count = 1, lengths = [2] }\nfields.\"Integer[].*\" = [\"null\", 1]\n");
         }
+        if (isHeld) held(fields, bounds);
         variables.add(new String[] {"int", "v"});
         StringBuilder helpers = new StringBuilder();
         for (int i = random.nextInt(3); i > 0; i--) helpers.append(method());
         String text = "enum E { A, B, C }\n" + fields + helpers + "boolean repOk() " + body("boolean") + "\n";
-        if (!isTested) return Case.of("random-" + seed, "any", "", null, bounds.toString(), text);
-        return Case.of("random-tested-" + seed, "any", "", "act", bounds + "params.\"act.p\" = [0, 1]\nparams.\"act.q\" = [\"A\", \"B\"]\n", text + tested());
+        if (!isTested) return Case.of("random-" + (isHeld ? "held-" : "") + seed, "any", "", null, bounds.toString(), text);
+        return Case.of("random-" + (isHeld ? "held-" : "") + "tested-" + seed, "any", "", "act", bounds + "params.\"act.p\" = [0, 1]\nparams.\"act.q\" = [\"A\", \"B\"]\n", text + tested());
+    }
+
+    /** Fields that hold collections, one or two of them. */
+    private void held(StringBuilder fields, StringBuilder bounds) {
+        List<String[]> all = new ArrayList<>(List.of(new String[] {"List<Integer>", "hl", pick(List.of("ArrayList", "LinkedList", "Vector"))},
+                new String[] {"Set<Integer>", "hs", pick(List.of("LinkedHashSet", "TreeSet"))}, new String[] {"Deque<Integer>", "hd", pick(List.of("ArrayDeque", "LinkedList"))},
+                new String[] {"Map<Integer, Integer>", "hm", pick(List.of("LinkedHashMap", "TreeMap"))}, new String[] {"List<E>", "he", pick(List.of("ArrayList", "LinkedList"))}));
+        for (int i = 1 + random.nextInt(2); i > 0; i--) {
+            String[] one = all.remove(random.nextInt(all.size()));
+            String name = one[2] + "<" + one[1] + ">";
+            String key = "fields.\"" + name + ".";
+            bounds.append("collections.\"").append(name).append("\" = { count = 1, sizes = ").append(pick(List.of("[0, 1, 2]", "[0, 2]", "[1, 3]"))).append(" }\n");
+            if (one[1].equals("hm")) bounds.append(key).append("key\" = [0, 1, 3]\n").append(key).append("value\" = [1, 2]\n");
+            else bounds.append(key).append("*\" = ").append(one[1].equals("he") ? "[\"null\", \"A\", \"C\"]" : "[0, 1, 3]").append("\n");
+            field(fields, bounds, one[0], one[1], "[" + (random.nextInt(4) == 0 ? "\"null\", " : "") + "\"" + name + "\"]");
+        }
+    }
+
+    /** A member for a collection: of a candidate's never null among numbers. */
+    private String member(String name) {
+        return name.matches("h[lsdm]") ? number(1) : box();
     }
 
     /** A method under test with a contract, which writes fields. */
@@ -172,22 +197,22 @@ final class RandomClass {
     }
 
     private static boolean isField(String name) {
-        return name.matches("[a-w]|o|t|x|e|b");
+        return name.matches("[a-w]|o|t|x|e|b|h[lsdme]");
     }
 
     private String change() {
         String[] one = variable(List.of("List<Integer>", "Set<Integer>", "Deque<Integer>", "Map<Integer, Integer>", "Map<Integer, E>", "List<E>", "List<Boolean>",
                 "int[]", "E[]", "boolean[]", "byte[]"));
-        if (one == null || open.contains(one[1])) return assignment();
+        if (one == null || open.contains(one[1]) || isHeld && isField(one[1]) && !writes) return assignment();
         String name = one[1];
         switch (one[0]) {
-            case "List<Integer>": return name + pick(List.of(".add(" + box() + ")", ".remove(" + of("int", 1) + ")", ".add(0, " + of("int", 1) + ")",
+            case "List<Integer>": return name + pick(List.of(".add(" + member(name) + ")", ".remove(" + of("int", 1) + ")", ".add(0, " + of("int", 1) + ")",
                     ".remove(Integer.valueOf(" + of("int", 1) + "))", ".set(" + of("int", 1) + ", " + of("int", 1) + ")", ".clear()")) + ";\n";
             case "List<E>": return name + ".add(" + of("E", 1) + ");\n";
             case "List<Boolean>": return name + ".add(" + of("Boolean", 1) + ");\n";
-            case "Set<Integer>": return name + pick(List.of(".add(" + box() + ")", ".remove(" + of("int", 1) + ")")) + ";\n";
-            case "Deque<Integer>": return name + pick(List.of(".push(" + box() + ")", ".addLast(" + of("int", 1) + ")", ".poll()", ".pollLast()", ".pop()")) + ";\n";
-            case "Map<Integer, Integer>": return name + pick(List.of(".put(" + of("int", 1) + ", " + box() + ")", ".remove(" + of("int", 1) + ")",
+            case "Set<Integer>": return name + pick(List.of(".add(" + member(name) + ")", ".remove(" + of("int", 1) + ")")) + ";\n";
+            case "Deque<Integer>": return name + pick(List.of(".push(" + member(name) + ")", ".addLast(" + of("int", 1) + ")", ".poll()", ".pollLast()", ".pop()")) + ";\n";
+            case "Map<Integer, Integer>": return name + pick(List.of(".put(" + of("int", 1) + ", " + member(name) + ")", ".remove(" + of("int", 1) + ")",
                     ".putIfAbsent(" + of("int", 1) + ", " + of("int", 1) + ")")) + ";\n";
             case "Map<Integer, E>": return name + ".put(" + of("int", 1) + ", " + of("E", 1) + ");\n";
             default:
@@ -317,8 +342,8 @@ final class RandomClass {
         switch (one[0]) {
             case "Map<Integer, Integer>": return name + ".containsKey(" + number(1) + ")";
             case "List<E>": return name + ".contains(" + constant(1) + ")";
-            case "Set<Integer>": return open.contains(name) ? name + ".isEmpty()" : name + pick(List.of(".add(", ".contains(", ".remove(")) + number(1) + ")";
-            default: return pick(List.of(name + ".contains(" + box() + ")", name + ".isEmpty()"));
+            case "Set<Integer>": return open.contains(name) || name.equals("hs") ? name + ".isEmpty()" : name + pick(List.of(".add(", ".contains(", ".remove(")) + number(1) + ")";
+            default: return pick(List.of(name + ".contains(" + member(name) + ")", name + ".isEmpty()"));
         }
     }
 
