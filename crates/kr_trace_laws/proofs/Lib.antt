@@ -5,3 +5,8 @@ pub mod Texts
 pub mod Counted
 pub mod Honest
 pub mod Whole
+pub mod Listings
+pub mod RowLines
+pub mod Spent
+pub mod More
+pub mod Ends

@@ -46,12 +46,12 @@ counted_back : (a b : List ℕ) (v t : ℕ) → number_of a ≡ Some v → numbe
 counted_back a b v t h k =
     ap (option_and_then (λ (x : ℕ). option_map (λ (y : ℕ). Listed x y) (number_of b))) h ∙ ap (option_map (λ (y : ℕ). Listed v y)) k
 
-last_back : (v t : ℕ) → v < 2 ^ 64 → t < 2 ^ 64 → last_in (listed_line v t) ≡ Some (Listed v t)
+pub last_back : (v t : ℕ) → v < 2 ^ 64 → t < 2 ^ 64 → last_in (listed_line v t) ≡ Some (Listed v t)
 last_back v t h k =
     ap last_by (listed_words (decimal v) (decimal t) (number_word v).one_word (number_word t).one_word)
     ∙ counted_back (decimal v) (decimal t) v t (number_back v h) (number_back t k)
 
-last_one : (v t : ℕ) → IsWithout 10 (listed_line v t)
+pub last_one : (v t : ℕ) → IsWithout 10 (listed_line v t)
 last_one v t =
     without_append 10 (codes "valid ") (decimal v ++ (codes " tried " ++ decimal t)) (refl, (refl, (refl, (refl, (refl, (refl, tt))))))
     (without_append 10 (decimal v) (codes " tried " ++ decimal t) (number_word v).one_line
@@ -72,7 +72,7 @@ as_long (key ∷ keys) [] h = absurd h
 as_long (key ∷ keys) (line ∷ lines) h = ap suc (as_long keys lines h.1)
 
 -- each key is above the one before, the first above a cut, and none above a bound
-abbrev Climbs : Bound → List ℕ → List (List ℕ) → Type 0
+abbrev pub Climbs : Bound → List ℕ → List (List ℕ) → Type 0
 Climbs end before [] = Unit {0}
 Climbs end before (k ∷ ks) = (is_within (At before) end k ≡ true) × Climbs end k ks
 
@@ -92,7 +92,7 @@ abbrev Later : {R : Type 0} → List ℕ → List ℕ → List (Entry R) → Typ
 Later a before [] = Unit {0}
 Later a before (e ∷ es) = (less (At a) (At e.key) ≡ true → less (At before) (At e.key) ≡ true) × Later a before es
 
-later_self : {R : Type 0} (a : List ℕ) (es : List (Entry R)) → Later a a es
+pub later_self : {R : Type 0} (a : List ℕ) (es : List (Entry R)) → Later a a es
 later_self a [] = tt
 later_self a (e ∷ es) = (λ h. h, later_self a es)
 
@@ -100,7 +100,7 @@ later_after : {R : Type 0} (a k : List ℕ) (es : List (Entry R)) → AllAfter k
 later_after a k [] h = tt
 later_after a k (e ∷ es) h = (λ x. less_from_before k e.key h.0, later_after a k es h.1)
 
-climbs : {R : Type 0} (es : List (Entry R)) (a before : List ℕ) (end : Bound) → Ascends es → Later a before es → Climbs end before (valid_keys (within (At a) end es))
+pub climbs : {R : Type 0} (es : List (Entry R)) (a before : List ℕ) (end : Bound) → Ascends es → Later a before es → Climbs end before (valid_keys (within (At a) end es))
 climbs [] a before end asc h = tt
 climbs {R} (e ∷ es) a before end asc h =
     elim (is_within (At a) end e.key) as (λ t. is_within (At a) end e.key ≡ t → Climbs end before (valid_keys (if t then e ∷ within (At a) end es else within (At a) end es))) [
@@ -128,7 +128,7 @@ all_through [] h = refl
 all_through {R} (e ∷ es) h =
     ap (λ (b : Bool). e ∷ (if b then [] else through_spent es)) h.0 ∙ ap (λ (xs : List (Entry R)). e ∷ xs) (all_through es h.1)
 
-each_closed : (segs : List Segment) → list_all is_closed segs ≡ true → Each (λ g. is_closed g ≡ true) segs
+pub each_closed : (segs : List Segment) → list_all is_closed segs ≡ true → Each (λ g. is_closed g ≡ true) segs
 each_closed [] h = tt
 each_closed (g ∷ gs) h = (and-left (is_closed g) (list_all is_closed gs) h, each_closed gs (and-right (is_closed g) (list_all is_closed gs) h))
 

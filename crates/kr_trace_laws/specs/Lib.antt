@@ -2,3 +2,8 @@ pub mod Printed
 pub mod Traced
 pub mod Honest
 pub mod Whole
+pub mod Listings
+pub mod RowLines
+pub mod Spent
+pub mod More
+pub mod Ends

@@ -1,6 +1,11 @@
 // What holds of the lines of a log.
+ghost use Rattle.kr_trace_laws.specs.Ends.{EndsLaw};
 ghost use Rattle.kr_trace_laws.specs.Honest.{HonestLaw};
+ghost use Rattle.kr_trace_laws.specs.Listings.{ListingLaw};
+ghost use Rattle.kr_trace_laws.specs.More.{MoreLaw};
 ghost use Rattle.kr_trace_laws.specs.Printed.{EventLaw, LogLaw};
+ghost use Rattle.kr_trace_laws.specs.RowLines.{RowLaw};
+ghost use Rattle.kr_trace_laws.specs.Spent.{SpentLaw};
 ghost use Rattle.kr_trace_laws.specs.Traced.{TracedLaw};
 ghost use Rattle.kr_trace_laws.specs.Whole.{WholeLaw};
 
@@ -27,4 +32,30 @@ pub fn honest_law<R>()
 /// A listing of all valid entries of a span, with the log that tried all entries of it, is accepted.
 pub fn whole_law<R>()
     ensures { WholeLaw R }
+{}
+
+/// Rows of the valid entries, any last line that agrees, and a log that is honest about all entries are accepted.
+pub fn listing_law<R>()
+    ensures { ListingLaw R }
+{}
+
+/// The line of a row is read as its key and whether it passes.
+pub fn row_law()
+    ensures { RowLaw }
+{}
+
+/// Where an entry of a span is spent, `spent KEY` agrees with the rows and with an honest log without a stop.
+pub fn spent_law<R>()
+    ensures { SpentLaw R }
+{}
+
+/// Where rows are left out, `more KEY` agrees with the rows and with an honest log without a stop, or of more drained rows.
+pub fn more_law<R>()
+    ensures { MoreLaw R }
+{}
+
+/// Where no entry of a span is spent, the line of how many rows and entries there are agrees with them and with an honest log
+/// without a stop.
+pub fn ends_law<R>()
+    ensures { EndsLaw R }
 {}
