@@ -115,8 +115,8 @@ explain_count() {
         [ "$1" -le 64 ] || wrong "$1 files, and at most 64 are taken"
         ;;
     *FILE | *[a-z]\ FIN)
-        [ "$1" -ge 1 ] || wrong "no file behind $command"
-        [ "$1" -le 1 ] || wrong "one word too many behind $command"
+        [ "$1" -ge 1 ] || wrong "no file after $command"
+        [ "$1" -le 1 ] || wrong "one word too many after $command"
         ;;
     *FIN*)
         [ "$1" -ge 1 ] || wrong "no finitization, and no source"
@@ -125,7 +125,7 @@ explain_count() {
         ;;
     *)
         [ "$1" -ge 1 ] || wrong "no number behind $command"
-        [ "$1" -le 1 ] || wrong "one word too many behind $command"
+        [ "$1" -le 1 ] || wrong "one word too many after $command"
         ;;
     esac
     wrong "the words aren't of the command's form"

@@ -312,7 +312,7 @@ words '17 sources, and at most 16' list fin.toml {1..17}.java
 words 'no number behind demo' demo
 words '`13` is no number from 1 to 12' demo 13
 words '`01` is no number from 1 to 12' demo 01
-words 'one word too many behind demo' demo 1 2
+words 'one word too many after demo' demo 1 2
 words 'is no option of demo' demo 1 --limit 1
 words 'no UTF-8' list fin.toml $'Cell\xc3.java'
 words 'no source behind the finitization' list -- fin.toml
