@@ -4,7 +4,7 @@ use Rattle.std.specs.Prelude.{Option, Some, pos, codes}
 use Rattle.kr_value.specs.declared.value.Value.{Value}
 use Rattle.kr_value.specs.declared.value.Value.TheVariants.{Int, Ref as Reference}
 use Rattle.kr_value.specs.declared.value.Value.TheVariants as values
-use Rattle.kr_classes_table.specs.Types.{JavaType, ClassType, IntType}
+use Rattle.kr_classes_table.specs.Types.{JavaType, ClassType, int_type}
 use Rattle.kr_classes_table.specs.Table.{table_of}
 use Rattle.kr_classes_table.specs.Constants.{values_of, is_constant, evaluated}
 use Rattle.kr_types_meaning.specs.Typing.{judged}
@@ -48,9 +48,9 @@ this_is : (env : Env) → IsSeen env → IsThis plus.program.table types (Some 0
 unfolding table_of values_of is_constant evaluated judged
 this_is env s = (0, s.this, (omega arith, refl))
 
-arguments_are : (env : Env) → IsSeen env → AreOf plus.program.table types (IntType ∷ []) env.arguments.items
+arguments_are : (env : Env) → IsSeen env → AreOf plus.program.table types (int_type ∷ []) env.arguments.items
 unfolding table_of values_of is_constant evaluated judged
-arguments_are env s = subst (λ (vs : List Value). AreOf plus.program.table types (IntType ∷ []) vs) (sym s.arguments) ((refl, omega arith), tt)
+arguments_are env s = subst (λ (vs : List Value). AreOf plus.program.table types (int_type ∷ []) vs) (sym s.arguments) ((refl, omega arith), tt)
 
 required : (env : Env) → IsSeen env → OfTested (λ m. OfOne (λ e. IsEvaluation plus.program m e env cell) (requires_of plus.program m)) (tested_method plus plus.mode)
 unfolding table_of values_of is_constant evaluated judged
@@ -80,7 +80,7 @@ ensured env s = record {
   this = this_is env s;
   arguments = arguments_are env s;
   seen = (
-    λ r. subst (λ (v : Option Value). IsResult plus.program.table types (Some IntType) v) (sym s.result) (refl, omega arith),
+    λ r. subst (λ (v : Option Value). IsResult plus.program.table types (Some int_type) v) (sym s.result) (refl, omega arith),
     subst (λ (vs : List Value). AreOf plus.program.table types [] vs) (sym s.olds) tt,
   );
 }

@@ -4,3 +4,9 @@ pub mod Identifiers
 pub mod Posed
 pub mod Upgraded
 pub mod Words
+pub mod Shown
+pub mod Begun
+pub mod Rows
+pub mod Logged
+pub mod Asked
+pub mod Traced

@@ -1,2 +1,4 @@
 pub mod Laws
 pub mod Words
+pub mod Readable
+pub mod Traced

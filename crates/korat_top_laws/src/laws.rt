@@ -1,5 +1,6 @@
 // What holds of each problem that a command's steps accept.
 ghost use Rattle.korat_top_laws.specs.Laws.{AcceptedLaw, MergedLaw, UpgradedLaw, WrittenLaw};
+ghost use Rattle.korat_top_laws.specs.Traced.{TracedLaw};
 ghost use Rattle.korat_top_laws.specs.Words.{WordsLaw};
 
 use kr_base::reading_law;
@@ -30,3 +31,8 @@ pub fn words_law()
 {
     reading_law();
 }
+
+/// What a listing writes with a trace is accepted by `trace`, for the same span and number of workers.
+pub fn traced_law()
+    ensures { TracedLaw }
+{}

@@ -3,4 +3,4 @@
 
 mod laws;
 
-pub use laws::{accepted_law, merged_law, upgraded_law, words_law, written_law};
+pub use laws::{accepted_law, merged_law, traced_law, upgraded_law, words_law, written_law};

@@ -94,7 +94,8 @@ impl EntryList {
     {
         let file = file_of_most(&self.short, self.file, entry.place.file);
         let short = shorten(file, &mut self.long, entry)?;
-        self.short.push(short)?;
+        self.short.reserve(1)?;
+        self.short.push_reserved(short);
         self.file = file;
         Ok(())
     }

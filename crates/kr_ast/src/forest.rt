@@ -4,6 +4,7 @@ ghost use Rattle.kr_ast.specs.Arena.{trees, tree_at, tree_of, parts, names, name
 ghost use Rattle.kr_ast.specs.Forest.{AreFree, AreRoots, IsOneRoot, adopted};
 
 use crate::entry_list::EntryList;
+use crate::parts::parts_of;
 use crate::{Entry, Name, Node, Tree};
 use kr_base::{NoMemory, Place};
 use std::alloc::Global;
@@ -34,7 +35,7 @@ fn adopt_parts(entries: &mut EntryList, node: Node, parent: u32)
     ensures now { (d : Entry) → entries.new.items ≡ adopted d entries.old.items parent 0 (parts node) }
     ensures long { length entries.new.items ≡ length entries.old.items }
 {
-    let listed = node.parts();
+    let listed = parts_of(&node);
     let parts = listed.as_slice();
     let mut position = 0;
     while position < parts.len() {

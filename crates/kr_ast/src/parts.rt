@@ -79,140 +79,149 @@ const fn no_name() -> Name {
     Name { start: 0, end: 0 }
 }
 
+/// The indices of a node's parts, in order.
+#[inline(always)]
+pub(crate) fn parts_of(node: &Node) -> Parts
+    ensures { result ≡ parts node.now }
+{
+    match *node {
+        Node::Nil
+        | Node::PrimitiveType { .. }
+        | Node::NamedType { .. }
+        | Node::QualifiedType { .. }
+        | Node::Number { .. }
+        | Node::Truth { .. }
+        | Node::Null
+        | Node::This
+        | Node::Variable { .. }
+        | Node::Result
+        | Node::Empty
+        | Node::Break
+        | Node::Continue => Parts::of([0; 4], 0),
+        Node::DiamondType { head: a }
+        | Node::ArrayType { element: a }
+        | Node::FieldAccess { object: a, .. }
+        | Node::Call { arguments: a, .. }
+        | Node::SuperCall { arguments: a, .. }
+        | Node::Unary { operand: a, .. }
+        | Node::Step { target: a, .. }
+        | Node::Old { operand: a }
+        | Node::Block { statements: a }
+        | Node::Declarator { initial: a, .. }
+        | Node::ExpressionStatement { expression: a }
+        | Node::Return { value: a }
+        | Node::ConstructorCall { arguments: a }
+        | Node::Parameter { declared: a, .. }
+        | Node::Requires { condition: a }
+        | Node::Ensures { condition: a } => Parts::of([a, 0, 0, 0], 1),
+        Node::Cons { first: a, rest: b }
+        | Node::GenericType {
+            head: a,
+            argument: b,
+        }
+        | Node::ArrayAccess { array: a, index: b }
+        | Node::MethodCall {
+            object: a,
+            arguments: b,
+            ..
+        }
+        | Node::ObjectCreation {
+            class: a,
+            arguments: b,
+        }
+        | Node::ArrayCreation {
+            element: a,
+            length: b,
+        }
+        | Node::Binary {
+            left: a,
+            right: b,
+            ..
+        }
+        | Node::InstanceOf {
+            operand: a,
+            tested: b,
+        }
+        | Node::Cast {
+            target: a,
+            operand: b,
+        }
+        | Node::Assignment {
+            target: a,
+            value: b,
+        }
+        | Node::CompoundAssignment {
+            target: a,
+            value: b,
+            ..
+        }
+        | Node::Local {
+            declared: a,
+            declarators: b,
+        }
+        | Node::IfThen {
+            condition: a,
+            holds: b,
+        }
+        | Node::While {
+            condition: a,
+            body: b,
+        }
+        | Node::Do {
+            body: a,
+            condition: b,
+        }
+        | Node::Class {
+            extended: a,
+            members: b,
+            ..
+        }
+        | Node::Field {
+            declared: a,
+            declarators: b,
+            ..
+        }
+        | Node::Method {
+            signature: a,
+            body: b,
+            ..
+        } => Parts::of([a, b, 0, 0], 2),
+        Node::Conditional {
+            condition: a,
+            holds: b,
+            fails: c,
+        }
+        | Node::IfElse {
+            condition: a,
+            holds: b,
+            fails: c,
+        }
+        | Node::Signature {
+            result: a,
+            parameters: b,
+            contracts: c,
+        }
+        | Node::Constructor {
+            parameters: a,
+            super_call: b,
+            body: c,
+        } => Parts::of([a, b, c, 0], 3),
+        Node::For {
+            initial: a,
+            condition: b,
+            updates: c,
+            body: d,
+        } => Parts::of([a, b, c, d], 4),
+    }
+}
+
 impl Node {
+    /// The indices of its parts, in order.
     #[inline(always)]
     pub fn parts(&self) -> Parts
         ensures { result ≡ parts self.now }
     {
-        match *self {
-            Node::Nil
-            | Node::PrimitiveType { .. }
-            | Node::NamedType { .. }
-            | Node::QualifiedType { .. }
-            | Node::Number { .. }
-            | Node::Truth { .. }
-            | Node::Null
-            | Node::This
-            | Node::Variable { .. }
-            | Node::Result
-            | Node::Empty
-            | Node::Break
-            | Node::Continue => Parts::of([0; 4], 0),
-            Node::DiamondType { head: a }
-            | Node::ArrayType { element: a }
-            | Node::FieldAccess { object: a, .. }
-            | Node::Call { arguments: a, .. }
-            | Node::SuperCall { arguments: a, .. }
-            | Node::Unary { operand: a, .. }
-            | Node::Step { target: a, .. }
-            | Node::Old { operand: a }
-            | Node::Block { statements: a }
-            | Node::Declarator { initial: a, .. }
-            | Node::ExpressionStatement { expression: a }
-            | Node::Return { value: a }
-            | Node::ConstructorCall { arguments: a }
-            | Node::Parameter { declared: a, .. }
-            | Node::Requires { condition: a }
-            | Node::Ensures { condition: a } => Parts::of([a, 0, 0, 0], 1),
-            Node::Cons { first: a, rest: b }
-            | Node::GenericType {
-                head: a,
-                argument: b,
-            }
-            | Node::ArrayAccess { array: a, index: b }
-            | Node::MethodCall {
-                object: a,
-                arguments: b,
-                ..
-            }
-            | Node::ObjectCreation {
-                class: a,
-                arguments: b,
-            }
-            | Node::ArrayCreation {
-                element: a,
-                length: b,
-            }
-            | Node::Binary {
-                left: a,
-                right: b,
-                ..
-            }
-            | Node::InstanceOf {
-                operand: a,
-                tested: b,
-            }
-            | Node::Cast {
-                target: a,
-                operand: b,
-            }
-            | Node::Assignment {
-                target: a,
-                value: b,
-            }
-            | Node::CompoundAssignment {
-                target: a,
-                value: b,
-                ..
-            }
-            | Node::Local {
-                declared: a,
-                declarators: b,
-            }
-            | Node::IfThen {
-                condition: a,
-                holds: b,
-            }
-            | Node::While {
-                condition: a,
-                body: b,
-            }
-            | Node::Do {
-                body: a,
-                condition: b,
-            }
-            | Node::Class {
-                extended: a,
-                members: b,
-                ..
-            }
-            | Node::Field {
-                declared: a,
-                declarators: b,
-                ..
-            }
-            | Node::Method {
-                signature: a,
-                body: b,
-                ..
-            } => Parts::of([a, b, 0, 0], 2),
-            Node::Conditional {
-                condition: a,
-                holds: b,
-                fails: c,
-            }
-            | Node::IfElse {
-                condition: a,
-                holds: b,
-                fails: c,
-            }
-            | Node::Signature {
-                result: a,
-                parameters: b,
-                contracts: c,
-            }
-            | Node::Constructor {
-                parameters: a,
-                super_call: b,
-                body: c,
-            } => Parts::of([a, b, c, 0], 3),
-            Node::For {
-                initial: a,
-                condition: b,
-                updates: c,
-                body: d,
-            } => Parts::of([a, b, c, d], 4),
-        }
+        parts_of(self)
     }
 
     pub fn names(&self) -> Names

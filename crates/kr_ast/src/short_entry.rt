@@ -44,8 +44,8 @@ fn short_entry(entry: Entry, words: Words) -> ShortEntry
     }
 }
 
-/// Puts a node into the second list.
-#[inline(never)]
+/// Puts a node into the second list. It is inlined so that the others aren't made in memory.
+#[inline(always)]
 fn put_long(long: &mut Vec<LongNode>, entry: Entry) -> Result<ShortEntry, NoMemory>
     ensures grown { (more : List LongMeant) × (long.new.items ≡ long.old.items ++ more) }
     ensures kept { IfOk result (λ s. IsKept (length long.new.items) s) }

@@ -42,7 +42,8 @@ impl Tree {
         self.entries.len() as u32
     }
 
-    /// A node with its place and its parent, if it has one.
+    /// A node with its place and its parent, if it has one. It is inlined: what a caller doesn't read isn't made.
+    #[inline(always)]
     pub fn entry(&self, at: u32) -> Entry
         requires { at < length self.now.entries }
         ensures here { slice_get self.now.entries at ≡ Some result }

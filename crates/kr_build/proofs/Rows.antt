@@ -7,7 +7,7 @@ use Rattle.kr_value.specs.declared.value.Value.{Value}
 use Rattle.kr_mean.specs.Problem.{Problem, ClassDomain, DomainObject, Spotted, domain_at, slots, slot_at, choices_at}
 use Rattle.kr_mean.specs.Space.{IsVector, space_of}
 use Rattle.kr_mean.specs.WellFormed.{AreSpots, IsWellFormed}
-use Rattle.kr_mean.specs.Heaps.{choice_at, slots_in, value_at}
+use Rattle.kr_mean.specs.Heaps.{choice_at, length_in, slots_in, value_at}
 use Rattle.kr_space_layout.specs.Layouts.{first_slot, slots_before}
 use Rattle.kr_laws_slots.proofs.Numbering as numbering
 use Rattle.kr_laws_slots.proofs.Numbering.{object, width_at, object_slot}
@@ -55,6 +55,13 @@ array_wide Set ss a e = absurd (cc (e))
 array_wide ListClass ss a e = absurd (cc (e))
 array_wide (Array t) [] a e = absurd a
 array_wide (Array t) (s ∷ ss) a e = omega arith
+
+-- the length of an array that has so many slots
+pub array_short : (c : Class) (width : ℕ) (x : Value) → is_array c ≡ true → extent_of c width x ≤ width → width < 2147483648 → length_in x < 2147483648
+array_short (Object c) width x e h l = absurd (cc (e))
+array_short Set width x e h l = absurd (cc (e))
+array_short ListClass width x e h l = absurd (cc (e))
+array_short (Array t) width x e h l = omega (arith, h, l)
 
 pub record Row (problem : Problem) (v : List ℕ) (d k : ℕ) : Type 0 where
   pub inside : (j : ℕ) → j < width_at problem d → first_slot problem (object d k) + j < length (slots problem)

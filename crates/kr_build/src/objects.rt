@@ -17,6 +17,7 @@ use kr_vector::{Slot, Vector};
 
 /// The number that a value is as an array's length.
 fn length_of(value: Value) -> u32
+    requires { length_in value < 2 ^ 31 }
     ensures is { result ≡ length_in value }
     ensures small { result < 2 ^ 31 }
 {
@@ -32,6 +33,7 @@ fn length_of(value: Value) -> u32
 fn extent(layout: &Layout, vector: &Vector, class: Class, first: u32, width: u32) -> u32
     requires vector { IsVector (space_of (bare layout.now)) vector.now }
     requires array { is_array class ≡ true → first < length (slots (bare layout.now)) }
+    requires short { is_array class ≡ true → length_in (value_at (bare layout.now) vector.now first) < 2 ^ 31 }
     ensures { result ≡ extent_of class width (value_at (bare layout.now) vector.now first) }
 {
     match class {

@@ -1,5 +1,6 @@
 // The outcome of a constant's initial value: a walk over its nodes with an explicit stack.
-ghost use Rattle.std.specs.Prelude.{◌≡◌, ◌+◌, ◌<◌, List, length, IfOk};
+ghost use Rattle.std.specs.Prelude.{◌≡◌, ◌+◌, ◌<◌, List, length, pos, IfOk};
+ghost use Rattle.kr_classes_table.specs.Numbers.{Bits32, wrap};
 ghost use Rattle.kr_base.specs.declared.place.Place.{Place};
 ghost use Rattle.kr_ast.specs.Arena.{AreNamesIn, names, parts, tree_in};
 ghost use Rattle.kr_classes_table.specs.Constants.{Known, is_primitive};
@@ -35,6 +36,13 @@ fn is_primitive_type(tree: &Tree, node: u32) -> bool
     }
 }
 
+/// The value of an int's literal, which wraps.
+fn int_value(value: u32) -> Value
+    ensures { result ≡ Value.Int (wrap Bits32 (pos value)) }
+{
+    Value::Int(i64::from(value.cast_signed()))
+}
+
 /// Looks at a node: gives its outcome, or continues with its first part.
 fn look_at(
     trees: &[Tree],
@@ -57,7 +65,7 @@ fn look_at(
     let tree = tree_of(trees, site.file);
     match node {
         Node::Number { value } => {
-            let number = Value::Int(value.cast_signed());
+            let number = int_value(value);
             Ok(Task::Give(Note::Value(number)))
         }
         Node::Truth { value } => Ok(Task::Give(Note::Value(Value::Bool(value)))),

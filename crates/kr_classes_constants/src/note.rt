@@ -6,7 +6,7 @@ ghost use Rattle.kr_classes_constants.specs.Outcomes.{binary_outcome, conditiona
 use kr_ast::{BinaryOperator, UnaryOperator};
 use kr_classes_operators::{apply, apply_alone};
 use kr_classes_table::OperatorError;
-use kr_value::Value;
+use kr_value::{Value, Width};
 
 /// The outcome of an expression.
 #[derive(Clone, Copy)]
@@ -46,7 +46,7 @@ pub(crate) fn unary_note(operator: UnaryOperator, operand: Note) -> Note
     match operand {
         Note::NotConstant => Note::NotConstant,
         Note::NoValue => Note::NoValue,
-        Note::Value(value) => Note::of(apply_alone(operator, value)),
+        Note::Value(value) => Note::of(apply_alone(Width::Bits32, operator, value)),
     }
 }
 
@@ -58,7 +58,7 @@ pub(crate) fn binary_note(operator: BinaryOperator, left: Note, right: Note) -> 
         (_, Note::NotConstant, _) | (_, _, Note::NotConstant) => Note::NotConstant,
         (BinaryOperator::And, Note::Value(Value::Bool(false)), _) => left,
         (BinaryOperator::Or, Note::Value(Value::Bool(true)), _) => left,
-        (_, Note::Value(a), Note::Value(b)) => Note::of(apply(operator, a, b)),
+        (_, Note::Value(a), Note::Value(b)) => Note::of(apply(Width::Bits32, operator, a, b)),
         _ => Note::NoValue,
     }
 }

@@ -2,14 +2,15 @@
 use Rattle.std.proofs.Common.{◌≡◌, refl, sym, subst, ℕ, zero, suc, Bool, true, List, [], ◌∷◌, Some}
 use Rattle.std.specs.Prelude.{slice_get}
 use Rattle.kr_ast.specs.Grow.{grow}
+use Rattle.kr_classes_table.specs.Numbers.{Bits32}
 use Rattle.kr_classes_names.specs.declared.form.TypeForm.{TypeForm}
-use Rattle.kr_classes_names.specs.declared.form.TypeForm.TheVariants.{Int, Boolean, Null, Void, Inferred}
+use Rattle.kr_classes_names.specs.declared.form.TypeForm.TheVariants.{Number, Boolean, Null, Void, Inferred}
 use Rattle.kr_classes_names.specs.ListedTypes.{AreApart}
 use Rattle.kr_classes_names.specs.Types.{AreTypes, IsMadeBelow, types_of}
 use Rattle.kr_classes_names.proofs.Made.{list_of}
 
-ordered : (i : ℕ) (f : TypeForm) → slice_get (Int ∷ Boolean ∷ Null ∷ Void ∷ Inferred ∷ []) i ≡ Some f → IsMadeBelow i 0 f
-ordered i Int e = tt
+ordered : (i : ℕ) (f : TypeForm) → slice_get (Number Bits32 ∷ Boolean ∷ Null ∷ Void ∷ Inferred ∷ []) i ≡ Some f → IsMadeBelow i 0 f
+ordered i (Number w) e = tt
 ordered i Boolean e = tt
 ordered i Null e = tt
 ordered i Void e = tt
@@ -24,7 +25,7 @@ ordered (suc (suc (suc (suc (suc i))))) _ e = absurd (cc)
 none_apart : AreApart {A = List ℕ} []
 none_apart i j x p q = cc
 
-pub base_types : AreApart (Int ∷ Boolean ∷ Null ∷ Void ∷ Inferred ∷ []) → AreTypes (list_of [] (Int ∷ Boolean ∷ Null ∷ Void ∷ Inferred ∷ [])) (true ∷ true ∷ true ∷ true ∷ true ∷ [])
+pub base_types : AreApart (Number Bits32 ∷ Boolean ∷ Null ∷ Void ∷ Inferred ∷ []) → AreTypes (list_of [] (Number Bits32 ∷ Boolean ∷ Null ∷ Void ∷ Inferred ∷ [])) (true ∷ true ∷ true ∷ true ∷ true ∷ [])
 unfolding types_of grow
 base_types a = record {
   ordered = ordered;
@@ -34,7 +35,7 @@ base_types a = record {
   names_apart = none_apart;
 }
 
-pub base_ready : (names : List (List ℕ)) (fs : List TypeForm) (known : List Bool) → names ≡ [] → fs ≡ Int ∷ Boolean ∷ Null ∷ Void ∷ Inferred ∷ [] → known ≡ true ∷ true ∷ true ∷ true ∷ true ∷ [] → AreApart fs → AreTypes (list_of names fs) known
+pub base_ready : (names : List (List ℕ)) (fs : List TypeForm) (known : List Bool) → names ≡ [] → fs ≡ Number Bits32 ∷ Boolean ∷ Null ∷ Void ∷ Inferred ∷ [] → known ≡ true ∷ true ∷ true ∷ true ∷ true ∷ [] → AreApart fs → AreTypes (list_of names fs) known
 base_ready names fs known e f g a =
     subst (λ (ns : List (List ℕ)). AreTypes (list_of ns fs) known) (sym e)
     (subst (λ (bs : List Bool). AreTypes (list_of [] fs) bs) (sym g)

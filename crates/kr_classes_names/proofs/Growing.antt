@@ -3,6 +3,7 @@ use Rattle.std.proofs.Common.{◌≡◌, refl, sym, ap, ◌∙◌, subst, ℕ, z
 use Rattle.std.specs.Prelude.{slice_get}
 use Rattle.std.proofs.lemmas.List.{get_or_append_left, map-append, length-map}
 use Rattle.kr_classes_table.specs.Types.{JavaType, VoidType, ArrayType, SetType, ListType, AppliedType, is_known}
+use Rattle.kr_classes_table.specs.Numbers.{Bits32}
 use Rattle.kr_classes_names.specs.declared.form.TypeForm.{TypeForm}
 use Rattle.kr_classes_names.specs.declared.form.TypeForm.TheVariants as forms
 use Rattle.kr_classes_names.specs.ListedTypes.{AreApart, IsGrown}
@@ -40,7 +41,7 @@ number_at l known k n f e = record { within = got_below l.forms n f e; type_is =
 
 pub based_more : (fs more : List TypeForm) → IsBased fs → IsBased (fs ++ more)
 based_more fs more b = record {
-  int = got_left fs more 0 forms.Int b.int;
+  int = got_left fs more 0 (forms.Number Bits32) b.int;
   boolean = got_left fs more 1 forms.Boolean b.boolean;
   null = got_left fs more 2 forms.Null b.null;
   void = got_left fs more 3 forms.Void b.void;

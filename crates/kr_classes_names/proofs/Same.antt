@@ -2,7 +2,8 @@
 use Rattle.std.proofs.Common.{◌≡◌, refl, sym, ap, ◌∙◌, ℕ, zero, suc, ◌+◌, ◌<◌, Bool, true, false, ◌&&◌, List, [], ◌∷◌, length, nat_eq, bytes_eq, Some, arith, rules}
 use Rattle.std.specs.Prelude.{slice_get}
 use Rattle.std.proofs.lemmas.Slice.Eq.{bytes_eq-Decides}
-use Rattle.kr_classes_table.specs.Types.{JavaType, IntType, BooleanType, NullType, VoidType, ClassType, ArrayType, SetType, ListType, InferredType, UnknownType, AppliedType, is_same}
+use Rattle.kr_classes_table.proofs.Widths.{same_width, width_itself}
+use Rattle.kr_classes_table.specs.Types.{JavaType, NumberType, BooleanType, NullType, VoidType, ClassType, ArrayType, SetType, ListType, InferredType, UnknownType, AppliedType, is_same}
 use Rattle.kr_classes_names.specs.declared.form.TypeForm.{TypeForm}
 use Rattle.kr_classes_names.specs.declared.form.TypeForm.TheVariants as forms
 use Rattle.kr_classes_names.specs.ListedTypes.{AreApart}
@@ -28,8 +29,8 @@ second_true true b e = e
 second_true false b e = absurd (cc)
 
 pub equal : (s t : JavaType) → is_same s t ≡ true → s ≡ t
-equal IntType IntType e = refl
-equal IntType _ e = absurd (cc)
+equal (NumberType v) (NumberType w) e = ap NumberType (same_width v w e)
+equal (NumberType v) _ e = absurd (cc)
 equal BooleanType BooleanType e = refl
 equal BooleanType _ e = absurd (cc)
 equal NullType NullType e = refl
@@ -63,6 +64,7 @@ same_itself (SetType t) = same_itself t
 same_itself (ListType t) = same_itself t
 same_itself (UnknownType o n) = both_true (bytes_eq o o) (bytes_eq n n) (itself o) (itself n)
 same_itself (AppliedType h t) = both_true (is_same h h) (is_same t t) (same_itself h) (same_itself t)
+same_itself (NumberType w) = width_itself w
 same_itself _ = refl
 
 -- the item at an index
@@ -82,8 +84,8 @@ names_differ names a i j k l e = a i j (name_at names j) (name_got names i k ∙
 -- types of different forms differ, where those that they are made of do
 form_same : (names : List (List ℕ)) → AreApart names → (look : ℕ → JavaType) (i : ℕ) → ((x y : ℕ) → x < i → y < i → look x ≡ look y → x ≡ y)
     → (f g : TypeForm) → IsMadeBelow i (length names) f → IsMadeBelow i (length names) g → type_in names look f ≡ type_in names look g → f ≡ g
-form_same names a look i h forms.Int forms.Int v w e = refl
-form_same names a look i h forms.Int _ v w e = absurd (cc)
+form_same names a look i h (forms.Number x) (forms.Number y) v w e = let s : x ≡ y = cc in ap forms.Number s
+form_same names a look i h (forms.Number x) _ v w e = absurd (cc)
 form_same names a look i h forms.Boolean forms.Boolean v w e = refl
 form_same names a look i h forms.Boolean _ v w e = absurd (cc)
 form_same names a look i h forms.Null forms.Null v w e = refl

@@ -3,7 +3,7 @@ use Rattle.std.specs.Prelude.{◌≡◌, ℕ, ◌<◌, List, [], length, map, sl
 use Rattle.kr_ast.specs.Arena.{Arena, root, tree_in}
 use Rattle.kr_ast.specs.declared.node.Primitive.{Primitive}
 use Rattle.kr_ast.specs.declared.node.Primitive.TheVariants.{Int, Boolean, Void}
-use Rattle.kr_classes_table.specs.Types.{JavaType, IntType, BooleanType, VoidType}
+use Rattle.kr_classes_table.specs.Types.{JavaType, int_type, BooleanType, VoidType}
 use Rattle.kr_classes_table.specs.Table.{headings_of, type_named}
 use Rattle.kr_ast.specs.Files.{file_at}
 use Rattle.kr_classes_names.specs.Types.{TypeList, IsTypeNumber}
@@ -34,6 +34,6 @@ abbrev pub AreNodeTypes : List Arena → TypeList → List (List ℕ) → Type 0
 AreNodeTypes files l ns = (f n : ℕ) → IsTypeNumber l (number_in ns f n) (named_type files f n)
 
 abbrev pub primitive_named : Primitive → JavaType
-primitive_named Int = IntType
+primitive_named Int = int_type
 primitive_named Boolean = BooleanType
 primitive_named Void = VoidType

@@ -1,7 +1,8 @@
 -- Between crates: the types of type numbers.
 use Rattle.std.specs.Prelude.{◌≡◌, ℕ, ◌<◌, ◌≤◌, ◌==◌, Bool, List, [], length, map, Some, slice_get, slice_index_or}
 use Rattle.kr_ast.specs.Grow.{grow}
-use Rattle.kr_classes_table.specs.Types.{JavaType, IntType, BooleanType, NullType, VoidType, ClassType, ArrayType, SetType, ListType, InferredType, UnknownType, AppliedType, is_known, is_same}
+use Rattle.kr_classes_table.specs.Numbers.{Bits32}
+use Rattle.kr_classes_table.specs.Types.{JavaType, NumberType, BooleanType, NullType, VoidType, ClassType, ArrayType, SetType, ListType, InferredType, UnknownType, AppliedType, is_known, is_same}
 use Rattle.kr_classes_names.specs.declared.form.TypeForm.{TypeForm}
 use Rattle.kr_classes_names.specs.declared.form.TypeForm.TheVariants as forms
 use Rattle.kr_classes_names.specs.ListedTypes.{AreApart}
@@ -16,7 +17,7 @@ name_at names n = slice_index_or names n []
 
 -- a type, from the types of the numbers in its form
 abbrev pub type_in : List (List ℕ) → (ℕ → JavaType) → TypeForm → JavaType
-type_in names look forms.Int = IntType
+type_in names look (forms.Number w) = NumberType w
 type_in names look forms.Boolean = BooleanType
 type_in names look forms.Null = NullType
 type_in names look forms.Void = VoidType
@@ -60,7 +61,7 @@ IsMadeOf l f = IsMadeBelow (length l.forms) (length l.names) f
 
 -- the types that are always there, first
 pub record IsBased (fs : List TypeForm) : Type 0 where
-  pub int : slice_get fs 0 ≡ Some forms.Int
+  pub int : slice_get fs 0 ≡ Some (forms.Number Bits32)
   pub boolean : slice_get fs 1 ≡ Some forms.Boolean
   pub null : slice_get fs 2 ≡ Some forms.Null
   pub void : slice_get fs 3 ≡ Some forms.Void

@@ -5,14 +5,15 @@ ghost use Rattle.kr_classes_names.specs.ListedTypes.{AreApart, IsAbsent};
 use indexmap::IndexSet;
 use kr_base::NoMemory;
 use kr_classes_table::{ClassId, NameId, TypeId};
+use kr_value::Width;
 use std::alloc::Global;
 use std::marker::Model;
 
-/// A type by its parts. `Class` has the number of a class; `Array`, `Set` and `List` that of the type of the elements or
+/// A type by its parts. `Number` has the width of its numbers; `Class` has the number of a class; `Array`, `Set` and `List` that of the type of the elements or
 /// members; `Unknown` those of the outer name and the name that no class has; `Applied` those of its head and its argument.
 #[derive(Clone, Copy, PartialEq, Eq, Hash)]
 pub enum TypeForm {
-    Int,
+    Number(Width),
     Boolean,
     Null,
     Void,

@@ -11,14 +11,15 @@ use crate::{Heads, TypeForm, Types};
 use kr_ast::{Node, Primitive, Tree, tree_of};
 use kr_base::NoMemory;
 use kr_classes_table::{ClassId, TypeId};
+use kr_sparse::Sparse;
 use std::alloc::Global;
 use std::marker::Model;
 
-/// For each node of each file the number of the type that it names; `void`'s number if it names none. Contracts see the
+/// For each node of each file the number of the type that it names; `void`'s number if it names none, as most do. Contracts see the
 /// lists of numbers, file by file.
 #[derive(Drop)]
 pub struct NodeTypes {
-    files: Vec<Vec<TypeId>>,
+    files: Vec<Sparse<TypeId>>,
 }
 
 impl Model for NodeTypes {
@@ -64,7 +65,7 @@ fn node_type(
     heads: &Heads,
     types: &mut Types,
     file: u32,
-    numbers: &Vec<TypeId>,
+    numbers: &Sparse<TypeId>,
     node: u32,
 ) -> Result<TypeId, NoMemory>
     requires heads { AreHeads trees.now heads.now }
@@ -87,10 +88,10 @@ fn node_type(
             class_type(alloc, types, class, tree.name(outer), tree.name(name))
         }
         Node::GenericType { head, argument } => {
-            types.applied(numbers[head as usize], numbers[argument as usize])
+            types.applied(numbers.at(head as usize), numbers.at(argument as usize))
         }
-        Node::DiamondType { head } => types.applied(numbers[head as usize], types.inferred()),
-        Node::ArrayType { element } => types.number(TypeForm::Array(numbers[element as usize])),
+        Node::DiamondType { head } => types.applied(numbers.at(head as usize), types.inferred()),
+        Node::ArrayType { element } => types.number(TypeForm::Array(numbers.at(element as usize))),
         _ => Ok(types.void()),
     }
 }
@@ -102,17 +103,18 @@ fn file_types(
     heads: &Heads,
     types: &mut Types,
     file: u32,
-) -> Result<Vec<TypeId>, NoMemory>
+) -> Result<Sparse<TypeId>, NoMemory>
     requires heads { AreHeads trees.now heads.now }
     requires file { file < length trees.now }
     ensures numbers { IfOk result (λ numbers. AreFileTypes trees.now types.new file numbers.items) }
     ensures extends { Extends types.old types.new }
 {
-    let mut numbers = Vec::new(alloc);
+    let void = types.void();
+    let mut numbers = Sparse::new(alloc, void);
     let nodes = tree_of(trees, file).nodes();
     for node in 0..nodes {
         let number = node_type(alloc, trees, heads, types, file, &numbers, node)?;
-        numbers.push(number)?;
+        numbers.push(number, number == void)?;
     }
     Ok(numbers)
 }
@@ -146,10 +148,14 @@ impl NodeTypes {
     {
         match self.files.get(file as usize) {
             None => 3,
-            Some(numbers) => match numbers.get(node as usize) {
-                None => 3,
-                Some(number) => *number,
-            },
+            Some(numbers) => {
+                let at = node as usize;
+                if at < numbers.len() {
+                    numbers.at(at)
+                } else {
+                    3
+                }
+            }
         }
     }
 }

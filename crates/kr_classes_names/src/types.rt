@@ -1,8 +1,9 @@
 // All types by their numbers.
 ghost use Rattle.std.specs.Prelude.{◌≡◌, ◌<◌, ◌≤◌, ◌⊎◌, ◌∷◌, ◌++◌, [], Some, slice_get, slice_index_or, length, IfOk, OnErr};
-ghost use Rattle.kr_classes_table.specs.Types.{IntType, BooleanType, NullType, VoidType, InferredType, UnknownType, is_same, is_known, is_element, is_collection, is_reference};
+ghost use Rattle.kr_classes_table.specs.Types.{int_type, BooleanType, NullType, VoidType, InferredType, UnknownType, is_same, is_known, is_element, is_collection, is_reference};
 ghost use Rattle.kr_classes_table.specs.Table.{applied};
-ghost use Rattle.kr_classes_names.specs.declared.form.TypeForm.TheVariants.{Int, Boolean, Null, Void, Inferred, Unknown, Applied};
+ghost use Rattle.kr_classes_table.specs.Numbers.{Bits32};
+ghost use Rattle.kr_classes_names.specs.declared.form.TypeForm.TheVariants.{Number, Boolean, Null, Void, Inferred, Unknown, Applied};
 ghost use Rattle.kr_classes_names.specs.ListedTypes.{AreApart, IsGrown};
 ghost use Rattle.kr_classes_names.specs.Types.{AreDistinct, Extends, IsMadeOf, IsTypeNumber, count, type_at, type_of_form};
 
@@ -10,6 +11,7 @@ use crate::form::{Forms, TypeForm};
 use crate::spellings::Spellings;
 use kr_base::NoMemory;
 use kr_classes_table::{NameId, TypeId};
+use kr_value::Width;
 use std::alloc::Global;
 use std::marker::Model;
 
@@ -34,11 +36,11 @@ impl Model for Types {
 
 /// The forms of the types that are always there.
 fn base_forms(alloc: Global) -> Result<Forms, NoMemory>
-    ensures forms { IfOk result (λ forms. forms ≡ Int ∷ Boolean ∷ Null ∷ Void ∷ Inferred ∷ []) }
+    ensures forms { IfOk result (λ forms. forms ≡ Number Bits32 ∷ Boolean ∷ Null ∷ Void ∷ Inferred ∷ []) }
     ensures apart { IfOk result (λ forms. AreApart forms) }
 {
     let mut forms = Forms::new(alloc);
-    forms.number(TypeForm::Int)?;
+    forms.number(TypeForm::Number(Width::Bits32))?;
     forms.number(TypeForm::Boolean)?;
     forms.number(TypeForm::Null)?;
     forms.number(TypeForm::Void)?;
@@ -112,7 +114,7 @@ impl Types {
 
     /// `int`
     pub fn int(&self) -> TypeId
-        ensures { IsTypeNumber self.now result IntType }
+        ensures { IsTypeNumber self.now result int_type }
     {
         prove!(0 < self.forms.len());
         0

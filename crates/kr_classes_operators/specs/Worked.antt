@@ -6,6 +6,7 @@ use Rattle.kr_ast.specs.declared.node.BinaryOperator.{BinaryOperator}
 use Rattle.kr_ast.specs.declared.node.BinaryOperator.TheVariants.{Multiply, Divide, Remainder, Add, Subtract, ShiftLeft, ShiftRight, ShiftRightUnsigned, Less, Greater, LessOrEqual, GreaterOrEqual, Equal, NotEqual, BitAnd, BitXor, BitOr, And, Or}
 use Rattle.kr_value.specs.declared.value.Value.TheVariants.{Int, Bool as Truth, Null, Ref as Reference}
 use Rattle.kr_classes_table.specs.declared.errors.OperatorError.TheVariants.{ZeroDivisor, NotDefined}
+use Rattle.kr_classes_table.specs.Numbers.{Bits32}
 use Rattle.kr_classes_table.specs.Operators.{Applied, apply, apply_alone}
 use Rattle.kr_classes_table.specs.Constants.{binary_value, chosen}
 
@@ -20,7 +21,7 @@ abbrev pub greatest : ℤ
 greatest = pos 2147483647
 
 abbrev pub on_ints : BinaryOperator → ℤ → ℤ → Applied
-on_ints o a b = apply o (Int a) (Int b)
+on_ints o a b = apply Bits32 o (Int a) (Int b)
 
 -- -5 with 3, 4 with 4, 3 with -5
 abbrev pub compared : BinaryOperator → List Applied
@@ -29,20 +30,20 @@ compared o = on_ints o (negsuc 4) (pos 3) ∷ on_ints o (pos 4) (pos 4) ∷ on_i
 -- true with true, true with false, false with true, false with false
 abbrev pub on_truths : BinaryOperator → List Applied
 on_truths o =
-    apply o (Truth true) (Truth true)
-    ∷ apply o (Truth true) (Truth false)
-    ∷ apply o (Truth false) (Truth true)
-    ∷ apply o (Truth false) (Truth false)
+    apply Bits32 o (Truth true) (Truth true)
+    ∷ apply Bits32 o (Truth true) (Truth false)
+    ∷ apply Bits32 o (Truth false) (Truth true)
+    ∷ apply Bits32 o (Truth false) (Truth false)
     ∷ []
 
 -- null with null, null with an object, an object with null, with itself, with another one
 abbrev pub on_references : BinaryOperator → List Applied
 on_references o =
-    apply o Null Null
-    ∷ apply o Null (Reference 0)
-    ∷ apply o (Reference 0) Null
-    ∷ apply o (Reference 3) (Reference 3)
-    ∷ apply o (Reference 3) (Reference 4)
+    apply Bits32 o Null Null
+    ∷ apply Bits32 o Null (Reference 0)
+    ∷ apply Bits32 o (Reference 0) Null
+    ∷ apply Bits32 o (Reference 3) (Reference 3)
+    ∷ apply Bits32 o (Reference 3) (Reference 4)
     ∷ []
 
 abbrev pub int : ℤ → Applied
@@ -62,16 +63,16 @@ undefined = Err NotDefined
 
 pub record WorkedOperators : Type 0 where
   -- one operand
-  pub plus : apply_alone Plus (Int least) ≡ int least
-  pub minus : apply_alone Minus (Int (pos 5)) ≡ int (negsuc 4)
-  pub minus_least : apply_alone Minus (Int least) ≡ int least
-  pub complement : apply_alone Complement (Int (pos 7)) ≡ int (negsuc 7)
-  pub minus_negative : apply_alone Minus (Int (negsuc 4)) ≡ int (pos 5)
-  pub complement_least : apply_alone Complement (Int least) ≡ int greatest
-  pub «not» : apply_alone Not (Truth true) ≡ fails
-  pub not_false : apply_alone Not (Truth false) ≡ holds
-  pub not_of_int : apply_alone Not (Int (pos 1)) ≡ undefined
-  pub minus_of_truth : apply_alone Minus (Truth true) ≡ undefined
+  pub plus : apply_alone Bits32 Plus (Int least) ≡ int least
+  pub minus : apply_alone Bits32 Minus (Int (pos 5)) ≡ int (negsuc 4)
+  pub minus_least : apply_alone Bits32 Minus (Int least) ≡ int least
+  pub complement : apply_alone Bits32 Complement (Int (pos 7)) ≡ int (negsuc 7)
+  pub minus_negative : apply_alone Bits32 Minus (Int (negsuc 4)) ≡ int (pos 5)
+  pub complement_least : apply_alone Bits32 Complement (Int least) ≡ int greatest
+  pub «not» : apply_alone Bits32 Not (Truth true) ≡ fails
+  pub not_false : apply_alone Bits32 Not (Truth false) ≡ holds
+  pub not_of_int : apply_alone Bits32 Not (Int (pos 1)) ≡ undefined
+  pub minus_of_truth : apply_alone Bits32 Minus (Truth true) ≡ undefined
   -- sums and products wrap
   pub sum : on_ints Add (negsuc 6) (pos 3) ≡ int (negsuc 3)
   pub difference : on_ints Subtract (pos 3) (negsuc 6) ≡ int (pos 10)
@@ -142,10 +143,10 @@ pub record WorkedOperators : Type 0 where
   pub references_equal : on_references Equal ≡ holds ∷ fails ∷ fails ∷ holds ∷ fails ∷ []
   pub references_unequal : on_references NotEqual ≡ fails ∷ holds ∷ holds ∷ fails ∷ holds ∷ []
   pub references_less : on_references Less ≡ undefined ∷ undefined ∷ undefined ∷ undefined ∷ undefined ∷ []
-  pub unlike : apply Equal (Int (pos 0)) (Truth false) ≡ undefined
-  pub unlike_null : apply Equal Null (Int (pos 0)) ≡ undefined
-  pub unlike_reference : apply Equal (Int (pos 0)) (Reference 0) ≡ undefined
-  pub divided_truth : apply Divide (Truth true) (Int (pos 0)) ≡ undefined
+  pub unlike : apply Bits32 Equal (Int (pos 0)) (Truth false) ≡ undefined
+  pub unlike_null : apply Bits32 Equal Null (Int (pos 0)) ≡ undefined
+  pub unlike_reference : apply Bits32 Equal (Int (pos 0)) (Reference 0) ≡ undefined
+  pub divided_truth : apply Bits32 Divide (Truth true) (Int (pos 0)) ≡ undefined
   -- `&&` and `||` need their right operand only where the left one doesn't settle them; `&` needs both
   pub and_settled : binary_value And (Some (Truth false)) None ≡ Some (Truth false)
   pub or_settled : binary_value Or (Some (Truth true)) None ≡ Some (Truth true)

@@ -4,16 +4,16 @@ ghost use Rattle.kr_classes_table.specs.Numbers.{Bits32};
 ghost use Rattle.kr_classes_table.specs.Operators.{apply as applied, apply_alone as applied_alone, of_booleans, of_references, of_wholes};
 
 use crate::ints::{
-    both_bits, complemented, difference, different_bits, either_bits, left_shift, negated, product,
-    quotient, remainder, right_shift, sum, unsigned_right_shift,
+    both_bits, complemented, difference, different_bits, either_bits, left_shift, narrowed,
+    negated, product, quotient, remainder, right_shift, sum, unsigned_right_shift,
 };
 use kr_ast::{BinaryOperator, UnaryOperator};
 use kr_classes_table::OperatorError;
-use kr_value::Value;
+use kr_value::{Value, Width};
 
 /// An operator on two ints.
 #[inline(never)]
-fn of_ints(operator: BinaryOperator, a: i32, b: i32) -> Result<Value, OperatorError>
+fn of_ints(operator: BinaryOperator, a: i64, b: i64) -> Result<Value, OperatorError>
     ensures { result ≡ of_wholes Bits32 operator a b }
 {
     match operator {
@@ -76,13 +76,33 @@ fn of_objects(operator: BinaryOperator, same: bool) -> Result<Value, OperatorErr
     }
 }
 
-/// An operator on two values.
+/// An operator on two numbers of a width.
 #[inline(always)]
-pub fn apply(operator: BinaryOperator, a: Value, b: Value) -> Result<Value, OperatorError>
-    ensures { result ≡ applied operator a b }
+fn of_numbers(
+    width: Width,
+    operator: BinaryOperator,
+    a: i64,
+    b: i64,
+) -> Result<Value, OperatorError>
+    ensures { result ≡ of_wholes width operator a b }
+{
+    match width {
+        Width::Bits32 => of_ints(operator, a, b),
+    }
+}
+
+/// An operator on two values, of which numbers have this width.
+#[inline(always)]
+pub fn apply(
+    width: Width,
+    operator: BinaryOperator,
+    a: Value,
+    b: Value,
+) -> Result<Value, OperatorError>
+    ensures { result ≡ applied width operator a b }
 {
     match (a, b) {
-        (Value::Int(a), Value::Int(b)) => of_ints(operator, a, b),
+        (Value::Int(a), Value::Int(b)) => of_numbers(width, operator, a, b),
         (Value::Bool(a), Value::Bool(b)) => of_truths(operator, a, b),
         (Value::Null, Value::Null) => of_objects(operator, true),
         (Value::Null, Value::Ref(_)) | (Value::Ref(_), Value::Null) => of_objects(operator, false),
@@ -91,15 +111,36 @@ pub fn apply(operator: BinaryOperator, a: Value, b: Value) -> Result<Value, Oper
     }
 }
 
-/// An operator on one value.
+/// An operator on an int.
 #[inline(always)]
-pub fn apply_alone(operator: UnaryOperator, a: Value) -> Result<Value, OperatorError>
-    ensures { result ≡ applied_alone operator a }
+fn of_int(operator: UnaryOperator, a: i64) -> Result<Value, OperatorError>
+    ensures { result ≡ applied_alone Bits32 operator (Value.Int a) }
+{
+    match operator {
+        UnaryOperator::Plus => Ok(Value::Int(narrowed(a))),
+        UnaryOperator::Minus => Ok(Value::Int(negated(a))),
+        UnaryOperator::Complement => Ok(Value::Int(complemented(a))),
+        UnaryOperator::Not => Err(OperatorError::NotDefined),
+    }
+}
+
+/// An operator on a number of a width.
+#[inline(always)]
+fn of_number(width: Width, operator: UnaryOperator, a: i64) -> Result<Value, OperatorError>
+    ensures { result ≡ applied_alone width operator (Value.Int a) }
+{
+    match width {
+        Width::Bits32 => of_int(operator, a),
+    }
+}
+
+/// An operator on one value, a number of this width or another one.
+#[inline(always)]
+pub fn apply_alone(width: Width, operator: UnaryOperator, a: Value) -> Result<Value, OperatorError>
+    ensures { result ≡ applied_alone width operator a }
 {
     match (operator, a) {
-        (UnaryOperator::Plus, Value::Int(a)) => Ok(Value::Int(a)),
-        (UnaryOperator::Minus, Value::Int(a)) => Ok(Value::Int(negated(a))),
-        (UnaryOperator::Complement, Value::Int(a)) => Ok(Value::Int(complemented(a))),
+        (_, Value::Int(a)) => of_number(width, operator, a),
         (UnaryOperator::Not, Value::Bool(a)) => Ok(Value::Bool(!a)),
         _ => Err(OperatorError::NotDefined),
     }

@@ -20,13 +20,13 @@ value_in (Ok v) = Some v
 value_in (Err e) = None
 
 abbrev pub unary_value : UnaryOperator → Value → Option Value
-unary_value o v = value_in (apply_alone o v)
+unary_value o v = value_in (apply_alone Bits32 o v)
 
 -- the right operand counts only where it is needed
 abbrev pub binary_value : BinaryOperator → Option Value → Option Value → Option Value
 binary_value And (Some (Truth false)) b = Some (Truth false)
 binary_value Or (Some (Truth true)) b = Some (Truth true)
-binary_value o (Some a) (Some b) = value_in (apply o a b)
+binary_value o (Some a) (Some b) = value_in (apply Bits32 o a b)
 binary_value o a b = None
 
 abbrev pub chosen : Option Value → Option Value → Option Value → Option Value

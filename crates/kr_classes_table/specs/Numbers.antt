@@ -1,9 +1,10 @@
 -- To be believed: whole numbers of a width: two's complement that wraps (Java Language Specification 4.2.2, 15.15 to 15.22).
-use Rattle.std.specs.Prelude.{ℕ, ◌-◌, ◌/◌, ◌%◌, ◌^◌, ℤ, pos, negsuc, nat_lt, if◌then◌else◌}
+use Rattle.std.specs.Prelude.{ℕ, ◌-◌, ◌/◌, ◌%◌, ◌^◌, ℤ, pos, negsuc, nat_lt, Bool, true, if◌then◌else◌}
+pub use Rattle.kr_value.specs.declared.width.Width.{Width}
+pub use Rattle.kr_value.specs.declared.width.Width.TheVariants.{Bits32}
 
--- `int` has 32 bits
-pub data Width : Type 0 where
-  Bits32 : Width
+abbrev pub is_same_width : Width → Width → Bool
+is_same_width Bits32 Bits32 = true
 
 abbrev pub size : Width → ℕ
 size Bits32 = 32

@@ -9,7 +9,7 @@ use Rattle.kr_value.specs.declared.value.Value.{Value}
 use Rattle.kr_value.specs.declared.value.Value.TheVariants.{Int, Bool as Truth, Null, Ref as Reference}
 use Rattle.kr_classes_table.specs.declared.errors.OperatorError.{OperatorError}
 use Rattle.kr_classes_table.specs.declared.errors.OperatorError.TheVariants.{ZeroDivisor, NotDefined}
-use Rattle.kr_classes_table.specs.Numbers.{Width, Bits32, span, bits, whole_of, wrap, complement, shifted_right, distance}
+use Rattle.kr_classes_table.specs.Numbers.{Width, span, bits, whole_of, wrap, complement, shifted_right, distance}
 
 -- its value, or why there is none
 abbrev pub Applied : Type 0
@@ -19,7 +19,7 @@ Applied = Result Value OperatorError
 
 -- the value of a number of a width
 abbrev pub number : Width → ℤ → Value
-number Bits32 z = Int z
+number w z = Int z
 
 abbrev pub whole : Width → ℤ → Applied
 whole w z = Ok (number w (wrap w z))
@@ -83,20 +83,20 @@ of_references Equal same = truth same
 of_references NotEqual same = truth (not same)
 of_references o same = Err NotDefined
 
--- ---- values
+-- ---- values, of which numbers have a width
 
-abbrev pub apply : BinaryOperator → Value → Value → Applied
-apply o (Int a) (Int b) = of_wholes Bits32 o a b
-apply o (Truth a) (Truth b) = of_booleans o a b
-apply o Null Null = of_references o true
-apply o Null (Reference p) = of_references o false
-apply o (Reference p) Null = of_references o false
-apply o (Reference p) (Reference q) = of_references o (nat_eq p q)
-apply o v w = Err NotDefined
+abbrev pub apply : Width → BinaryOperator → Value → Value → Applied
+apply w o (Int a) (Int b) = of_wholes w o a b
+apply w o (Truth a) (Truth b) = of_booleans o a b
+apply w o Null Null = of_references o true
+apply w o Null (Reference p) = of_references o false
+apply w o (Reference p) Null = of_references o false
+apply w o (Reference p) (Reference q) = of_references o (nat_eq p q)
+apply w o u v = Err NotDefined
 
-abbrev pub apply_alone : UnaryOperator → Value → Applied
-apply_alone Plus (Int a) = whole Bits32 a
-apply_alone Minus (Int a) = whole Bits32 (neg_ℤ a)
-apply_alone Complement (Int a) = whole Bits32 (complement a)
-apply_alone Not (Truth a) = truth (not a)
-apply_alone o v = Err NotDefined
+abbrev pub apply_alone : Width → UnaryOperator → Value → Applied
+apply_alone w Plus (Int a) = whole w a
+apply_alone w Minus (Int a) = whole w (neg_ℤ a)
+apply_alone w Complement (Int a) = whole w (complement a)
+apply_alone w Not (Truth a) = truth (not a)
+apply_alone w o v = Err NotDefined

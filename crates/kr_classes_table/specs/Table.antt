@@ -4,7 +4,7 @@ use Rattle.kr_base.specs.declared.place.Place.{Place}
 use Rattle.kr_ast.specs.declared.node.Primitive.TheVariants.{Int, Boolean, Void}
 use Rattle.kr_ast.specs.Tree as trees
 use Rattle.kr_ast.specs.Tree.{Tree, Cons}
-use Rattle.kr_classes_table.specs.Types.{JavaType, IntType, BooleanType, NullType, VoidType, ClassType, ArrayType, SetType, ListType, InferredType, UnknownType, AppliedType, is_same, is_reference}
+use Rattle.kr_classes_table.specs.Types.{JavaType, int_type, BooleanType, NullType, VoidType, ClassType, ArrayType, SetType, ListType, InferredType, UnknownType, AppliedType, is_same, is_reference}
 
 -- ---- names of classes
 
@@ -83,7 +83,7 @@ applied h t = AppliedType h t
 
 -- the type that a type's tree means; what is absent is no value's type
 abbrev pub type_named : List Heading → Tree → JavaType
-type_named hs (trees.PrimitiveType p Int) = IntType
+type_named hs (trees.PrimitiveType p Int) = int_type
 type_named hs (trees.PrimitiveType p Boolean) = BooleanType
 type_named hs (trees.PrimitiveType p Void) = VoidType
 type_named hs (trees.NamedType p n) = class_or (class_named hs (trees.NamedType p n)) (UnknownType [] n)

@@ -19,7 +19,8 @@ use Rattle.kr_classes_table.specs.Constants.{constant_of, known_value as constan
 use Rattle.kr_classes_table.specs.Numbers.{Bits32, wrap}
 use Rattle.kr_types_meaning.specs.Scopes.{Scope, LocalName, FieldName, NoName, written, bind_local, after, meant, class_before, static_only, method_meant}
 use Rattle.kr_mean.specs.Program.{Program, default_of, is_of_type, overriding, class_scope, method_scope, constructor_scope, constructor_of, declared_fields, field_position, spot_of_field}
-use Rattle.kr_mean.specs.Meaning.{Target, LocalTarget, OwnField, FieldOf, ElementOf, NoTarget, target_of, typed_method, super_method, is_primitive, declaring_locals}
+use Rattle.kr_mean.specs.Meaning.{Target, LocalTarget, OwnField, FieldOf, ElementOf, NoTarget, target_of, typed_method, super_method, is_primitive, declaring_locals, width_at, width_of}
+use Rattle.kr_mean.specs.Operators.{binary_operation, unary_operation, step_operation}
 use Rattle.kr_mean.specs.Code as meaning
 use Rattle.kr_code.specs.declared.code.Code.{Code}
 use Rattle.kr_code.specs.declared.code.MethodCode.{MethodCode}
@@ -182,13 +183,13 @@ pub data IsExpression (program : Program) (code : Code) (n : Numbering) (s : Sco
   array : (p : Place) (t e : Tree) (i : ℕ) → IsPart n s e i
       → IsExpression program code n s (trees.ArrayCreation p t e) (expressions.NewArray (array_number program.arrays (ArrayType (written s t))) (default_of (written s t)) i)
   -- operators
-  unary : (p : Place) (o : UnaryOperator) (e : Tree) (i : ℕ) → IsPart n s e i → IsExpression program code n s (trees.Unary p o e) (expressions.Unary o i)
+  unary : (p : Place) (o : UnaryOperator) (e : Tree) (i : ℕ) → IsPart n s e i → IsExpression program code n s (trees.Unary p o e) (expressions.Unary (unary_operation (width_at s e) o) i)
   conjunction : (p : Place) (a b : Tree) (i j : ℕ) → IsPart n s a i → IsPart n s b j
       → IsExpression program code n s (trees.Binary p operators.And a b) (expressions.And i j)
   disjunction : (p : Place) (a b : Tree) (i j : ℕ) → IsPart n s a i → IsPart n s b j
       → IsExpression program code n s (trees.Binary p operators.Or a b) (expressions.Or i j)
   binary : (p : Place) (o : BinaryOperator) (a b : Tree) (i j : ℕ) → is_junction o ≡ false → IsPart n s a i → IsPart n s b j
-      → IsExpression program code n s (trees.Binary p o a b) (expressions.Binary o i j)
+      → IsExpression program code n s (trees.Binary p o a b) (expressions.Binary (binary_operation (width_of s o a b) o) i j)
   instance : (p : Place) (e t : Tree) (i k : ℕ) → IsPart n s e i → n.type k ≡ written s t → IsExpression program code n s (trees.InstanceOf p e t) (expressions.InstanceOf i k)
   conditional : (p : Place) (c a b : Tree) (i j k : ℕ) → IsPart n s c i → IsPart n s a j → IsPart n s b k
       → IsExpression program code n s (trees.Conditional p c a b) (expressions.Conditional i j k)
@@ -200,8 +201,9 @@ pub data IsExpression (program : Program) (code : Code) (n : Numbering) (s : Sco
   assignment : (p : Place) (a e : Tree) (x : Variable) (i : ℕ) → IsVariable n s (target_of s a) x → IsPart n s e i
       → IsExpression program code n s (trees.Assignment p a e) (expressions.Assign x i)
   compound : (p : Place) (o : BinaryOperator) (a e : Tree) (x : Variable) (i : ℕ) → IsVariable n s (target_of s a) x → IsPart n s e i
-      → IsExpression program code n s (trees.CompoundAssignment p o a e) (expressions.Compound o x i)
-  step : (p : Place) (o : StepOperator) (a : Tree) (x : Variable) → IsVariable n s (target_of s a) x → IsExpression program code n s (trees.Step p o a) (expressions.Step o x)
+      → IsExpression program code n s (trees.CompoundAssignment p o a e) (expressions.Compound (binary_operation (width_of s o a e) o) x i)
+  step : (p : Place) (o : StepOperator) (a : Tree) (x : Variable) → IsVariable n s (target_of s a) x
+      → IsExpression program code n s (trees.Step p o a) (expressions.Step (step_operation (width_at s a) o) x)
   -- contracts
   result : (p : Place) → IsExpression program code n s (trees.Result p) expressions.Result
   old : (p : Place) (e : Tree) → IsExpression program code n s (trees.Old p e) (expressions.Old p)

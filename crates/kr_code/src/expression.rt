@@ -1,9 +1,9 @@
 // Expressions whose names, types and calls are resolved.
 
 use crate::CollectionCall;
-use kr_ast::{BinaryOperator, StepOperator, UnaryOperator};
 use kr_base::Place;
 use kr_classes_table::{ClassId, FieldId, MethodId, NameId, TypeId};
+use kr_mean::{BinaryOperation, StepOperation, UnaryOperation};
 use kr_value::Value;
 
 /// Nodes that follow one another: so many links of the code, from one on.
@@ -104,7 +104,7 @@ pub enum Expression {
         length: u32,
     },
     Unary {
-        operator: UnaryOperator,
+        operation: UnaryOperation,
         operand: u32,
     },
     And {
@@ -116,7 +116,7 @@ pub enum Expression {
         right: u32,
     },
     Binary {
-        operator: BinaryOperator,
+        operation: BinaryOperation,
         left: u32,
         right: u32,
     },
@@ -143,12 +143,12 @@ pub enum Expression {
         value: u32,
     },
     Compound {
-        operator: BinaryOperator,
+        operation: BinaryOperation,
         variable: Variable,
         value: u32,
     },
     Step {
-        operator: StepOperator,
+        operation: StepOperation,
         variable: Variable,
     },
     Result,

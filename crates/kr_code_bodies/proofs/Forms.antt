@@ -4,7 +4,7 @@ use Rattle.std.proofs.lemmas.List.{get_or_past}
 use Rattle.std.proofs.lemmas.Bool.Decides.{nat_tests}
 use Rattle.kr_ast.specs.Arena.{Arena}
 use Rattle.kr_value.specs.declared.object.Class.TheVariants.{Array}
-use Rattle.kr_classes_table.specs.Types.{JavaType, IntType, BooleanType, NullType, VoidType, ClassType, ArrayType, SetType, ListType, InferredType, UnknownType, AppliedType, is_same}
+use Rattle.kr_classes_table.specs.Types.{JavaType, NumberType, BooleanType, NullType, VoidType, ClassType, ArrayType, SetType, ListType, InferredType, UnknownType, AppliedType, is_same}
 use Rattle.kr_classes_table.specs.Table.{is_below}
 use Rattle.kr_classes_members.specs.Shown.{table_in}
 use Rattle.kr_classes_names.specs.declared.form.TypeForm.{TypeForm}
@@ -47,7 +47,7 @@ module _ (files : List Arena) (arrays : List JavaType) (t : JavaType) where
 
 same_array : (a u : JavaType) → a ≡ ArrayType u → (t : JavaType) → is_same a t ≡ are_of a t
 same_array a u e (ArrayType t) = refl
-same_array a u e IntType = ap (λ s. is_same s IntType) e
+same_array a u e (NumberType w) = ap (λ s. is_same s (NumberType w)) e
 same_array a u e BooleanType = ap (λ s. is_same s BooleanType) e
 same_array a u e NullType = ap (λ s. is_same s NullType) e
 same_array a u e VoidType = ap (λ s. is_same s VoidType) e

@@ -16,9 +16,11 @@ use Rattle.kr_mean.specs.declared.kind.Kind.TheVariants.{ArrayTooLong}
 use Rattle.kr_mean.specs.declared.kind.Stop.TheVariants.{Trapped, Stuck}
 use Rattle.kr_mean.specs.Program.{Program, default_of, overriding}
 use Rattle.kr_mean.specs.Steps.{Run, say, give, stop, given, ◌>>=◌, ◌>>◌, get_this, read_local, element, class_or_null, class_of, load_field, store, store_element}
-use Rattle.kr_mean.specs.Operators.{operated}
+use Rattle.kr_classes_table.specs.Numbers.{Width}
+use Rattle.kr_mean.specs.declared.operations.BinaryOperation.{BinaryOperation}
+use Rattle.kr_mean.specs.Operators.{operated, binary_operation, step_operation}
 use Rattle.kr_mean.specs.Meaning as means
-use Rattle.kr_mean.specs.Meaning.{Parts, Target, Change, values_of, constant, read_name, own_call, called, method_call, create, create_array, binary, cast, instance, target_of, assigned, changed, compound, stepped, value_of, value, unbounded}
+use Rattle.kr_mean.specs.Meaning.{Parts, Target, Change, values_of, constant, read_name, own_call, called, method_call, create, create_array, binary, cast, instance, target_of, assigned, changed, compound, stepped, width_at, width_of, value_of, value, unbounded}
 use Rattle.kr_code.specs.declared.code.Code.{Code}
 use Rattle.kr_code.specs.declared.expression.Callee.TheVariants as callees
 use Rattle.kr_code.specs.declared.expression.Variable.{Variable}
@@ -82,7 +84,7 @@ module _ (program : Program) (code : Code) (n : Numbering) (tables : AreTables p
       then_same (d.value i) (p.value s a) _ _ (part s a i h) (λ o. then_same (d.value j) (p.value s b) _ _ (part s b j g) (λ l. then_same (element o l) (element o l) _ _ (λ state. refl) (λ v.
       then_same (f v) (f' v) _ _ (q v) (λ c. then_same (store_item code k o l c.new) (store_element program y o l c.new) _ _ (item_same k y e o l c.new) (λ u state. refl)))))
 
-  compound_same : (o : BinaryOperator) (m m' : Run Value) → Agree m m' → (v : Value) → Agree (compound o m v) (compound o m' v)
+  compound_same : (o : BinaryOperation) (m m' : Run Value) → Agree m m' → (v : Value) → Agree (compound o m v) (compound o m' v)
   compound_same o m m' q v = then_same m m' _ _ q (λ w state. refl)
 
   -- ---- names
@@ -137,10 +139,10 @@ module _ (program : Program) (code : Code) (n : Numbering) (tables : AreTables p
   uncreatable (ListType t) e vs state = absurd (cc (e))
   uncreatable _ e vs state = refl
 
-  binary_same : (o : BinaryOperator) → is_junction o ≡ false → (m m' k k' : Run Value) → Agree m m' → Agree k k' → Agree (m >>= (λ v. k >>= (λ w. say (operated o v w)))) (binary o m' k')
-  binary_same operators.And e m m' k k' q r = absurd (cc (e))
-  binary_same operators.Or e m m' k k' q r = absurd (cc (e))
-  binary_same o e m m' k k' q r = then_same m m' _ _ q (λ v. then_same k k' _ _ r (λ w state. refl))
+  binary_same : (width : Width) (o : BinaryOperator) → is_junction o ≡ false → (m m' k k' : Run Value) → Agree m m' → Agree k k' → Agree (m >>= (λ v. k >>= (λ w. say (operated (binary_operation width o) v w)))) (binary width o m' k')
+  binary_same width operators.And e m m' k k' q r = absurd (cc (e))
+  binary_same width operators.Or e m m' k k' q r = absurd (cc (e))
+  binary_same width o e m m' k k' q r = then_same m m' _ _ q (λ v. then_same k k' _ _ r (λ w state. refl))
 
   -- ---- all
 
@@ -202,7 +204,7 @@ module _ (program : Program) (code : Code) (n : Numbering) (tables : AreTables p
   expression_same s t x (resolved.unary r o e i h) = then_same (d.value i) (p.value s e) _ _ (part s e i h) (λ v state. refl)
   expression_same s t x (resolved.conjunction r a b i j h g) = then_same (d.value i) (p.value s a) _ _ (part s a i h) (λ v. choose_same v _ _ _ _ (part s b j g) (λ state. refl))
   expression_same s t x (resolved.disjunction r a b i j h g) = then_same (d.value i) (p.value s a) _ _ (part s a i h) (λ v. choose_same v _ _ _ _ (λ state. refl) (part s b j g))
-  expression_same s t x (resolved.binary r o a b i j e h g) = binary_same o e (d.value i) (p.value s a) (d.value j) (p.value s b) (part s a i h) (part s b j g)
+  expression_same s t x (resolved.binary r o a b i j e h g) = binary_same (width_of s o a b) o e (d.value i) (p.value s a) (d.value j) (p.value s b) (part s a i h) (part s b j g)
   expression_same s t x (resolved.instance r e u i k h g) =
       then_same (d.value i) (p.value s e) _ _ (part s e i h) (λ v. then_same (class_or_null v) (class_or_null v) _ _ (λ state. refl) (λ class state. ap (λ (z : Value). give z state) (instances program code n tables k class ∙ ap (λ (z : JavaType). instance program z class) g)))
   expression_same s t x (resolved.conditional r c a b i j k h g l) = then_same (d.value i) (p.value s c) _ _ (part s c i h) (λ v. choose_same v _ _ _ _ (part s a j g) (part s b k l))
@@ -211,8 +213,8 @@ module _ (program : Program) (code : Code) (n : Numbering) (tables : AreTables p
       then_same (d.value i) (p.value s e) (λ v. class_or_null v >>= cast_to code k v) (λ v. class_or_null v >>= cast program (written s u) v) (part s e i h) (λ v. then_same (class_or_null v) (class_or_null v) _ _ (λ y. refl) (λ class y. casts program code n tables k v class y ∙ ap (λ (z : JavaType). cast program z v class y) g)) state
       ∙ ap (λ (z : Bool). (if z then p.value s e else (p.value s e >>= (λ v. class_or_null v >>= cast program (written s u) v))) state) (sym b)
   expression_same s t x (resolved.assignment r a e y i h g) = assigned_same s (target_of s a) y h (d.value i) (p.value s e) (part s e i g)
-  expression_same s t x (resolved.compound r o a e y i h g) = changed_same s (target_of s a) y h (compound o (d.value i)) (compound o (p.value s e)) (λ v. compound_same o (d.value i) (p.value s e) (part s e i g) v)
-  expression_same s t x (resolved.step r o a y h) = changed_same s (target_of s a) y h (stepped o) (stepped o) (λ v state. refl)
+  expression_same s t x (resolved.compound r o a e y i h g) = let c = binary_operation (width_of s o a e) o in changed_same s (target_of s a) y h (compound c (d.value i)) (compound c (p.value s e)) (λ v. compound_same c (d.value i) (p.value s e) (part s e i g) v)
+  expression_same s t x (resolved.step r o a y h) = let c = step_operation (width_at s a) o in changed_same s (target_of s a) y h (stepped c) (stepped c) (λ v state. refl)
   expression_same s t x (resolved.result r) = λ state. refl
   expression_same s t x (resolved.old r e) = λ state. refl
   expression_same s t x (resolved.other u e) = others u e

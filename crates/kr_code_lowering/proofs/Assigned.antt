@@ -14,6 +14,8 @@ use Rattle.kr_types_meaning.specs.Handing.{handed}
 use Rattle.kr_types_meaning.specs.Running.{running}
 use Rattle.kr_types.specs.declared.program.Program.{Program}
 use Rattle.kr_types.specs.Programs.{IsProgram}
+use Rattle.kr_classes_table.specs.Numbers.{Bits32}
+use Rattle.kr_mean.specs.Operators.{binary_operation, step_operation}
 use Rattle.kr_code.specs.declared.expression.Variable.{Variable}
 use Rattle.kr_code.specs.declared.expression.Expression.TheVariants as expressions
 use Rattle.kr_code.specs.Resolved as resolved
@@ -46,10 +48,10 @@ module _ (p : Program) (program : IsProgram p) (arrays : List ℕ) (s : Site) (e
   assignment_resolves v is = resolves_at p arrays s e (nodes.Assignment a v) at is known linked (expressions.Assign x (s.first + v))
       (λ final code b. resolved.assignment e.place (node_tree p s.file a) (node_tree p s.file v) x (s.first + v) (written final b.names) (part_in p program final s e (nodes.Assignment a v) at is 1 v (parts_are p s e (nodes.Assignment a v) at is).1.0 (running (scope_at p s)) refl))
 
-  pub compound_resolves : (o : BinaryOperator) (v : ℕ) → e.node ≡ nodes.CompoundAssignment o a v → Resolves p arrays s known linked (expressions.Compound o x (s.first + v))
-  compound_resolves o v is = resolves_at p arrays s e (nodes.CompoundAssignment o a v) at is known linked (expressions.Compound o x (s.first + v))
+  pub compound_resolves : (o : BinaryOperator) (v : ℕ) → e.node ≡ nodes.CompoundAssignment o a v → Resolves p arrays s known linked (expressions.Compound (binary_operation Bits32 o) x (s.first + v))
+  compound_resolves o v is = resolves_at p arrays s e (nodes.CompoundAssignment o a v) at is known linked (expressions.Compound (binary_operation Bits32 o) x (s.first + v))
       (λ final code b. resolved.compound e.place o (node_tree p s.file a) (node_tree p s.file v) x (s.first + v) (written final b.names) (part_in p program final s e (nodes.CompoundAssignment o a v) at is 1 v (parts_are p s e (nodes.CompoundAssignment o a v) at is).1.0 (running (scope_at p s)) refl))
 
-  pub step_resolves : (o : StepOperator) → e.node ≡ nodes.Step o a → Resolves p arrays s known linked (expressions.Step o x)
-  step_resolves o is = resolves_at p arrays s e (nodes.Step o a) at is known linked (expressions.Step o x)
+  pub step_resolves : (o : StepOperator) → e.node ≡ nodes.Step o a → Resolves p arrays s known linked (expressions.Step (step_operation Bits32 o) x)
+  step_resolves o is = resolves_at p arrays s e (nodes.Step o a) at is known linked (expressions.Step (step_operation Bits32 o) x)
       (λ final code b. resolved.step e.place o (node_tree p s.file a) x (written final b.names))

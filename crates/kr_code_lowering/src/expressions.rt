@@ -34,7 +34,7 @@ use std::alloc::Global;
 fn int_literal(value: u32) -> Expression
     ensures { result ≡ Literal (Int (wrap Bits32 (pos value))) }
 {
-    Expression::Literal(Value::Int(value.cast_signed()))
+    Expression::Literal(Value::Int(i64::from(value.cast_signed())))
 }
 
 /// Whether a node is no expression.

@@ -98,7 +98,7 @@ fn creator(types: &Types, created: TypeId) -> Callee
         TypeForm::Class(class) => Callee::New(class),
         TypeForm::Set(_) => Callee::NewSet,
         TypeForm::List(_) => Callee::NewList,
-        TypeForm::Int
+        TypeForm::Number(_)
         | TypeForm::Boolean
         | TypeForm::Null
         | TypeForm::Void

@@ -92,7 +92,8 @@ pub struct ResolvedNodes {
     pub names: Names,
 }
 
-/// The nodes of a program, with its fields and methods and these array types by number.
+/// The nodes of a program, with its fields and methods and these array types by number. There is room for some more, which come
+/// from initial values and conditions.
 pub fn resolve_nodes(
     alloc: Global,
     program: &Program,
@@ -107,7 +108,7 @@ pub fn resolve_nodes(
 {
     let mut names = Names::new(alloc)?;
     let mut links = Links::new(alloc);
-    let mut nodes = Vec::with_capacity(alloc, program.nodes() as usize)?;
+    let mut nodes = Vec::with_capacity(alloc, program.nodes() as usize + 64)?;
     let files = program.trees.len() as u32;
     for file in 0..files {
         add_file(

@@ -6,7 +6,8 @@ ghost use Rattle.kr_code_lowering.specs.Kinds.{AreFew, IsOperation, IsBinary};
 use kr_ast::{BinaryOperator, Node};
 use kr_base::Place;
 use kr_code::Expression;
-use kr_value::Value;
+use kr_mean::{BinaryOperation, UnaryOperation};
+use kr_value::{Value, Width};
 
 /// The expression of an operator between two operands: `&&` and `||` may leave the second out.
 #[tactic(auto, using(crate::proofs::Dispatch::binary_forms))]
@@ -17,7 +18,10 @@ fn binary(operator: BinaryOperator, left: u32, right: u32) -> Expression
         BinaryOperator::And => Expression::And { left, right },
         BinaryOperator::Or => Expression::Or { left, right },
         _ => Expression::Binary {
-            operator,
+            operation: BinaryOperation {
+                operator,
+                width: Width::Bits32,
+            },
             left,
             right,
         },
@@ -39,7 +43,10 @@ pub(crate) fn operator_expression(first: u32, place: Place, node: Node) -> Expre
             index: first + index,
         },
         Node::Unary { operator, operand } => Expression::Unary {
-            operator,
+            operation: UnaryOperation {
+                operator,
+                width: Width::Bits32,
+            },
             operand: first + operand,
         },
         Node::Binary {

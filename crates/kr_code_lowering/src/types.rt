@@ -34,7 +34,7 @@ pub fn default_value(types: &Types, number: TypeId) -> Value
     ensures { result ≡ default_of (type_at types.now number) }
 {
     match types.form(number) {
-        TypeForm::Int => Value::Int(0),
+        TypeForm::Number(_) => Value::Int(0),
         TypeForm::Boolean => Value::Bool(false),
         _ => Value::Null,
     }

@@ -11,7 +11,9 @@ use crate::targets::variable_at;
 use kr_ast::{BinaryOperator, Entry, StepOperator};
 use kr_base::NoMemory;
 use kr_code::Expression;
+use kr_mean::{BinaryOperation, StepOperation};
 use kr_types::Program;
+use kr_value::Width;
 use std::alloc::Global;
 
 /// An assignment as an expression.
@@ -58,7 +60,10 @@ pub(crate) fn compound_expression(
 {
     let variable = variable_at(alloc, program, names, site, site.at(target))?;
     Ok(Expression::Compound {
-        operator,
+        operation: BinaryOperation {
+            operator,
+            width: Width::Bits32,
+        },
         variable,
         value: site.first + value,
     })
@@ -82,5 +87,11 @@ pub(crate) fn step_expression(
     ensures resolves { (arrays links : List ℕ) → IfOk result (Resolves program.now arrays site names.new links) }
 {
     let variable = variable_at(alloc, program, names, site, site.at(target))?;
-    Ok(Expression::Step { operator, variable })
+    Ok(Expression::Step {
+        operation: StepOperation {
+            operator,
+            width: Width::Bits32,
+        },
+        variable,
+    })
 }

@@ -1,15 +1,21 @@
--- Between crates: a span in parts, one list for each part.
-use Rattle.std.specs.Prelude.{◌≡◌, List, true}
-use Rattle.std.proofs.Common.{Vec, Global}
+-- To be believed: which part of a span lies on which worker's deque.
+use Rattle.std.specs.Prelude.{◌-◌, ℕ, List, [], ◌∷◌, ◌++◌, map, replicate, length}
+use Rattle.kr_base.specs.declared.span.Bound.{Bound}
 use Rattle.kr_base.specs.declared.span.Bound.TheVariants.{At}
 use Rattle.kr_base.specs.declared.span.Span.{Span}
-use Rattle.kr_survey.specs.Joins.{joined, lists}
-use Rattle.kr_survey.specs.Spans.{is_ahead, Adjoins}
-use Rattle.kr_deque_hands.specs.Building.{EachAhead}
 
--- the lists' spans adjoin from the start of the whole to the rest, which goes on to its end
-pub record IsLaidOut (whole : Span) (spans : List (Vec Span Global)) (rest : Span) : Type 0 where
-  pub adjoin : Adjoins (At whole.after) (joined (lists spans)) (At rest.after)
-  pub ahead : EachAhead spans
-  pub rest_ahead : is_ahead rest ≡ true
-  pub ends : rest.upto ≡ whole.upto
+abbrev pub part : List ℕ → Bound → Span
+part after upto = record { after = after; upto = upto }
+
+-- a span in parts, from where it begins over these cuts to where it ends
+abbrev pub parts_at : List ℕ → List (List ℕ) → Bound → List Span
+parts_at after [] upto = part after upto ∷ []
+parts_at after (cut ∷ cuts) upto = part after (At cut) ∷ parts_at cut cuts upto
+
+-- a list of each alone
+abbrev pub alone : List Span → List (List Span)
+alone parts = map (λ s. s ∷ []) parts
+
+-- empty lists after these, so many lists in all
+abbrev pub padded : List (List Span) → ℕ → List (List Span)
+padded spans n = spans ++ replicate (n - length spans) []

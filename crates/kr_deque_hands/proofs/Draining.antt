@@ -1,5 +1,5 @@
 -- A deque that is emptied by its owner.
-use Rattle.std.proofs.Common.{◌≡◌, ℕ, ◌+◌, ◌-◌, ◌<◌, ◌≤◌, List, [], ◌∷◌, ◌++◌, Bool, true, true≢false, length, refl, sym, ap, ◌∙◌, arith, append_assoc, length-append}
+use Rattle.std.proofs.Common.{◌≡◌, ℕ, ◌+◌, ◌-◌, ◌<◌, ◌≤◌, List, [], ◌∷◌, ◌++◌, Bool, true, true≢false, length, refl, sym, ap, ◌∙◌, subst, arith, append_assoc, length-append}
 use Rattle.std.specs.Prelude.{Option, Some, None, MatchOption}
 use Rattle.std.proofs.lemmas.List.{append-nil}
 use Rattle.crossbeam_deque.specs.Handles.{worker_view, worker_flavor}
@@ -11,7 +11,7 @@ use Rattle.kr_deque_hands.specs.declared.task.Task.{Task}
 use Rattle.kr_deque_hands.specs.declared.task.Task.TheVariants.{Whole, Mark}
 use Rattle.kr_deque_hands.specs.declared.rule.Log.{Log}
 use Rattle.kr_deque_hands.specs.declared.rule.View.{View}
-use Rattle.kr_deque_hands.specs.Logs.{spans_taken, IsRest, TookFront, MayBeEmpty, IsPopped}
+use Rattle.kr_deque_hands.specs.Logs.{spans_taken, IsRest, IsFirst, MayBeEmpty, IsPopped}
 use Rattle.kr_deque_hands.specs.Building.{Owner}
 use Rattle.kr_deque_hands.specs.Gathering.{Drains}
 use Rattle.kr_deque_hands.proofs.Turns.{weigh_takes, count_takes}
@@ -83,14 +83,16 @@ draining_mark first now next before after k d f p =
       none = λ s. absurd (true≢false (sym (d.none s).0 ∙ p.1));
     }
 
--- no more was taken than came
-few_taken : (v : Log) → TookFront v → v.thief ≡ true → length v.popped + length v.stolen ≤ length (v.given ++ v.pushed)
-few_taken v f t =
-    let e = f.3 in
-    let n = ap (λ (l : List Span). length l) e.front ∙ length-append (spans_taken e.takes) f.1 in
+-- no more was taken than came before the first
+few_taken : (v : Log) (x : Span) → IsFirst v x → v.thief ≡ true → length v.popped + length v.stolen + 1 ≤ length (v.given ++ v.pushed)
+few_taken v x e t =
+    let n = ap (λ (l : List Span). length l) e.came ∙ length-append (spans_taken e.takes) (x ∷ e.rest) in
     let o = ap (λ (l : List Span). length l) e.popped_is in
-    let s = ap (λ (l : List Span). length l) (f.2 t ∙ e.stolen_is) in
+    let s = ap (λ (l : List Span). length l) (e.stolen_is t) in
     omega (arith, n, o, s, count_takes e.takes)
+
+pub first_same : (v w : Log) (x : Span) → w ≡ v → IsFirst w x → IsFirst v x
+first_same v w x e f = subst (λ (l : Log). IsFirst l x) e f
 
 -- how much there is to take
 abbrev pub to_take : View → ℕ
@@ -100,7 +102,7 @@ to_take v = (length (v.log.given ++ v.log.pushed) - (length v.log.popped + lengt
 pub draining_less : (now next : View) (x : Span) → now.log.thief ≡ true → IsPopped now (Whole x ∷ []) next → to_take next < to_take now
 draining_less now next x t p =
     let e = p.0 in
-    let f = few_taken next.log p.3 (ap (λ (v : View). v.log.thief) e ∙ t) in
+    let f = few_taken now.log x p.3 t in
     let a = ap (λ (v : View). length (v.log.given ++ v.log.pushed)) e in
     let b = ap (λ (v : View). length v.log.popped) e in
     let d = ap (λ (v : View). length v.log.stolen) e in

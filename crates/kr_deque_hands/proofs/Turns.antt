@@ -13,7 +13,7 @@ use Rattle.kr_deque_hands.specs.Pieces.{AllAhead}
 use Rattle.kr_deque_hands.specs.declared.task.Task.{Task}
 use Rattle.kr_deque_hands.specs.declared.task.Task.TheVariants.{Whole, Mark}
 use Rattle.kr_deque_hands.specs.declared.rule.View.{View}
-use Rattle.kr_deque_hands.specs.Logs.{Take, spans_taken, owners, thiefs, spans_among, marks_among, Numbered, log, marks, no_marks, view_of, Owns, Fits, Kept, TookFront, MayBeEmpty, KnowsRest, given_more, pushed_more, popped_more, stolen_more, turn, IsGiven, IsPushed, IsPopped, IsStolen, owner_part, thief_part, both_parts, no_part}
+use Rattle.kr_deque_hands.specs.Logs.{Take, spans_taken, owners, thiefs, spans_among, marks_among, Numbered, log, marks, no_marks, view_of, Owns, Fits, Kept, IsFirst, MayBeEmpty, KnowsRest, given_more, pushed_more, popped_more, stolen_more, turn, IsGiven, IsPushed, IsPopped, IsStolen, owner_part, thief_part, both_parts, no_part}
 
 at_end : (l : List View) (a b : View) (j : ℕ) → get_elem? l j ≢ some b → get_elem? (l ++ a ∷ []) j ≡ some b → j ≡ length l
 at_end [] a b zero n e = refl
@@ -251,17 +251,13 @@ pops port v may (Whole s ∷ []) items views least most h at =
     h.came ∙ (sym (append_assoc (spans_taken h.takes) (s ∷ []) (spans_among items)) ∙ ap (λ (l : List Span). l ++ spans_among items) (sym (spans_more h.takes true (s ∷ [])))) in
     let other_takes : thiefs takes ≡ thiefs h.takes = thiefs_other h.takes (s ∷ []) in
     let unshut : v.marks.shut ≡ false = not_true v.marks.shut (λ p. front_is (Whole s) items (m.6 p)) in
-    let front : TookFront w.log = (
-      thiefs takes,
-      spans_among items,
-      (λ p. (mine.1 p).1 ∙ sym other_takes),
-      record {
-        takes = takes;
-        front = ap (λ l. l ++ v.log.pushed) m.1 ∙ (ap (λ l. h.given ++ l) m.2 ∙ now);
-        popped_is = ap (λ l. l ++ s ∷ []) m.3 ∙ sym (owners_own h.takes (s ∷ []));
-        stolen_is = refl;
-      },
-    ) in (
+    let first : IsFirst v.log s = record {
+      takes = h.takes;
+      rest = spans_among items;
+      came = ap (λ l. l ++ v.log.pushed) m.1 ∙ (ap (λ l. h.given ++ l) m.2 ∙ h.came);
+      popped_is = m.3;
+      stolen_is = λ p. (mine.1 p).1;
+    } in (
       w,
       record {
         owner = h.owner;
@@ -277,7 +273,7 @@ pops port v may (Whole s ∷ []) items views least most h at =
             ((λ _. (m.0, m.1, m.2, ap (λ l. l ++ s ∷ []) m.3 ∙ sym (owners_own h.takes (s ∷ [])), m.4, m.5, λ p. absurd (front_is (Whole s) items (m.6 p)))), λ p. ((mine.1 p).0, (mine.1 p).1 ∙ sym other_takes))
             (λ j u other e. ((λ p. absurd (other (((h.fits j u e).0 p).0 ∙ sym m.0))), λ p. (((h.fits j u e).1 p).0, ((h.fits j u e).1 p).1 ∙ sym other_takes)));
       },
-      (refl, unshut, h.ahead.0, front),
+      (refl, unshut, h.ahead.0, first),
     )
 pops port v may (Mark k ∷ []) items views least most h at =
     let w : View = view_of v.log (marks v.marks.pushed (v.marks.popped + 1) (k + 1 == turn v)) in

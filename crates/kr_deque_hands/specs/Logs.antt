@@ -92,9 +92,13 @@ pub record IsRest (came popped stolen rest : List Span) : Type 0 where
   pub popped_is : popped ≡ owners takes
   pub stolen_is : stolen ≡ thiefs takes
 
--- what the owner took, with what a thief took, is a front of what came
-abbrev pub TookFront : Log → Type 0
-TookFront v = (stolen : List Span) × (rest : List Span) × (v.thief ≡ true → v.stolen ≡ stolen) × IsRest (v.given ++ v.pushed) v.popped stolen rest
+-- The first span of a deque: it came right after all those that the owner and a thief had taken.
+pub record IsFirst (v : Log) (first : Span) : Type 0 where
+  pub takes : List Take
+  pub rest : List Span
+  pub came : v.given ++ v.pushed ≡ spans_taken takes ++ first ∷ rest
+  pub popped_is : v.popped ≡ owners takes
+  pub stolen_is : v.thief ≡ true → v.stolen ≡ thiefs takes
 
 -- all that came may have been taken: what the owner took, and what a thief took
 abbrev pub MayBeEmpty : Log → Type 0
@@ -134,7 +138,7 @@ IsPushed v [] = λ w. ⊥
 
 -- The owner takes. Of a deque that is shut it takes nothing. The mark of the last push shuts it.
 abbrev pub IsPopped : View → List Task → View → Type 0
-IsPopped v (Whole s ∷ ts) = λ w. (w ≡ view_of (popped_more v.log s) v.marks) × (v.marks.shut ≡ false) × (is_ahead s ≡ true) × TookFront w.log
+IsPopped v (Whole s ∷ ts) = λ w. (w ≡ view_of (popped_more v.log s) v.marks) × (v.marks.shut ≡ false) × (is_ahead s ≡ true) × IsFirst v.log s
 IsPopped v (Mark k ∷ ts) = λ w. (w ≡ view_of v.log (marks v.marks.pushed (v.marks.popped + 1) (k + 1 == turn v))) × (v.marks.shut ≡ false) × (v.marks.popped < v.marks.pushed)
 IsPopped v [] = λ w. ⊥
 

@@ -2,7 +2,7 @@
 ghost use Rattle.std.specs.Prelude.{◌≡◌, ◌+◌, ◌<◌, ◌≤◌, ◌++◌, ◌∷◌, [], true, false, length, vec_len, vec_capacity, None, is_some, IfSome, IfNone, MatchOption, MatchResult};
 ghost use Rattle.crossbeam_deque.specs.Handles.{view, IsPassOf, SamePass, stealer_deque, worker_flavor, worker_view, worker_index, worker_capacity};
 ghost use Rattle.kr_survey.specs.Spans.{is_ahead};
-ghost use Rattle.kr_deque_hands.specs.Logs.{TookFront, MayBeEmpty, IsPopped, turn, marks, view_of, popped_more, pushed_more, stolen_more};
+ghost use Rattle.kr_deque_hands.specs.Logs.{IsFirst, MayBeEmpty, IsPopped, turn, marks, view_of, popped_more, pushed_more, stolen_more};
 ghost use Rattle.kr_deque_hands.specs.Hands.{own, is_shut, stolen, IsSure, IsHandOf, IsRestSame, Stays};
 
 use crate::hand::{Hand, LOOKS, MARKS, PUSHES};
@@ -33,11 +33,12 @@ impl<R> Hand<R> {
     }
 
     // The first span of the hand's own deque, with the marks before it.
+    #[tactic(auto, using(crate::proofs::Draining::first_same))]
     fn first(&mut self) -> Option<Span>
         ensures stays { Stays self.old self.new }
         ensures rest { IsRestSame self.old self.new }
         ensures stolen { stolen self.new ≡ stolen self.old }
-        ensures popped { MatchOption result ((own self.new ≡ own self.old) × MayBeEmpty (own self.old)) (λ s. (own self.new ≡ popped_more (own self.old) s) × (is_ahead s ≡ true) × TookFront (own self.new)) }
+        ensures popped { MatchOption result ((own self.new ≡ own self.old) × MayBeEmpty (own self.old)) (λ s. (own self.new ≡ popped_more (own self.old) s) × (is_ahead s ≡ true) × IsFirst (own self.old) s) }
     {
         while let Some(task) = self.take() {
             match task {
@@ -50,11 +51,12 @@ impl<R> Hand<R> {
 
     // Makes sure that nothing lies on the hand's own deque: it pushes a mark there and takes it back, and once more where a
     // thief took the mark. A span that comes before the mark is answered.
+    #[tactic(auto, using(crate::proofs::Draining::first_same))]
     fn look(&mut self) -> Option<Span>
         ensures stays { Stays self.old self.new }
         ensures rest { IsRestSame self.old self.new }
         ensures stolen { stolen self.new ≡ stolen self.old }
-        ensures popped { MatchOption result ((own self.new ≡ own self.old) × IsSure self.new) (λ s. (own self.new ≡ popped_more (own self.old) s) × (is_ahead s ≡ true) × TookFront (own self.new)) }
+        ensures popped { MatchOption result ((own self.new ≡ own self.old) × IsSure self.new) (λ s. (own self.new ≡ popped_more (own self.old) s) × (is_ahead s ≡ true) × IsFirst (own self.old) s) }
     {
         while !self.shut && self.marks < LOOKS {
             match self.mark() {
@@ -75,11 +77,12 @@ impl<R> Hand<R> {
 
     /// The first span of the hand's own deque. `None` only where that was empty; of its first 3,000 marks the hand uses one to
     /// make sure.
+    #[tactic(auto, using(crate::proofs::Draining::first_same))]
     pub fn pop(&mut self) -> Option<Span>
         ensures stays { Stays self.old self.new }
         ensures rest { IsRestSame self.old self.new }
         ensures stolen { stolen self.new ≡ stolen self.old }
-        ensures popped { MatchOption result ((own self.new ≡ own self.old) × MayBeEmpty (own self.old) × IsSure self.new) (λ s. (own self.new ≡ popped_more (own self.old) s) × (is_ahead s ≡ true) × TookFront (own self.new)) }
+        ensures popped { MatchOption result ((own self.new ≡ own self.old) × MayBeEmpty (own self.old) × IsSure self.new) (λ s. (own self.new ≡ popped_more (own self.old) s) × (is_ahead s ≡ true) × IsFirst (own self.old) s) }
     {
         match self.first() {
             Some(span) => Some(span),

@@ -25,7 +25,7 @@ no_collection collection none (Some t) = go (is_element t)
 no_word : (hs : List Heading) (text : List ℕ) → array_or_none (word_type hs text) ≡ None
 no_word hs text = go (bytes_eq text (codes "int")) (bytes_eq text (codes "boolean")) (number_of hs text)
   where
-    go : (a b : Bool) (o : Option ℕ) → array_or_none (if a then Some Rattle.kr_classes_table.specs.Types.IntType else if b then Some Rattle.kr_classes_table.specs.Types.BooleanType else option_map ClassType o) ≡ None
+    go : (a b : Bool) (o : Option ℕ) → array_or_none (if a then Some Rattle.kr_classes_table.specs.Types.int_type else if b then Some Rattle.kr_classes_table.specs.Types.BooleanType else option_map ClassType o) ≡ None
     go true b o = refl
     go false true o = refl
     go false false None = refl

@@ -117,7 +117,8 @@ impl Heap {
     /// The number of an object's values.
     #[inline(always)]
     pub fn size_of(&self, object: Obj) -> usize
-        ensures { result ≡ length (object_in self.now object).values }
+        ensures is { result ≡ length (object_in self.now object).values }
+        ensures few { result ≤ 2147483647 }
     {
         match self.objects.get(object as usize) {
             Some(found) => found.values.as_slice().len(),

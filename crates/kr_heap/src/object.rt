@@ -31,7 +31,7 @@ impl Object {
                 _ => None,
             },
             Spot::Length => match &self.class {
-                Class::Array(_) => Some(Value::Int(self.values.as_slice().len() as i32)),
+                Class::Array(_) => Some(Value::Int(self.values.as_slice().len() as i64)),
                 _ => None,
             },
         }

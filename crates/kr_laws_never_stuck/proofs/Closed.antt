@@ -7,7 +7,8 @@ use Rattle.kr_ast.specs.declared.node.UnaryOperator.TheVariants as unaries
 use Rattle.kr_ast.specs.declared.node.BinaryOperator.{BinaryOperator}
 use Rattle.kr_ast.specs.Tree as trees
 use Rattle.kr_ast.specs.Tree.{Tree}
-use Rattle.kr_classes_table.specs.Types.{JavaType, IntType, BooleanType, NullType, ClassType, ArrayType, SetType, ListType, InferredType, is_known, is_element, is_void, is_collection, is_reference}
+use Rattle.kr_classes_table.specs.Numbers.{Bits32}
+use Rattle.kr_classes_table.specs.Types.{JavaType, NumberType, int_type, BooleanType, NullType, ClassType, ArrayType, SetType, ListType, InferredType, is_known, is_element, is_void, is_collection, is_reference}
 use Rattle.kr_classes_table.specs.Table.{Field, Method, field_named, method_named, is_subtype, are_related}
 use Rattle.kr_classes_table.specs.Rules.{Fault}
 use Rattle.kr_types_meaning.specs.declared.operators.OperatorKind.{OperatorKind}
@@ -52,7 +53,7 @@ element_closed _ e = absurd (cc (e))
 -- values of a type that isn't open are used as their own
 pub closed_target : (t : JavaType) → is_value_type t ≡ true → is_open t ≡ false → is_target t ≡ true
 closed_target NullType e c = refl
-closed_target IntType e c = refl
+closed_target (NumberType w) e c = refl
 closed_target BooleanType e c = refl
 closed_target (ClassType k) e c = refl
 closed_target (ArrayType u) e c = e
@@ -122,7 +123,7 @@ named s (LocalName k t) = known_varies t
 named s (FieldName f) = either f.is_static (gives f.type) (ask (not s.is_static) 5 (Fits (variable_of f.type))) (known_given f.type) (asked (not s.is_static) 5 (Fits (variable_of f.type)) (λ e. known_varies f.type))
 named s NoName = tt
 
-int_asked : (b : Bool) (r : ℕ) → Gives (ask b r (Fits (Value IntType)))
+int_asked : (b : Bool) (r : ℕ) → Gives (ask b r (Fits (Value int_type)))
 int_asked true r = refl
 int_asked false r = tt
 
@@ -137,11 +138,11 @@ this_value : (s : Scope) → Gives (this_rule s)
 this_value s = asked (not s.is_static) 5 (Fits (Value (ClassType s.class))) (λ e. refl)
 
 alone_given : (a : JavaType) (r : ℕ) → Gives (of_promoted (promoted_alone a) r)
-alone_given IntType r = refl
+alone_given (NumberType w) r = refl
 alone_given _ r = tt
 
 promoted_given : (a b : JavaType) (r : ℕ) → Gives (of_promoted (promoted a b) r)
-promoted_given IntType b r = alone_given b r
+promoted_given (NumberType Bits32) b r = alone_given b r
 promoted_given _ b r = tt
 
 unary : (o : UnaryOperator) (t : JavaType) → Gives (unary_rule o t)
@@ -253,7 +254,7 @@ last_true false b c e = absurd (cc (e))
 of_collection : (s : Scope) (is_list : Bool) (t : JavaType) (n : List ℕ) (ts : List JavaType) → Gives (collection_rule s is_list t n ts)
 of_collection s is_list t n [] =
     let first = ask (bytes_eq n (codes "removeFirst") && is_list && is_element t) 25 (Fits (Value t)) in
-    either (bytes_eq n (codes "size")) (Fits (Value IntType)) (if bytes_eq n (codes "isEmpty") then Fits (Value BooleanType) else first) refl
+    either (bytes_eq n (codes "size")) (Fits (Value int_type)) (if bytes_eq n (codes "isEmpty") then Fits (Value BooleanType) else first) refl
     (either (bytes_eq n (codes "isEmpty")) (Fits (Value BooleanType)) first refl
     (asked (bytes_eq n (codes "removeFirst") && is_list && is_element t) 25 (Fits (Value t)) (λ e. element_closed t (last_true (bytes_eq n (codes "removeFirst")) is_list (is_element t) e))))
 of_collection s is_list t n (x ∷ []) =

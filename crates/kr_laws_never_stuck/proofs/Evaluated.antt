@@ -11,7 +11,7 @@ use Rattle.kr_ast.specs.Tree as trees
 use Rattle.kr_ast.specs.Tree.{Tree}
 use Rattle.kr_value.specs.declared.value.Value.{Value}
 use Rattle.kr_value.specs.declared.value.Value.TheVariants.{Int, Bool as Truth, Null, Ref as Reference}
-use Rattle.kr_classes_table.specs.Types.{JavaType, IntType, BooleanType, NullType, is_reference, is_collection}
+use Rattle.kr_classes_table.specs.Types.{JavaType, int_type, BooleanType, NullType, is_reference, is_collection}
 use Rattle.kr_classes_table.specs.Table.{Table, Field, field_named, number_of, is_subtype, are_related}
 use Rattle.kr_classes_table.specs.Operators.{Applied, apply, of_wholes, of_booleans, of_references}
 use Rattle.kr_classes_table.specs.Constants.{Known, constant_in, value_in, unary_value, binary_value, chosen, constant_only, constant_of, class_meant, field_meant, is_at_place, value_at, known_value, is_constant, evaluated, known_as, with_constant}
@@ -23,7 +23,7 @@ use Rattle.kr_types_meaning.specs.Rules as rules
 use Rattle.kr_types_meaning.specs.Promotion.{promoted, promoted_alone, is_number, are_numbers}
 use Rattle.kr_types_meaning.specs.Rules.{Typed, Judgement, Fits, Breaks, ask, gives, both_boolean, related_references, name_rule, unary_rule, operator_rule, choice_rule, cast_rule, constant_rule, of_promoted, shift_rule, bit_rule, kind_of, kind_rule}
 use Rattle.kr_types_meaning.specs.Typing.{Judged, judge, on_one, on_two, field_of, operand, judged, type_in}
-use Rattle.kr_mean.specs.Operators.{said, operated}
+use Rattle.kr_mean.specs.Operators.{said, operated, binary_operation}
 use Rattle.kr_laws_safety.specs.Fits.{IsOf}
 use Rattle.kr_laws_safety.specs.Steps.{is_junction}
 use Rattle.kr_laws_safety.proofs.Operators.{whole_within, Use, ints, booleans, references, used as used_by, Good, OnInts, OnBooleans, on_ints, on_booleans, ints_good, booleans_good}
@@ -71,7 +71,7 @@ module _ (table : Table) (onward : IsOnward table) where
   abbrev Of : JavaType → Value → Type 0
   Of t v = IsConstantOf table t v
 
-  int_known : (v : Value) → Of IntType v → (z : _) × (v ≡ Int z)
+  int_known : (v : Value) → Of int_type v → (z : _) × (v ≡ Int z)
   int_known (Int z) i = (z, refl)
   int_known (Truth b) i = absurd (cc (i))
   int_known Null i = absurd (cc (i))
@@ -101,28 +101,28 @@ module _ (table : Table) (onward : IsOnward table) where
       let h = ruled_alone a t 14 r in
       let z = int_known x (subst (λ (u : JavaType). Of u x) h.0 i) in
       let w = some_is _ v (sym (ap (unary_value unaries.Plus) z.1) ∙ e) in
-      subst (λ (u : JavaType). Of u v) h.1 (subst (λ (c : Value). Of IntType c) w (refl, whole_within Bits32 _))
+      subst (λ (u : JavaType). Of u v) h.1 (subst (λ (c : Value). Of int_type c) w (refl, whole_within Bits32 _))
   unary_kept unaries.Minus a t x v r i e =
       let h = ruled_alone a t 14 r in
       let z = int_known x (subst (λ (u : JavaType). Of u x) h.0 i) in
       let w = some_is _ v (sym (ap (unary_value unaries.Minus) z.1) ∙ e) in
-      subst (λ (u : JavaType). Of u v) h.1 (subst (λ (c : Value). Of IntType c) w (refl, whole_within Bits32 _))
+      subst (λ (u : JavaType). Of u v) h.1 (subst (λ (c : Value). Of int_type c) w (refl, whole_within Bits32 _))
   unary_kept unaries.Complement a t x v r i e =
       let h = ruled_alone a t 14 r in
       let z = int_known x (subst (λ (u : JavaType). Of u x) h.0 i) in
       let w = some_is _ v (sym (ap (unary_value unaries.Complement) z.1) ∙ e) in
-      subst (λ (u : JavaType). Of u v) h.1 (subst (λ (c : Value). Of IntType c) w (refl, whole_within Bits32 _))
+      subst (λ (u : JavaType). Of u v) h.1 (subst (λ (c : Value). Of int_type c) w (refl, whole_within Bits32 _))
 
   -- the operators have the same results on runs' values and on constants
   ints_kept : (o : BinaryOperator) (x y : _) (t : JavaType) (v : Value) → on_ints o ≡ Some t → value_in (of_wholes Bits32 o x y) ≡ Some v → Of t v
-  ints_kept o x y t v k e = go (of_wholes Bits32 o x y) e (subst (λ (u : Option JavaType). OnInts u (operated o (Int x) (Int y))) k (ints_good o x y))
+  ints_kept o x y t v k e = go (of_wholes Bits32 o x y) e (subst (λ (u : Option JavaType). OnInts u (operated (binary_operation Bits32 o) (Int x) (Int y))) k (ints_good Bits32 o x y))
     where
       go : (r : Applied) → value_in r ≡ Some v → Good t (said r) → Of t v
       go (Ok w) e g = subst (λ (c : Value). Of t c) (some_is w v e) (g table [])
       go (Err x) e g = absurd (cc (e))
 
   booleans_kept : (o : BinaryOperator) (x y : Bool) (v : Value) → on_booleans o ≡ true → value_in (of_booleans o x y) ≡ Some v → Of BooleanType v
-  booleans_kept o x y v k e = go (of_booleans o x y) e (subst (λ (b : Bool). OnBooleans b (operated o (Truth x) (Truth y))) k (booleans_good o x y))
+  booleans_kept o x y v k e = go (of_booleans o x y) e (subst (λ (b : Bool). OnBooleans b (operated (binary_operation Bits32 o) (Truth x) (Truth y))) k (booleans_good Bits32 o x y))
     where
       go : (r : Applied) → value_in r ≡ Some v → Good BooleanType (said r) → Of BooleanType v
       go (Ok w) e g = subst (λ (c : Value). Of BooleanType c) (some_is w v e) (g table [])
@@ -132,23 +132,23 @@ module _ (table : Table) (onward : IsOnward table) where
   nulls_kept o v (inl k) e = subst (λ (c : Value). Of BooleanType c) (some_is (Truth true) v (ap (λ (q : BinaryOperator). value_in (of_references q true)) (sym k) ∙ e)) refl
   nulls_kept o v (inr k) e = subst (λ (c : Value). Of BooleanType c) (some_is (Truth false) v (ap (λ (q : BinaryOperator). value_in (of_references q true)) (sym k) ∙ e)) refl
 
-  values_kept : (s : Scope) (o : BinaryOperator) (a b t : JavaType) (x y v : Value) → Use o a b t → Of a x → Of b y → value_in (apply o x y) ≡ Some v → Of t v
+  values_kept : (s : Scope) (o : BinaryOperator) (a b t : JavaType) (x y v : Value) → Use o a b t → Of a x → Of b y → value_in (apply Bits32 o x y) ≡ Some v → Of t v
   values_kept s o a b t x y v (ints p q k) i j e =
       let z = int_known x (subst (λ (u : JavaType). Of u x) p i) in
       let w = int_known y (subst (λ (u : JavaType). Of u y) q j) in
-      ints_kept o z.0 w.0 t v k (sym (ap (λ (c : Value). value_in (apply o c y)) z.1 ∙ ap (λ (c : Value). value_in (apply o (Int z.0) c)) w.1) ∙ e)
+      ints_kept o z.0 w.0 t v k (sym (ap (λ (c : Value). value_in (apply Bits32 o c y)) z.1 ∙ ap (λ (c : Value). value_in (apply Bits32 o (Int z.0) c)) w.1) ∙ e)
   values_kept s o a b t x y v (booleans p q k l) i j e =
       let z = boolean_known x (subst (λ (u : JavaType). Of u x) p i) in
       let w = boolean_known y (subst (λ (u : JavaType). Of u y) q j) in
-      subst (λ (u : JavaType). Of u v) (sym l) (booleans_kept o z.0 w.0 v k (sym (ap (λ (c : Value). value_in (apply o c y)) z.1 ∙ ap (λ (c : Value). value_in (apply o (Truth z.0) c)) w.1) ∙ e))
+      subst (λ (u : JavaType). Of u v) (sym l) (booleans_kept o z.0 w.0 v k (sym (ap (λ (c : Value). value_in (apply Bits32 o c y)) z.1 ∙ ap (λ (c : Value). value_in (apply Bits32 o (Truth z.0) c)) w.1) ∙ e))
   values_kept s o a b t x y v (references p q k l) i j e =
       let z = reference_known a x p i in
       let w = reference_known b y q j in
-      subst (λ (u : JavaType). Of u v) (sym l) (nulls_kept o v k (sym (ap (λ (c : Value). value_in (apply o c y)) z ∙ ap (λ (c : Value). value_in (apply o Null c)) w) ∙ e))
+      subst (λ (u : JavaType). Of u v) (sym l) (nulls_kept o v k (sym (ap (λ (c : Value). value_in (apply Bits32 o c y)) z ∙ ap (λ (c : Value). value_in (apply Bits32 o Null c)) w) ∙ e))
 
   -- two operands, where the first doesn't decide
   combined : BinaryOperator → Option Value → Option Value → Option Value
-  combined o (Some x) (Some y) = value_in (apply o x y)
+  combined o (Some x) (Some y) = value_in (apply Bits32 o x y)
   combined o x y = None
 
   plain_binary : (o : BinaryOperator) (x y : Option Value) → is_junction o ≡ false → binary_value o x y ≡ combined o x y
@@ -332,8 +332,8 @@ module _ (table : Table) (onward : IsOnward table) where
   pub evaluated_kept : (known : List Known) (c : ℕ) (s : Scope) (e : Tree) (t : JavaType) (v : Value) → AreKnown known → IsInside c s → type_in (judged s e).typed ≡ Some t → evaluated table known c e ≡ Some v → Of t v
   unfolding judged evaluated
   evaluated_kept known c s (trees.Number p n) t v k i r e =
-      let h = ruled_ask _ 6 (Fits (rules.Value IntType)) t (ruled_node p (rules.number_rule s n) [] t r) in
-      subst (λ (u : JavaType). Of u v) (ruled_value IntType t h.1) (subst (λ (c : Value). Of IntType c) (some_is _ v e) (refl, whole_within Bits32 _))
+      let h = ruled_ask _ 6 (Fits (rules.Value int_type)) t (ruled_node p (rules.number_rule s n) [] t r) in
+      subst (λ (u : JavaType). Of u v) (ruled_value int_type t h.1) (subst (λ (c : Value). Of int_type c) (some_is _ v e) (refl, whole_within Bits32 _))
   evaluated_kept known c s (trees.Truth p b) t v k i r e = subst (λ (u : JavaType). Of u v) (Rattle.kr_laws_safety.proofs.Glue.some_inside BooleanType t r) (subst (λ (c : Value). Of BooleanType c) (some_is (Truth b) v e) refl)
   evaluated_kept known c s (trees.Null p) t v k i r e = subst (λ (u : JavaType). Of u v) (Rattle.kr_laws_safety.proofs.Glue.some_inside NullType t r) (subst (λ (c : Value). Of NullType c) (some_is Null v e) refl)
   evaluated_kept known c s (trees.Variable p n) t v k i r e = named known c s n t v k i (ruled_node p (name_rule s (meant s n)) [] t r) e

@@ -3,7 +3,7 @@ use Rattle.std.proofs.Common.{◌≡◌, ℕ, suc, ◌+◌, ◌<◌, ◌≤◌, 
 use Rattle.std.specs.Prelude.{unwrap_or}
 use Rattle.std.specs.Int.Signed.{le_z}
 use Rattle.std.specs.List.{AllByRecursion, list_any}
-use Rattle.kr_classes_table.specs.Types.{JavaType, IntType, BooleanType, ClassType, is_same}
+use Rattle.kr_classes_table.specs.Types.{JavaType, int_type, BooleanType, ClassType, is_same}
 use Rattle.kr_classes_table.specs.Table.{Table, is_subtype}
 use Rattle.kr_value.specs.declared.value.Value.TheVariants.{Int, Bool as Truth, Null}
 use Rattle.kr_mean.specs.Problem.{Problem, DomainItem, Domain, Plain, Objects, domain_at}
@@ -74,7 +74,7 @@ module _ (problem : Problem) (setting : Setting) (has : HasDomains problem setti
   both t [] ys h k = k
   both t (x ∷ xs) ys h k = (h.0, both t xs ys h.1 k)
 
-  integers_of : (t : JavaType) (zs : List ℤ) → t ≡ IntType → AllByRecursion (IsWithin Bits32) zs → IsDomainOf problem t (map (λ z. Plain (number Bits32 z)) zs)
+  integers_of : (t : JavaType) (zs : List ℤ) → t ≡ int_type → AllByRecursion (IsWithin Bits32) zs → IsDomainOf problem t (map (λ z. Plain (number Bits32 z)) zs)
   integers_of t [] e h = tt
   integers_of t (z ∷ zs) e h = ((e, h.0), integers_of t zs e h.1)
 
@@ -104,11 +104,11 @@ module _ (problem : Problem) (setting : Setting) (has : HasDomains problem setti
 
   item_of : (t : JavaType) (item : FinItem) → fits setting.table setting.document t item ≡ true → IsSmall item → IsDomainOf problem t (item_values setting (width_for (Some t)) item)
   unfolding width_for
-  item_of t (Number z) e s = ((same_type t IntType e, is_int z s), tt)
+  item_of t (Number z) e s = ((same_type t int_type e, is_int z s), tt)
   item_of t (Range from to) e s = go (le_z from to) refl e
     where
-      go : (b : Bool) → le_z from to ≡ b → (not b || is_same t IntType) ≡ true → IsDomainOf problem t (map (λ z. Plain (Int z)) (integers from to))
-      go true q e = integers_of t (integers from to) (same_type t IntType e) (range_ints from to (is_int from s.0) (is_int to s.1))
+      go : (b : Bool) → le_z from to ≡ b → (not b || is_same t int_type) ≡ true → IsDomainOf problem t (map (λ z. Plain (Int z)) (integers from to))
+      go true q e = integers_of t (integers from to) (same_type t int_type e) (range_ints from to (is_int from s.0) (is_int to s.1))
       go false q e = subst (λ (zs : List ℤ). IsDomainOf problem t (map (λ z. Plain (Int z)) zs)) (sym (none_between from to q)) tt
   item_of t (FinTruth b) e s = (same_type t BooleanType e, tt)
   item_of t (Name n) e s = meant_of t n (meant setting.table.headings setting.document n) e

@@ -6,7 +6,7 @@ use Rattle.kr_ast.specs.declared.node.BinaryOperator.{BinaryOperator}
 use Rattle.kr_ast.specs.declared.node.BinaryOperator.TheVariants.{Less, LessOrEqual, Greater, GreaterOrEqual, Equal, NotEqual}
 use Rattle.kr_value.specs.declared.value.Value.TheVariants.{Int, Bool as Truth}
 use Rattle.kr_classes_table.specs.Operators.{of_wholes, is_equal}
-use Rattle.kr_classes_table.specs.Numbers.{Bits32, wrap}
+use Rattle.kr_classes_table.specs.Numbers.{Width, Bits32, wrap}
 use Rattle.kr_mean.specs.Operators.{is_comparison, holds_of}
 use Rattle.std.proofs.Math.Dec.{leb}
 use Rattle.std.proofs.Math.Nat.{mod-eq_of_lt}
@@ -51,11 +51,11 @@ small_is n h =
     let l : nat_lt n 2147483648 ≡ true = lt-ltb n 2147483648 (omega (arith, h)) in
     rw (m, l) refl
 
-pub compared : (test : BinaryOperator) (a b : ℤ) → is_comparison test ≡ true → of_wholes Bits32 test a b ≡ Ok (Truth (holds_of test (Int a) (Int b)))
-compared Less a b e = refl
-compared Greater a b e = refl
-compared LessOrEqual a b e = ap (λ x. Ok (Truth x)) (le_is a b)
-compared GreaterOrEqual a b e = ap (λ x. Ok (Truth x)) (le_is b a)
-compared Equal a b e = ap (λ x. Ok (Truth x)) (eq_is a b)
-compared NotEqual a b e = ap (λ x. Ok (Truth (not x))) (eq_is a b)
-compared _ a b e = absurd (cc (e))
+pub compared : (width : Width) (test : BinaryOperator) (a b : ℤ) → is_comparison test ≡ true → of_wholes width test a b ≡ Ok (Truth (holds_of test (Int a) (Int b)))
+compared width Less a b e = refl
+compared width Greater a b e = refl
+compared width LessOrEqual a b e = ap (λ x. Ok (Truth x)) (le_is a b)
+compared width GreaterOrEqual a b e = ap (λ x. Ok (Truth x)) (le_is b a)
+compared width Equal a b e = ap (λ x. Ok (Truth x)) (eq_is a b)
+compared width NotEqual a b e = ap (λ x. Ok (Truth (not x))) (eq_is a b)
+compared width _ a b e = absurd (cc (e))

@@ -9,7 +9,8 @@ use Rattle.kr_mean.specs.declared.kind.Stop.TheVariants.{Stuck}
 use Rattle.kr_mean.specs.Heaps.{distinct, value_at, heap_of, walk}
 use Rattle.kr_ast.specs.declared.node.BinaryOperator.{BinaryOperator}
 use Rattle.kr_ast.specs.declared.node.BinaryOperator.TheVariants.{Less, LessOrEqual, Greater, GreaterOrEqual, Equal, NotEqual}
-use Rattle.kr_mean.specs.Operators.{said, is_comparison, holds_of, operated}
+use Rattle.kr_classes_table.specs.Numbers.{Width, Bits32}
+use Rattle.kr_mean.specs.Operators.{said, is_comparison, holds_of, operated, binary_operation}
 use Rattle.kr_classes_table.specs.Table.{table_of}
 use Rattle.kr_classes_table.specs.Constants.{values_of}
 use Rattle.kr_types_meaning.specs.Typing.{judged}
@@ -40,40 +41,40 @@ found : (name : List ℕ) → bytes_eq name name ≡ true
 found name = (bytes_eq-Decides name name).1 refl
 
 -- the answer of a comparison of two numbers
-abbrev answered : BinaryOperator → Value → Value → Result Value Stop
-answered test (Int a) (Int b) = Ok (Truth (holds_of test (Int a) (Int b)))
-answered test v w = operated test v w
+abbrev answered : Width → BinaryOperator → Value → Value → Result Value Stop
+answered width test (Int a) (Int b) = Ok (Truth (holds_of test (Int a) (Int b)))
+answered width test v w = operated (binary_operation width test) v w
 
-answers : (test : BinaryOperator) → is_comparison test ≡ true → (v w : Value) → operated test v w ≡ answered test v w
-answers test e (Int a) (Int b) = ap said (compared test a b e)
-answers test e (Int a) (Truth b) = refl
-answers test e (Int a) Null = refl
-answers test e (Int a) (Reference o) = refl
-answers test e (Truth a) w = refl
-answers test e Null w = refl
-answers test e (Reference o) w = refl
+answers : (width : Width) (test : BinaryOperator) → is_comparison test ≡ true → (v w : Value) → operated (binary_operation width test) v w ≡ answered width test v w
+answers width test e (Int a) (Int b) = ap said (compared width test a b e)
+answers width test e (Int a) (Truth b) = refl
+answers width test e (Int a) Null = refl
+answers width test e (Int a) (Reference o) = refl
+answers width test e (Truth a) w = refl
+answers width test e Null w = refl
+answers width test e (Reference o) w = refl
 
-answers_all : (test : BinaryOperator) → is_comparison test ≡ true → operated test ≡ answered test
-answers_all test e = λ i v w. answers test e v w i
+answers_all : (width : Width) (test : BinaryOperator) → is_comparison test ≡ true → operated (binary_operation width test) ≡ answered width test
+answers_all width test e = λ i v w. answers width test e v w i
 
 -- a comparison looks at both operands
-looks_at_both : (test : BinaryOperator) → is_comparison test ≡ true → (m n : Run Value) → binary test m n ≡ (m >>= (λ v. n >>= (λ w. say (operated test v w))))
-looks_at_both Less e m n = refl
-looks_at_both LessOrEqual e m n = refl
-looks_at_both Greater e m n = refl
-looks_at_both GreaterOrEqual e m n = refl
-looks_at_both Equal e m n = refl
-looks_at_both NotEqual e m n = refl
-looks_at_both _ e m n = absurd (cc (e))
+looks_at_both : (width : Width) (test : BinaryOperator) → is_comparison test ≡ true → (m n : Run Value) → binary width test m n ≡ (m >>= (λ v. n >>= (λ w. say (operated (binary_operation width test) v w))))
+looks_at_both width Less e m n = refl
+looks_at_both width LessOrEqual e m n = refl
+looks_at_both width Greater e m n = refl
+looks_at_both width GreaterOrEqual e m n = refl
+looks_at_both width Equal e m n = refl
+looks_at_both width NotEqual e m n = refl
+looks_at_both width _ e m n = absurd (cc (e))
 
-both_operands : (test : BinaryOperator) → is_comparison test ≡ true → (m n : Run Value) → binary test m n ≡ (m >>= (λ v. n >>= (λ w. say (answered test v w))))
-both_operands test e m n = looks_at_both test e m n ∙ ap (λ (f : Value → Value → Result Value Stop). m >>= (λ v. n >>= (λ w. say (f v w)))) (answers_all test e)
+both_operands : (width : Width) (test : BinaryOperator) → is_comparison test ≡ true → (m n : Run Value) → binary width test m n ≡ (m >>= (λ v. n >>= (λ w. say (answered width test v w))))
+both_operands width test e m n = looks_at_both width test e m n ∙ ap (λ (f : Value → Value → Result Value Stop). m >>= (λ v. n >>= (λ w. say (f v w)))) (answers_all width test e)
 
 -- `this.repOk()` answers the comparison, for six units, and reads the field
 rep_ok_is : (form : Form) (i : ℕ) (z : ℤ) → value_at (problem_of form) (0 ∷ i ∷ []) 1 ≡ Int z
     → value (problem_of form).program (class_scope (problem_of form).program 0) rep_ok (start (problem_of form) (0 ∷ i ∷ [])) ≡ record { said = Ok (Truth (says form (Int z))); after = record (start (problem_of form) (0 ∷ i ∷ [])) { fuel = form.spare }; reads = At 0 (Field 0) ∷ [] }
 unfolding table_of values_of judged heap_of bind eval exec value
-rep_ok_is form i z v = rw (both_operands form.test form.compares, found form.field_name, found form.field_name, v, small_is form.number form.small) refl
+rep_ok_is form i z v = rw (both_operands Bits32 form.test form.compares, found form.field_name, found form.field_name, v, small_is form.number form.small) refl
 
 -- the run when a condition gives this
 run_for : State → Bool → Outcome Bool

@@ -4,8 +4,6 @@ use Rattle.std.specs.Prelude.{ℤ, pos, flat_map, map, codes, bytes_eq, option_a
 use Rattle.kr_base.specs.declared.place.Place.{Place}
 use Rattle.kr_ast.specs.declared.node.BinaryOperator.{BinaryOperator}
 use Rattle.kr_ast.specs.declared.node.BinaryOperator.TheVariants.{And, Or}
-use Rattle.kr_ast.specs.declared.node.UnaryOperator.{UnaryOperator}
-use Rattle.kr_ast.specs.declared.node.StepOperator.{StepOperator}
 use Rattle.kr_ast.specs.Tree as trees
 use Rattle.kr_ast.specs.Tree.{Tree}
 use Rattle.kr_value.specs.declared.value.Value.{Value}
@@ -13,20 +11,23 @@ use Rattle.kr_value.specs.declared.value.Value.TheVariants.{Int, Bool as Truth, 
 use Rattle.kr_value.specs.declared.object.Class.{Class}
 use Rattle.kr_value.specs.declared.object.Class.TheVariants.{Object, Array, Set, List as ListClass}
 use Rattle.kr_value.specs.declared.object.Spot.TheVariants.{Field as FieldSpot, Length}
-use Rattle.kr_classes_table.specs.Types.{JavaType, IntType, BooleanType, NullType, VoidType, ClassType, ArrayType, SetType, ListType, InferredType, UnknownType, AppliedType, is_void}
+use Rattle.kr_classes_table.specs.Types.{JavaType, NumberType, BooleanType, NullType, VoidType, ClassType, ArrayType, SetType, ListType, InferredType, UnknownType, AppliedType, is_void}
 use Rattle.kr_classes_table.specs.Table.{Field, Method, Constructor, items, fields_of, line_of, method_named}
 use Rattle.kr_classes_table.specs.Constants.{constant_in, constant_of, value_at}
-use Rattle.kr_classes_table.specs.Numbers.{Bits32, wrap}
+use Rattle.kr_classes_table.specs.Numbers.{Width, Bits32, wrap}
 use Rattle.kr_types_meaning.specs.Scopes.{Scope, Meant, LocalName, FieldName, NoName, written, after, meant, class_before, static_only, method_meant, bind_local as with_local}
 use Rattle.kr_mean.specs.declared.kind.Kind.TheVariants.{NullPointerException, ClassCastException, NoReturn}
 use Rattle.kr_mean.specs.declared.kind.Stop.{Stop}
 use Rattle.kr_mean.specs.declared.kind.Stop.TheVariants.{Trapped, OutOfFuel, Stuck}
 use Rattle.kr_mean.specs.Program.{Program, default_of, is_of_type, field_position, overriding, class_scope, method_scope, constructor_scope, constructor_of, declared_fields}
 use Rattle.kr_mean.specs.Steps.{Run, say, give, stop, given, not_null, ◌>>=◌, tick, get_this, read_local, declare, assign, get_result, get_old, within, scoped, load, load_at, load_in, load_field, element, class_or_null, class_of, store, store_new, store_element, make, collect}
-use Rattle.kr_mean.specs.Operators.{operated, operated_alone, step_operator, gives_old}
+use Rattle.kr_mean.specs.declared.operations.BinaryOperation.{BinaryOperation}
+use Rattle.kr_mean.specs.declared.operations.UnaryOperation.{UnaryOperation}
+use Rattle.kr_mean.specs.declared.operations.StepOperation.{StepOperation}
+use Rattle.kr_mean.specs.Operators.{operated, operated_alone, binary_operation, unary_operation, step_operation, step_binary, gives_old}
 use Rattle.kr_mean.specs.declared.flow.Flow.{Flow}
 use Rattle.kr_mean.specs.declared.flow.Flow.TheVariants.{Next, Broke, Continued, Left, Gave}
-use Rattle.kr_mean.specs.Meaning.{Parts, Target, LocalTarget, OwnField, FieldOf, ElementOf, NoTarget, Change, then_on, then_round, then_update, returned, completed, choose, values_of, all, updates, condition, rounds, constant, read_name, access, typed_method, run_body, run_method, run_chosen, own_call, called, method_call, super_method, super_arguments, initialised, all_initialised, constructed_by, constructed, create, create_array, target_of, assigned, changed, compound, change_from, stepped, binary, cast, is_primitive, instance, value_of, initial_value, declared, all_declared, declaring_locals, flow_of, statement, spent, parts_within, eval, exec}
+use Rattle.kr_mean.specs.Meaning.{Parts, Target, LocalTarget, OwnField, FieldOf, ElementOf, NoTarget, Change, then_on, then_round, then_update, returned, completed, choose, values_of, all, updates, condition, rounds, constant, read_name, access, typed_method, run_body, run_method, run_chosen, own_call, called, method_call, super_method, super_arguments, initialised, all_initialised, constructed_by, constructed, create, create_array, target_of, assigned, changed, compound, change_from, stepped, binary, cast, is_primitive, instance, value_of, initial_value, declared, all_declared, declaring_locals, flow_of, statement, spent, parts_within, eval, exec, width_at, width_of}
 use Rattle.kr_mean.specs.Code.{Node, code, code_of_all, code_of_method, code_of_constructor, code_of_class, overriders, runnable, runnable_behind, methods_run, classes_run, code_run}
 use Rattle.kr_mean.specs.Purity.{IsOneOf, written_by}
 use Rattle.kr_laws_runs.proofs.Overriders.{overrider_in}
@@ -118,8 +119,8 @@ pub record Logic (program : Program) (MayStore : Field → Type 0) (MayPut : Jav
   pub makes : (class : Class) (vs ws : List Value) → Each R vs ws → Rel R (make class vs) (make class ws)
   pub makes_array : (t : JavaType) (v w : Value) → R v w → Rel R (create_array program t v) (create_array program t w)
   pub collects : (n : List ℕ) (o o' : Value) (vs ws : List Value) → R o o' → Each R vs ws → Rel R (collect n o vs) (collect n o' ws)
-  pub operates : (o : BinaryOperator) (v v' w w' : Value) → R v v' → R w w' → Rel R (say (operated o v w)) (say (operated o v' w'))
-  pub operates_alone : (o : UnaryOperator) (v v' : Value) → R v v' → Rel R (say (operated_alone o v)) (say (operated_alone o v'))
+  pub operates : (o : BinaryOperation) (v v' w w' : Value) → R v v' → R w w' → Rel R (say (operated o v w)) (say (operated o v' w'))
+  pub operates_alone : (o : UnaryOperation) (v v' : Value) → R v v' → Rel R (say (operated_alone o v)) (say (operated_alone o v'))
   pub chooses : {A : Type 0} (S : A → A → Type 0) (v v' : Value) (m m' n n' : Run A) → R v v' → Rel S m m' → Rel S n n' → Rel S (choose v m n) (choose v' m' n')
   pub withins : {A : Type 0} (S : A → A → Type 0) (o o' : Value) (n : ℕ) (vs ws : List Value) (m m' : Run A) → R o o' → Each R vs ws → Rel S m m' → Rel S (within o n vs m) (within o' n ws m')
   pub scopes : {A : Type 0} (S : A → A → Type 0) (m m' : Run A) → Rel S m m' → Rel S (scoped m) (scoped m')
@@ -249,10 +250,10 @@ module _ (program : Program) (MayStore : Field → Type 0) (MayPut : JavaType �
   roundss (suc n) test test' body body' p q =
       l.binds _ _ _ _ _ _ l.ticks (λ x y u. l.binds _ _ _ _ _ _ p (λ v w r. l.chooses (OnFlow l.R) v w _ _ _ _ r (l.binds _ _ _ _ _ _ q (λ a b s. then_rounds a b _ _ s (roundss n test test' body body' p q))) (l.gives_ (OnFlow l.R) Next Next tt)))
 
-  binaries : (o : BinaryOperator) (m m' n n' : Run Value) → l.Rel l.R m m' → l.Rel l.R n n' → l.Rel l.R (binary o m n) (binary o m' n')
-  binaries And m m' n n' p q = l.binds _ _ _ _ _ _ p (λ v w r. l.chooses l.R v w _ _ _ _ r q (l.gives_ l.R (Truth false) (Truth false) (l.truths false)))
-  binaries Or m m' n n' p q = l.binds _ _ _ _ _ _ p (λ v w r. l.chooses l.R v w _ _ _ _ r (l.gives_ l.R (Truth true) (Truth true) (l.truths true)) q)
-  binaries o m m' n n' p q = l.binds _ _ _ _ _ _ p (λ v v' r. l.binds _ _ _ _ _ _ q (λ w w' s. l.operates o v v' w w' r s))
+  binaries : (width : Width) (o : BinaryOperator) (m m' n n' : Run Value) → l.Rel l.R m m' → l.Rel l.R n n' → l.Rel l.R (binary width o m n) (binary width o m' n')
+  binaries width And m m' n n' p q = l.binds _ _ _ _ _ _ p (λ v w r. l.chooses l.R v w _ _ _ _ r q (l.gives_ l.R (Truth false) (Truth false) (l.truths false)))
+  binaries width Or m m' n n' p q = l.binds _ _ _ _ _ _ p (λ v w r. l.chooses l.R v w _ _ _ _ r (l.gives_ l.R (Truth true) (Truth true) (l.truths true)) q)
+  binaries width o m m' n n' p q = l.binds _ _ _ _ _ _ p (λ v v' r. l.binds _ _ _ _ _ _ q (λ w w' s. l.operates (binary_operation width o) v v' w w' r s))
 
   casts : (t : JavaType) (v w : Value) (c d : Option Class) → l.R v w → d ≡ c → l.Rel l.R (cast program t v c) (cast program t w d)
   casts t v w None d r e = rw e (l.gives_ l.R v w r)
@@ -267,7 +268,7 @@ module _ (program : Program) (MayStore : Field → Type 0) (MayPut : JavaType �
   instances t (Some c) d e = rw e (l.gives_ l.R _ _ (l.truths (is_of_type program t c)))
 
   defaults : (t : JavaType) → l.R (default_of t) (default_of t)
-  defaults IntType = l.ints (pos 0)
+  defaults (NumberType w) = l.ints (pos 0)
   defaults BooleanType = l.truths false
   defaults NullType = l.nulls
   defaults VoidType = l.nulls
@@ -283,11 +284,11 @@ module _ (program : Program) (MayStore : Field → Type 0) (MayPut : JavaType �
   all_defaults [] = tt
   all_defaults (f ∷ fs) = (defaults f.type, all_defaults fs)
 
-  compounds : (o : BinaryOperator) (m m' : Run Value) → l.Rel l.R m m' → (v w : Value) → l.R v w → l.Rel (OnChange l.R) (compound o m v) (compound o m' w)
+  compounds : (o : BinaryOperation) (m m' : Run Value) → l.Rel l.R m m' → (v w : Value) → l.R v w → l.Rel (OnChange l.R) (compound o m v) (compound o m' w)
   compounds o m m' p v w r = l.binds _ _ _ _ _ _ p (λ x y s. l.binds _ _ _ _ _ _ (l.operates o v w x y r s) (λ a b t. l.gives_ (OnChange l.R) _ _ (t, t)))
 
-  steps_alike : (o : StepOperator) (v w : Value) → l.R v w → l.Rel (OnChange l.R) (stepped o v) (stepped o w)
-  steps_alike o v w r = l.binds _ _ _ _ _ _ (l.operates (step_operator o) v w (Int (pos 1)) (Int (pos 1)) r (l.ints (pos 1))) (λ a b t. go (gives_old o) a b t)
+  steps_alike : (o : StepOperation) (v w : Value) → l.R v w → l.Rel (OnChange l.R) (stepped o v) (stepped o w)
+  steps_alike o v w r = l.binds _ _ _ _ _ _ (l.operates (step_binary o) v w (Int (pos 1)) (Int (pos 1)) r (l.ints (pos 1))) (λ a b t. go (gives_old o.operator) a b t)
     where
       go : (old : Bool) (a b : Value) → l.R a b → l.Rel (OnChange l.R) (give (change_from old v a)) (give (change_from old w b))
       go true a b t = l.gives_ (OnChange l.R) _ _ (t, r)
@@ -457,7 +458,7 @@ module _ (program : Program) (MayStore : Field → Type 0) (MayPut : JavaType �
 
         go : (t : Option JavaType) → CodedTarget s (Rattle.kr_mean.specs.Meaning.element_target a i t)
         go (Some (ArrayType t)) = here_
-        go (Some IntType) = tt
+        go (Some (NumberType w)) = tt
         go (Some BooleanType) = tt
         go (Some NullType) = tt
         go (Some VoidType) = tt
@@ -502,9 +503,9 @@ module _ (program : Program) (MayStore : Field → Type 0) (MayPut : JavaType �
         l.binds _ _ _ _ _ _ l.gets_this (λ o o' k. l.binds _ _ _ _ _ _ (valuess s (items es) (each_item s es h.1)) (λ vs ws u. runs_method o o' vs ws (super_method s n) (methods_coded (record { scope = s; tree = trees.SuperCall r n es }) h.0) k u))
     values s (trees.ObjectCreation r t es) h = l.binds _ _ _ _ _ _ (valuess s (items es) (each_item s es h.1)) (λ vs ws u. creates (written s t) (classes_coded (record { scope = s; tree = trees.ObjectCreation r t es }) h.0) vs ws u)
     values s (trees.ArrayCreation _ t e) h = l.binds _ _ _ _ _ _ (q.value s e h.1) (λ v w r. l.makes_array (written s t) v w r)
-    values s (trees.Unary _ o e) h = l.binds _ _ _ _ _ _ (q.value s e h.1) (λ v w r. l.operates_alone o v w r)
-    values s (trees.Step r o e) h = changeds s (target_of s e) (target_coded s e h.1) (closed.writes (record { scope = s; tree = trees.Step r o e }) h.0) (stepped o) (stepped o) (steps_alike o)
-    values s (trees.Binary _ o a b) h = binaries o _ _ _ _ (q.value s a (all_front Q (code s a) (code s b) h.1)) (q.value s b (all_back Q (code s a) (code s b) h.1))
+    values s (trees.Unary _ o e) h = l.binds _ _ _ _ _ _ (q.value s e h.1) (λ v w r. l.operates_alone (unary_operation (width_at s e) o) v w r)
+    values s (trees.Step r o e) h = let c = step_operation (width_at s e) o in changeds s (target_of s e) (target_coded s e h.1) (closed.writes (record { scope = s; tree = trees.Step r o e }) h.0) (stepped c) (stepped c) (steps_alike c)
+    values s (trees.Binary _ o a b) h = binaries (width_of s o a b) o _ _ _ _ (q.value s a (all_front Q (code s a) (code s b) h.1)) (q.value s b (all_back Q (code s a) (code s b) h.1))
     values s (trees.InstanceOf _ e t) h = l.binds _ _ _ _ _ _ (q.value s e h.1) (λ v w r. l.binds _ _ _ _ _ _ (l.classes v w r) (λ c d i. instances (written s t) c d i))
     values s (trees.Conditional _ c a b) h =
         let k = all_front Q (code s c ++ code s a) (code s b) h.1 in
@@ -513,7 +514,7 @@ module _ (program : Program) (MayStore : Field → Type 0) (MayPut : JavaType �
     values s (trees.Assignment r a e) h =
         assigneds s (target_of s a) (target_coded s a (all_front Q (code s a) (code s e) h.1)) (closed.writes (record { scope = s; tree = trees.Assignment r a e }) h.0) _ _ (q.value s e (all_back Q (code s a) (code s e) h.1))
     values s (trees.CompoundAssignment r o a e) h =
-        changeds s (target_of s a) (target_coded s a (all_front Q (code s a) (code s e) h.1)) (closed.writes (record { scope = s; tree = trees.CompoundAssignment r o a e }) h.0) _ _ (compounds o _ _ (q.value s e (all_back Q (code s a) (code s e) h.1)))
+        changeds s (target_of s a) (target_coded s a (all_front Q (code s a) (code s e) h.1)) (closed.writes (record { scope = s; tree = trees.CompoundAssignment r o a e }) h.0) _ _ (compounds (binary_operation (width_of s o a e) o) _ _ (q.value s e (all_back Q (code s a) (code s e) h.1)))
     values s (trees.Result _) h = l.gets_result
     values s (trees.Old r e) h = l.gets_old r
     values s _ h = l.stops l.R Stuck

@@ -6,7 +6,7 @@ use Rattle.kr_value.specs.declared.value.Value.TheVariants.{Int, Bool as Truth, 
 use Rattle.kr_value.specs.declared.object.Class.{Class}
 use Rattle.kr_value.specs.declared.object.Class.TheVariants.{Object, Array, Set, List as ListClass}
 use Rattle.kr_value.specs.declared.object.Spot.TheVariants.{Length}
-use Rattle.kr_classes_table.specs.Types.{JavaType, IntType, BooleanType, VoidType, ClassType, ArrayType, SetType, ListType, InferredType, is_same, is_reference}
+use Rattle.kr_classes_table.specs.Types.{JavaType, int_type, BooleanType, VoidType, ClassType, ArrayType, SetType, ListType, InferredType, is_same, is_reference}
 use Rattle.kr_classes_table.specs.Table.{is_below, is_subtype}
 use Rattle.kr_mean.specs.declared.kind.Kind.TheVariants.{NullPointerException, ClassCastException}
 use Rattle.kr_mean.specs.declared.kind.Stop.TheVariants.{Trapped, Stuck}
@@ -89,11 +89,11 @@ module _ (program : Program) (fixed : Fixed) where
           inside e = ap (λ (x : Option Class). elim x as (λ y. Class) [ Some k ↦ k | None ↦ class ]) e
 
   -- the length of an array by its name
-  pub safe_length_named : (types : List JavaType) (this : Option ℕ) (ls : List JavaType) (t : JavaType) (n : List ℕ) (v : Value) → bytes_eq n (codes "length") ≡ true → IsOf program.table types (ArrayType t) v → Safe program fixed types this ls (load_field program n v) (Gives program ls IntType)
+  pub safe_length_named : (types : List JavaType) (this : Option ℕ) (ls : List JavaType) (t : JavaType) (n : List ℕ) (v : Value) → bytes_eq n (codes "length") ≡ true → IsOf program.table types (ArrayType t) v → Safe program fixed types this ls (load_field program n v) (Gives program ls int_type)
   safe_length_named types this ls t n v e i = safe_next program fixed types this ls (class_of v) (load_in program v n) _ _ (safe_class types this ls (ArrayType t) v refl i) (λ more class x h. go more class x (array_class program (type_at more h.0) class t h.4 h.3))
     where
-      go : (more : List JavaType) (class : Class) → Extends types more → is_array_of program t class ≡ true → Safe program fixed more this ls (load_in program v n class) (Gives program ls IntType)
-      go more (Array k) x h = subst (λ (b : Bool). Safe program fixed more this ls (if b then load v Length else stop Stuck) (Gives program ls IntType)) (sym e) (safe_map program fixed more this ls (load v Length) _ _ (safe_length program fixed more this ls t v (Rattle.kr_laws_safety.proofs.Heaps.value_more program.table types more (ArrayType t) v x i)) (λ others ms w h. (h.0, subst (λ (y : Value). IsOf program.table others IntType y) (sym h.2) (refl, h.3))))
+      go : (more : List JavaType) (class : Class) → Extends types more → is_array_of program t class ≡ true → Safe program fixed more this ls (load_in program v n class) (Gives program ls int_type)
+      go more (Array k) x h = subst (λ (b : Bool). Safe program fixed more this ls (if b then load v Length else stop Stuck) (Gives program ls int_type)) (sym e) (safe_map program fixed more this ls (load v Length) _ _ (safe_length program fixed more this ls t v (Rattle.kr_laws_safety.proofs.Heaps.value_more program.table types more (ArrayType t) v x i)) (λ others ms w h. (h.0, subst (λ (y : Value). IsOf program.table others int_type y) (sym h.2) (refl, h.3))))
       go more (Object c) x h = absurd (cc (h))
       go more Set x h = absurd (cc (h))
       go more ListClass x h = absurd (cc (h))

@@ -7,7 +7,7 @@ use Rattle.kr_value.specs.declared.value.Value.TheVariants.{Int, Bool as Truth, 
 use Rattle.kr_value.specs.declared.object.Class.{Class}
 use Rattle.kr_value.specs.declared.object.Class.TheVariants.{List as ListClass}
 use Rattle.kr_value.specs.Heaps.{object_in}
-use Rattle.kr_classes_table.specs.Types.{JavaType, IntType, BooleanType, ListType, is_element}
+use Rattle.kr_classes_table.specs.Types.{JavaType, int_type, BooleanType, ListType, is_element}
 use Rattle.kr_mean.specs.declared.kind.Kind.{Kind as TrapKind}
 use Rattle.kr_mean.specs.declared.kind.Kind.TheVariants.{NoSuchElementException}
 use Rattle.kr_mean.specs.Program.{Program}
@@ -111,13 +111,13 @@ module _ (program : Program) (fixed : Fixed) where
       made Sets ms a = record { collected_is = record { given = Ok (Truth (has_member x ms)); members = without x ms }; is = refl; members = without_of types t x ms a; given = refl }
       made Lists ms a = record { collected_is = record { given = Ok (Truth (has_member x ms)); members = without x ms }; is = refl; members = without_of types t x ms a; given = refl }
 
-  pub safe_size : (types : List JavaType) (this : Option ℕ) (ls : List JavaType) (k : Collection) (t : JavaType) (v : Value) → IsOf program.table types (type_with k t) v → Safe program fixed types this ls (collect (codes "size") v []) (Gives program ls IntType)
-  safe_size types this ls k t v i = collect_by types this ls k t IntType (codes "size") v [] i (made k)
+  pub safe_size : (types : List JavaType) (this : Option ℕ) (ls : List JavaType) (k : Collection) (t : JavaType) (v : Value) → IsOf program.table types (type_with k t) v → Safe program fixed types this ls (collect (codes "size") v []) (Gives program ls int_type)
+  safe_size types this ls k t v i = collect_by types this ls k t int_type (codes "size") v [] i (made k)
     where
       small : (n : ℕ) → min n 2147483647 < 2147483648
       small n = omega (arith, min-le_right n 2147483647)
 
-      made : (k : Collection) (ms : List Value) → AreAll program.table types t ms → Makes types t IntType (collected (class_with k) (codes "size") [] ms)
+      made : (k : Collection) (ms : List Value) → AreAll program.table types t ms → Makes types t int_type (collected (class_with k) (codes "size") [] ms)
       made Sets ms a = record { collected_is = record { given = Ok (Int (pos (min (length ms) 2147483647))); members = ms }; is = refl; members = a; given = (refl, small (length ms)) }
       made Lists ms a = record { collected_is = record { given = Ok (Int (pos (min (length ms) 2147483647))); members = ms }; is = refl; members = a; given = (refl, small (length ms)) }
 

@@ -4,7 +4,8 @@ use Rattle.std.specs.Prelude.{if◌then◌else◌}
 use Rattle.kr_base.specs.declared.place.Place.{Place}
 use Rattle.kr_ast.specs.Tree.{Tree}
 use Rattle.kr_value.specs.declared.value.Value.{Value}
-use Rattle.kr_classes_table.specs.Types.{JavaType, IntType, BooleanType}
+use Rattle.kr_classes_table.specs.Numbers.{Bits32}
+use Rattle.kr_classes_table.specs.Types.{JavaType, NumberType, int_type, BooleanType}
 use Rattle.kr_classes_table.specs.Rules.{Fault}
 use Rattle.kr_classes_table.specs.Table.{Table, is_subtype}
 use Rattle.kr_types_meaning.specs.Scopes.{Scope}
@@ -110,12 +111,12 @@ ruled_plainly b (Fits Untyped) t h r = absurd (cc (r.2, ap type_in (fits_same Un
 ruled_plainly b (Breaks n) t h r = absurd (cc (r.1))
 
 -- an operand that is promoted alone
-pub ruled_alone : (a t : JavaType) (r : ℕ) → Ruled (of_promoted (promoted_alone a) r) t → (a ≡ IntType) × (IntType ≡ t)
-ruled_alone IntType t r h = (refl, ruled_value IntType t h)
+pub ruled_alone : (a t : JavaType) (r : ℕ) → Ruled (of_promoted (promoted_alone a) r) t → (a ≡ int_type) × (int_type ≡ t)
+ruled_alone (NumberType Bits32) t r h = (refl, ruled_value int_type t h)
 ruled_alone _ t r h = absurd (cc (h.1))
 
-pub int_is : (a : JavaType) → is_int a ≡ true → a ≡ IntType
-int_is a e = same_type a IntType e
+pub int_is : (a : JavaType) → is_int a ≡ true → a ≡ int_type
+int_is a e = same_type a int_type e
 
 pub boolean_is : (a : JavaType) → is_boolean a ≡ true → a ≡ BooleanType
 boolean_is a e = same_type a BooleanType e

@@ -7,7 +7,8 @@ use Rattle.std.proofs.lemmas.Slice.Eq.{bytes_eq-Decides}
 use Rattle.kr_value.specs.declared.value.Value.{Value}
 use Rattle.kr_value.specs.declared.value.Value.TheVariants.{Int, Bool as Truth, Null, Ref as Reference}
 use Rattle.kr_value.specs.Heaps.{HeapObject, object_in}
-use Rattle.kr_classes_table.specs.Types.{JavaType, IntType, BooleanType, NullType, VoidType, ClassType, ArrayType, SetType, ListType, InferredType, UnknownType, AppliedType, is_same}
+use Rattle.kr_classes_table.proofs.Widths.{same_width}
+use Rattle.kr_classes_table.specs.Types.{JavaType, NumberType, BooleanType, NullType, VoidType, ClassType, ArrayType, SetType, ListType, InferredType, UnknownType, AppliedType, is_same}
 use Rattle.kr_classes_table.specs.Table.{Table, fields_of, is_subtype}
 use Rattle.kr_mean.specs.Program.{Program}
 use Rattle.kr_laws_safety.specs.Fits.{IsOf, AreOf, AreAll, IsObjectOf, AreObjects, IsHeapOf, type_at}
@@ -143,7 +144,7 @@ all_replicate table types t (suc n) v i = (i, all_replicate table types t n v i)
 -- ---- types
 
 pub same_type : (s t : JavaType) → is_same s t ≡ true → s ≡ t
-same_type IntType IntType e = refl
+same_type (NumberType v) (NumberType w) e = ap NumberType (same_width v w e)
 same_type BooleanType BooleanType e = refl
 same_type NullType NullType e = refl
 same_type VoidType VoidType e = refl

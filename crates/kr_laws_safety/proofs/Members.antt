@@ -4,7 +4,7 @@ use Rattle.std.specs.Prelude.{◌&&◌, ◌||◌, not, bytes_eq, codes, if◌the
 use Rattle.std.proofs.lemmas.Slice.Eq.{bytes_eq-Decides}
 use Rattle.std.proofs.lemmas.Bool.{and_parts, or_cases}
 use Rattle.kr_value.specs.declared.value.Value.{Value}
-use Rattle.kr_classes_table.specs.Types.{JavaType, IntType, BooleanType, NullType, ClassType, ArrayType, SetType, ListType, InferredType, is_void, is_element, is_reference, is_collection}
+use Rattle.kr_classes_table.specs.Types.{JavaType, NumberType, int_type, BooleanType, NullType, ClassType, ArrayType, SetType, ListType, InferredType, is_void, is_element, is_reference, is_collection}
 use Rattle.kr_classes_table.specs.Table.{is_subtype}
 use Rattle.kr_types_meaning.specs.Scopes.{Scope}
 use Rattle.kr_types_meaning.specs.Rules as rules
@@ -53,7 +53,7 @@ element_of : (program : Program) (k : Collection) (x e : JavaType) → is_value_
 element_of program k x (ClassType c) vx ve h = refl
 element_of program k x (ArrayType t) vx ve h = refl
 element_of program k NullType InferredType vx ve h = absurd (cc (h))
-element_of program k IntType InferredType vx ve h = absurd (cc (h))
+element_of program k (NumberType w) InferredType vx ve h = absurd (cc (h))
 element_of program k BooleanType InferredType vx ve h = absurd (cc (h))
 element_of program k (ClassType c) InferredType vx ve h = absurd (cc (h))
 element_of program k (ArrayType t) InferredType vx ve h = absurd (cc (h))
@@ -96,12 +96,12 @@ module _ (program : Program) (fixed : Fixed) where
       first Sets w q types this ls o i = absurd (cc (q))
 
       go : (a : Bool) → bytes_eq n (codes "size") ≡ a → (b : Bool) → bytes_eq n (codes "isEmpty") ≡ b
-          → Ruled (if a then Fits (rules.Value IntType) else if b then Fits (rules.Value BooleanType) else ask (bytes_eq n (codes "removeFirst") && is_list k && is_element e) 25 (Fits (rules.Value e))) t → Call k e t m.of n []
+          → Ruled (if a then Fits (rules.Value int_type) else if b then Fits (rules.Value BooleanType) else ask (bytes_eq n (codes "removeFirst") && is_list k && is_element e) 25 (Fits (rules.Value e))) t → Call k e t m.of n []
       go true x b y r = record {
         takes = [];
         used_as = tt;
         fit = tt;
-        safe = λ types this ls o vs i j. subst (λ (z : List Value). Run' n t types this ls o z) (sym (none types vs j)) (subst (λ (z : List ℕ). Run' z t types this ls o []) (name_is n (codes "size") x) (subst (λ (z : JavaType). Run' (codes "size") z types this ls o []) (ruled_value IntType t r) (safe_size program fixed types this ls k m.of o i)));
+        safe = λ types this ls o vs i j. subst (λ (z : List Value). Run' n t types this ls o z) (sym (none types vs j)) (subst (λ (z : List ℕ). Run' z t types this ls o []) (name_is n (codes "size") x) (subst (λ (z : JavaType). Run' (codes "size") z types this ls o []) (ruled_value int_type t r) (safe_size program fixed types this ls k m.of o i)));
       }
       go false x true y r = record {
         takes = [];

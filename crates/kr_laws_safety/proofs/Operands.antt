@@ -12,10 +12,10 @@ use Rattle.kr_ast.specs.Tree as trees
 use Rattle.kr_ast.specs.Tree.{Tree}
 use Rattle.kr_value.specs.declared.value.Value.{Value}
 use Rattle.kr_value.specs.declared.value.Value.TheVariants.{Int, Bool as Truth, Null}
-use Rattle.kr_classes_table.specs.Types.{JavaType, IntType, BooleanType, NullType, ClassType, ArrayType, SetType, ListType, UnknownType, AppliedType, is_void, is_known, is_reference}
+use Rattle.kr_classes_table.specs.Types.{JavaType, int_type, BooleanType, NullType, ClassType, ArrayType, SetType, ListType, UnknownType, AppliedType, is_void, is_known, is_reference}
 use Rattle.kr_classes_table.specs.Table.{Field, class_or, class_named, applied, field_named, is_subtype}
 use Rattle.kr_classes_table.specs.Constants.{constant_only, constant_of, field_meant, known_value as constant_value}
-use Rattle.kr_classes_table.specs.Numbers.{Bits32, wrap}
+use Rattle.kr_classes_table.specs.Numbers.{Width, Bits32, wrap}
 use Rattle.kr_types_meaning.specs.Scopes.{Scope, Meant, LocalName, FieldName, NoName, value, under_minus, written, meant, class_before}
 use Rattle.kr_types_meaning.specs.Rules as rules
 use Rattle.kr_types_meaning.specs.Promotion.{are_numbers}
@@ -24,8 +24,8 @@ use Rattle.kr_types_meaning.specs.Typing.{judge, on_one, on_two, field_of, judge
 use Rattle.kr_types_meaning.proofs.Types.{types_law}
 use Rattle.kr_mean.specs.Program.{Program}
 use Rattle.kr_mean.specs.Steps.{Run, say, give, given, ◌>>=◌, get_this, load_field}
-use Rattle.kr_mean.specs.Operators.{operated, operated_alone}
-use Rattle.kr_mean.specs.Meaning.{Parts, constant, read_name, access, binary, is_primitive, value_of}
+use Rattle.kr_mean.specs.Operators.{operated, operated_alone, binary_operation, unary_operation}
+use Rattle.kr_mean.specs.Meaning.{Parts, constant, read_name, access, binary, is_primitive, value_of, width_at, width_of}
 use Rattle.kr_laws_safety.specs.Fits.{IsOf}
 use Rattle.kr_laws_safety.specs.Triples.{Fixed, Safe, Gives}
 use Rattle.kr_laws_safety.specs.Steps.{is_junction, HasField}
@@ -47,10 +47,10 @@ use Rattle.kr_laws_safety.proofs.Classes.{safe_length_named}
 use Rattle.kr_laws_types.proofs.Typed.{front_none, back_none, below_none}
 
 -- two operands, where both are looked at
-both_operands : (o : BinaryOperator) (m n : Run Value) → is_junction o ≡ false → binary o m n ≡ (m >>= (λ v. n >>= (λ w. say (operated o v w))))
-both_operands operators.And m n j = absurd (cc (j))
-both_operands operators.Or m n j = absurd (cc (j))
-both_operands _ m n j = refl
+both_operands : (width : Width) (o : BinaryOperator) (m n : Run Value) → is_junction o ≡ false → binary width o m n ≡ (m >>= (λ v. n >>= (λ w. say (operated (binary_operation width o) v w))))
+both_operands width operators.And m n j = absurd (cc (j))
+both_operands width operators.Or m n j = absurd (cc (j))
+both_operands width _ m n j = refl
 
 -- ---- types in casts
 
@@ -114,7 +114,7 @@ module _ (program : Program) (fixed : Fixed) (facts : IsTypedProgram program) (p
   pub number : (s : Scope) (pl : Place) (n : ℕ) → (judged s (trees.Number pl n)).faults ≡ [] → Goal s (trees.Number pl n)
   unfolding judged
   number s pl n f types t u r g a =
-      let is = ruled_value IntType t (ruled_ask _ 6 (Fits (rules.Value IntType)) t (ruled pl (number_rule s n) [] t f r)).1 in
+      let is = ruled_value int_type t (ruled_ask _ 6 (Fits (rules.Value int_type)) t (ruled pl (number_rule s n) [] t f r)).1 in
       safe_as program fixed facts.below types (this_of s) (types_of s.locals) _ t u a (safe_give program fixed types (this_of s) (types_of s.locals) (Int (wrap Bits32 (pos n))) _ (refl, (sym is, whole_within Bits32 _)))
 
   pub truth : (s : Scope) (pl : Place) (b : Bool) → Goal s (trees.Truth pl b)
@@ -204,8 +204,8 @@ module _ (program : Program) (fixed : Fixed) (facts : IsTypedProgram program) (p
       let h = facts.fields c n f.0 f.1 in
       subst (λ (x : JavaType). Safe program fixed types this ls (load_field program n v) (Gives program ls x)) f.3 (safe_load_field program fixed types this ls c n f.0.type v (subst (λ (x : List ℕ). HasField program c x f.0.type) h.name (h.instance f.2)) i)
   loaded types this ls n (ArrayType e) t v r i =
-      let h = ruled_ask (bytes_eq n (codes "length")) 22 (Fits (rules.Value IntType)) t r in
-      subst (λ (x : JavaType). Safe program fixed types this ls (load_field program n v) (Gives program ls x)) (ruled_value IntType t h.1) (safe_length_named program fixed types this ls e n v h.0 i)
+      let h = ruled_ask (bytes_eq n (codes "length")) 22 (Fits (rules.Value int_type)) t r in
+      subst (λ (x : JavaType). Safe program fixed types this ls (load_field program n v) (Gives program ls x)) (ruled_value int_type t h.1) (safe_length_named program fixed types this ls e n v h.0 i)
   loaded types this ls n _ t v r i = absurd (cc (r.1))
 
   -- a value assigned to a type with fields is of it
@@ -249,10 +249,10 @@ module _ (program : Program) (fixed : Fixed) (facts : IsTypedProgram program) (p
       let target = subst (λ (z : JavaType). is_value_type z ≡ true) rule.0 x.kind in
       safe_as program fixed facts.below types (this_of s) (types_of s.locals) _ t u a
       (safe_next program fixed types (this_of s) (types_of s.locals) (p.value (plain s) b) _ _ _ (part_as (value s) b k h front types (ArrayType t) array target refl)
-      (λ more v w j. safe_next program fixed more (this_of s) (types_of s.locals) (p.value (plain s) i) _ _ _ (part_as (value s) i k l back more IntType index refl refl)
+      (λ more v w j. safe_next program fixed more (this_of s) (types_of s.locals) (p.value (plain s) i) _ _ _ (part_as (value s) i k l back more int_type index refl refl)
       (λ others z q m. safe_element program fixed others (this_of s) (types_of s.locals) t v z (value_more program.table more others (ArrayType t) v q j) m)))
     where
-      element_ruled : (c d t : JavaType) → Ruled (element_rule c d) t → (c ≡ ArrayType t) × (d ≡ IntType)
+      element_ruled : (c d t : JavaType) → Ruled (element_rule c d) t → (c ≡ ArrayType t) × (d ≡ int_type)
       element_ruled (ArrayType e) d t r = let h = ruled_ask (rules.is_int d) 23 (Fits (rules.Variable e)) t r in (ap ArrayType (ruled_variable e t h.1), int_is d h.0)
       element_ruled _ d t r = absurd (cc (r.1))
 
@@ -260,7 +260,7 @@ module _ (program : Program) (fixed : Fixed) (facts : IsTypedProgram program) (p
 
   unary_in : (w : Scope) (pl : Place) (o : UnaryOperator) (e : Tree) → IsScope program fixed w → Coded program fixed (Expression false) w e → (judge pl (on_one (unary_rule o) (judged w e).typed) (judged w e).faults).faults ≡ [] → (types : List JavaType) (t u : JavaType)
       → type_in (judge pl (on_one (unary_rule o) (judged w e).typed) (judged w e).faults).typed ≡ Some t → is_subtype program.table t u ≡ true
-      → Safe program fixed types (this_of w) (types_of w.locals) (p.value (plain w) e >>= (λ v. say (operated_alone o v))) (GivesAs program (types_of w.locals) u)
+      → Safe program fixed types (this_of w) (types_of w.locals) (p.value (plain w) e >>= (λ v. say (operated_alone (unary_operation (width_at (plain w) e) o) v))) (GivesAs program (types_of w.locals) u)
   unary_in w pl o e k h f types t u r a =
       let below = below_none pl (on_one (unary_rule o) (judged w e).typed) (judged w e).faults f in
       let x = typed_at program fixed facts w e k h below in
@@ -268,9 +268,9 @@ module _ (program : Program) (fixed : Fixed) (facts : IsTypedProgram program) (p
       let is = unary_is o x.type t rule in
       safe_as program fixed facts.below types (this_of w) (types_of w.locals) _ t u a
       (safe_next program fixed types (this_of w) (types_of w.locals) (p.value (plain w) e) _ _ _ (part_as w e k h below types x.type x.known is.0 is.1)
-      (λ more v y i. safe_operated_alone program fixed more (this_of w) (types_of w.locals) o x.type t v (ruled_plainly false (unary_rule o x.type) t (unary_fine (record w { role = Rattle.kr_types_meaning.specs.Scopes.AsValue }) (subst HasVariables (sym k.0) (has_variables program fixed facts)) o x.type) rule) i))
+      (λ more v y i. safe_operated_alone program fixed more (this_of w) (types_of w.locals) (width_at (plain w) e) o x.type t v (ruled_plainly false (unary_rule o x.type) t (unary_fine (record w { role = Rattle.kr_types_meaning.specs.Scopes.AsValue }) (subst HasVariables (sym k.0) (has_variables program fixed facts)) o x.type) rule) i))
     where
-      int_target : (c : JavaType) → c ≡ IntType → (is_target c ≡ true) × (is_void c ≡ false)
+      int_target : (c : JavaType) → c ≡ int_type → (is_target c ≡ true) × (is_void c ≡ false)
       int_target c e = subst (λ (z : JavaType). (is_target z ≡ true) × (is_void z ≡ false)) (sym e) (refl, refl)
 
       unary_is : (o : UnaryOperator) (c t : JavaType) → Ruled (unary_rule o c) t → (is_target c ≡ true) × (is_void c ≡ false)
@@ -289,25 +289,25 @@ module _ (program : Program) (fixed : Fixed) (facts : IsTypedProgram program) (p
   -- on ints, on booleans, on references
   operands : (s : Scope) (o : BinaryOperator) (b c : Tree) → IsScope program fixed s → Coded program fixed (Expression false) s b → Coded program fixed (Expression false) s c → (judged (value s) b).faults ≡ [] → (judged (value s) c).faults ≡ [] → (types : List JavaType) (x y t : JavaType)
       → is_junction o ≡ false → is_value_type x ≡ true → is_value_type y ≡ true → type_in (judged (value s) b).typed ≡ Some x → type_in (judged (value s) c).typed ≡ Some y → operator_rule s o x y ≡ Fits (rules.Value t) → Use o x y t
-      → Safe program fixed types (this_of s) (types_of s.locals) (p.value (plain s) b >>= (λ v. p.value (plain s) c >>= (λ w. say (operated o v w)))) (Gives program (types_of s.locals) t)
+      → Safe program fixed types (this_of s) (types_of s.locals) (p.value (plain s) b >>= (λ v. p.value (plain s) c >>= (λ w. say (operated (binary_operation (width_of (plain s) o b c) o) v w)))) (Gives program (types_of s.locals) t)
   operands s o b c k h l f d types x y t j vx vy rx ry e way = go way
     where
-      both : (z w : JavaType) → is_target z ≡ true → is_void z ≡ false → is_target w ≡ true → is_void w ≡ false → x ≡ z → y ≡ w → operator_rule s o z w ≡ Fits (rules.Value t) → Safe program fixed types (this_of s) (types_of s.locals) (p.value (plain s) b >>= (λ v. p.value (plain s) c >>= (λ w. say (operated o v w)))) (Gives program (types_of s.locals) t)
+      both : (z w : JavaType) → is_target z ≡ true → is_void z ≡ false → is_target w ≡ true → is_void w ≡ false → x ≡ z → y ≡ w → operator_rule s o z w ≡ Fits (rules.Value t) → Safe program fixed types (this_of s) (types_of s.locals) (p.value (plain s) b >>= (λ v. p.value (plain s) c >>= (λ w. say (operated (binary_operation (width_of (plain s) o b c) o) v w)))) (Gives program (types_of s.locals) t)
       both z w tz gz tw gw ez ew e =
           safe_next program fixed types (this_of s) (types_of s.locals) (p.value (plain s) b) _ _ _ (part_as (value s) b k h f types z (rx ∙ ap (λ (n : JavaType). Some n) ez) tz gz)
           (λ more v q i. safe_next program fixed more (this_of s) (types_of s.locals) (p.value (plain s) c) _ _ _ (part_as (value s) c k l d more w (ry ∙ ap (λ (n : JavaType). Some n) ew) tw gw)
-          (λ others u m n. safe_operated program fixed others (this_of s) (types_of s.locals) s o z w t v u j e (value_more program.table more others z v m i) n))
+          (λ others u m n. safe_operated program fixed others (this_of s) (types_of s.locals) s (width_of (plain s) o b c) o z w t v u j e (value_more program.table more others z v m i) n))
 
-      go : Use o x y t → Safe program fixed types (this_of s) (types_of s.locals) (p.value (plain s) b >>= (λ v. p.value (plain s) c >>= (λ w. say (operated o v w)))) (Gives program (types_of s.locals) t)
-      go (ints ex ey z) = both IntType IntType refl refl refl refl ex ey (ap (λ (n : JavaType). operator_rule s o n IntType) (sym ex) ∙ (ap (λ (n : JavaType). operator_rule s o x n) (sym ey) ∙ e))
+      go : Use o x y t → Safe program fixed types (this_of s) (types_of s.locals) (p.value (plain s) b >>= (λ v. p.value (plain s) c >>= (λ w. say (operated (binary_operation (width_of (plain s) o b c) o) v w)))) (Gives program (types_of s.locals) t)
+      go (ints ex ey z) = both int_type int_type refl refl refl refl ex ey (ap (λ (n : JavaType). operator_rule s o n int_type) (sym ex) ∙ (ap (λ (n : JavaType). operator_rule s o x n) (sym ey) ∙ e))
       go (booleans ex ey z m) = both BooleanType BooleanType refl refl refl refl ex ey (ap (λ (n : JavaType). operator_rule s o n BooleanType) (sym ex) ∙ (ap (λ (n : JavaType). operator_rule s o x n) (sym ey) ∙ e))
       go (references rx' ry' z m) =
           let ux = used program.table x vx in
           let uy = used program.table y vy in
           safe_next program fixed types (this_of s) (types_of s.locals) (p.value (plain s) b) _ _ _ (part_used (value s) b k h f types x rx ux)
           (λ more v q i. safe_next program fixed more (this_of s) (types_of s.locals) (p.value (plain s) c) _ _ _ (part_used (value s) c k l d more y ry uy)
-          (λ others w n i'. subst (λ (a : JavaType). Safe program fixed others (this_of s) (types_of s.locals) (say (operated o v w)) (Gives program (types_of s.locals) a)) (sym m)
-          (record { by = λ state st. said program fixed others (this_of s) (types_of s.locals) BooleanType (operated o v w) state st (references_good program fixed o v w z (reference_known program fixed more ux.type v (ux.reference rx') i) (reference_known program fixed others uy.type w (uy.reference ry') i')) })))
+          (λ others w n i'. subst (λ (a : JavaType). Safe program fixed others (this_of s) (types_of s.locals) (say (operated (binary_operation (width_of (plain s) o b c) o) v w)) (Gives program (types_of s.locals) a)) (sym m)
+          (record { by = λ state st. said program fixed others (this_of s) (types_of s.locals) BooleanType (operated (binary_operation (width_of (plain s) o b c) o) v w) state st (references_good program fixed (width_of (plain s) o b c) o v w z (reference_known program fixed more ux.type v (ux.reference rx') i) (reference_known program fixed others uy.type w (uy.reference ry') i')) })))
 
   -- `&&` and `||`
   junction_is : (s : Scope) (o : BinaryOperator) (x y t : JavaType) → is_junction o ≡ true → Ruled (operator_rule s o x y) t → (x ≡ BooleanType) × (y ≡ BooleanType) × (BooleanType ≡ t)
@@ -315,10 +315,10 @@ module _ (program : Program) (fixed : Fixed) (facts : IsTypedProgram program) (p
   junction_is s operators.Or x y t j r = let h = ruled_ask (both_boolean x y) 12 (Fits (rules.Value BooleanType)) t r in let z = and_parts (rules.is_boolean x) (rules.is_boolean y) h.0 in (boolean_is x z.0, boolean_is y z.1, ruled_value BooleanType t h.1)
   junction_is s _ x y t j r = absurd (cc (j))
 
-  joined : (o : BinaryOperator) (types : List JavaType) (this : Option ℕ) (ls : List JavaType) (m n : Run Value) → is_junction o ≡ true → ((types : List JavaType) → Safe program fixed types this ls m (Gives program ls BooleanType)) → ((types : List JavaType) → Safe program fixed types this ls n (Gives program ls BooleanType)) → Safe program fixed types this ls (binary o m n) (Gives program ls BooleanType)
-  joined operators.And types this ls m n j x y = safe_next program fixed types this ls m _ _ _ (x types) (λ more v q i. safe_choose program fixed more this ls v n (give (Truth false)) _ i (y more) (safe_give program fixed more this ls (Truth false) _ (refl, refl)))
-  joined operators.Or types this ls m n j x y = safe_next program fixed types this ls m _ _ _ (x types) (λ more v q i. safe_choose program fixed more this ls v (give (Truth true)) n _ i (safe_give program fixed more this ls (Truth true) _ (refl, refl)) (y more))
-  joined _ types this ls m n j x y = absurd (cc (j))
+  joined : (width : Width) (o : BinaryOperator) (types : List JavaType) (this : Option ℕ) (ls : List JavaType) (m n : Run Value) → is_junction o ≡ true → ((types : List JavaType) → Safe program fixed types this ls m (Gives program ls BooleanType)) → ((types : List JavaType) → Safe program fixed types this ls n (Gives program ls BooleanType)) → Safe program fixed types this ls (binary width o m n) (Gives program ls BooleanType)
+  joined width operators.And types this ls m n j x y = safe_next program fixed types this ls m _ _ _ (x types) (λ more v q i. safe_choose program fixed more this ls v n (give (Truth false)) _ i (y more) (safe_give program fixed more this ls (Truth false) _ (refl, refl)))
+  joined width operators.Or types this ls m n j x y = safe_next program fixed types this ls m _ _ _ (x types) (λ more v q i. safe_choose program fixed more this ls v (give (Truth true)) n _ i (safe_give program fixed more this ls (Truth true) _ (refl, refl)) (y more))
+  joined width _ types this ls m n j x y = absurd (cc (j))
 
   pub operation : (s : Scope) (pl : Place) (o : BinaryOperator) (b c : Tree) → IsScope program fixed s → Coded program fixed (Expression false) s b → Coded program fixed (Expression false) s c → (judged s (trees.Binary pl o b c)).faults ≡ [] → Goal s (trees.Binary pl o b c)
   unfolding judged
@@ -333,11 +333,11 @@ module _ (program : Program) (fixed : Fixed) (facts : IsTypedProgram program) (p
       safe_as program fixed facts.below types (this_of s) (types_of s.locals) _ t u a (go (is_junction o) refl front back x.type y.type x.kind y.kind x.known y.known rule plainly)
     where
       go : (j : Bool) → is_junction o ≡ j → (judged (value s) b).faults ≡ [] → (judged (value s) c).faults ≡ [] → (x y : JavaType) → is_value_type x ≡ true → is_value_type y ≡ true → type_in (judged (value s) b).typed ≡ Some x → type_in (judged (value s) c).typed ≡ Some y → Ruled (operator_rule s o x y) t
-          → operator_rule s o x y ≡ Fits (rules.Value t) → Safe program fixed types (this_of s) (types_of s.locals) (binary o (p.value (plain s) b) (p.value (plain s) c)) (Gives program (types_of s.locals) t)
+          → operator_rule s o x y ≡ Fits (rules.Value t) → Safe program fixed types (this_of s) (types_of s.locals) (binary (width_of (plain s) o b c) o (p.value (plain s) b) (p.value (plain s) c)) (Gives program (types_of s.locals) t)
       go true j front back x y vx vy rx ry rule plainly =
           let is = junction_is s o x y t j rule in
-          subst (λ (z : JavaType). Safe program fixed types (this_of s) (types_of s.locals) (binary o (p.value (plain s) b) (p.value (plain s) c)) (Gives program (types_of s.locals) z)) is.2
-          (joined o types (this_of s) (types_of s.locals) _ _ j (λ more. part_as (value s) b k h front more BooleanType (rx ∙ ap (λ (n : JavaType). Some n) is.0) refl refl) (λ more. part_as (value s) c k l back more BooleanType (ry ∙ ap (λ (n : JavaType). Some n) is.1) refl refl))
+          subst (λ (z : JavaType). Safe program fixed types (this_of s) (types_of s.locals) (binary (width_of (plain s) o b c) o (p.value (plain s) b) (p.value (plain s) c)) (Gives program (types_of s.locals) z)) is.2
+          (joined (width_of (plain s) o b c) o types (this_of s) (types_of s.locals) _ _ j (λ more. part_as (value s) b k h front more BooleanType (rx ∙ ap (λ (n : JavaType). Some n) is.0) refl refl) (λ more. part_as (value s) c k l back more BooleanType (ry ∙ ap (λ (n : JavaType). Some n) is.1) refl refl))
       go false j front back x y vx vy rx ry rule plainly =
-          subst (λ (m : Run Value). Safe program fixed types (this_of s) (types_of s.locals) m (Gives program (types_of s.locals) t)) (sym (both_operands o (p.value (plain s) b) (p.value (plain s) c) j))
+          subst (λ (m : Run Value). Safe program fixed types (this_of s) (types_of s.locals) m (Gives program (types_of s.locals) t)) (sym (both_operands (width_of (plain s) o b c) o (p.value (plain s) b) (p.value (plain s) c) j))
           (operands s o b c k h l front back types x y t j vx vy rx ry plainly (used_by s o x y t j plainly))

@@ -11,7 +11,7 @@ use Rattle.kr_value.specs.declared.value.Value.{Value}
 use Rattle.kr_value.specs.declared.value.Value.TheVariants.{Int, Bool as Truth, Null, Ref as Reference}
 use Rattle.kr_value.specs.declared.object.Class.TheVariants.{Array}
 use Rattle.kr_value.specs.Heaps.{object_in}
-use Rattle.kr_classes_table.specs.Types.{JavaType, IntType, BooleanType, VoidType, ArrayType, is_same, is_reference}
+use Rattle.kr_classes_table.specs.Types.{JavaType, NumberType, int_type, BooleanType, VoidType, ArrayType, is_same, is_reference}
 use Rattle.kr_classes_table.specs.Table.{Table, is_subtype}
 use Rattle.kr_classes_table.specs.declared.errors.OperatorError.TheVariants.{ZeroDivisor}
 use Rattle.kr_classes_table.specs.Operators.{is_zero}
@@ -25,7 +25,7 @@ use Rattle.kr_mean.specs.declared.kind.Stop.{Stop}
 use Rattle.kr_mean.specs.declared.kind.Stop.TheVariants.{Trapped, OutOfFuel, Stuck}
 use Rattle.kr_mean.specs.Program.{Program, default_of, is_array_of}
 use Rattle.kr_mean.specs.Steps.{State, Run, say, stop}
-use Rattle.kr_mean.specs.Operators.{said as ended, operated, operated_alone}
+use Rattle.kr_mean.specs.Operators.{said as ended, operated, operated_alone, binary_operation, unary_operation}
 use Rattle.kr_mean.specs.Meaning.{make_array, create_array}
 use Rattle.kr_mean.specs.declared.kind.Kind.TheVariants.{ArrayTooLong}
 use Rattle.kr_laws_safety.specs.Fits.{IsWithin, IsOf, IsHeapOf, type_at}
@@ -53,8 +53,8 @@ Good t (Err (Trapped k)) = Unit {0}
 Good t (Err OutOfFuel) = ⊥
 Good t (Err Stuck) = ⊥
 
-whole_good : (n : ℕ) → Good IntType (Ok (Int (whole_of Bits32 n)))
-whole_good n table types = (refl, whole_within Bits32 n)
+whole_good : (width : Width) (n : ℕ) → Good int_type (Ok (Int (whole_of width n)))
+whole_good Bits32 n table types = (refl, whole_within Bits32 n)
 
 -- the type that an operator gives on ints, and on booleans
 abbrev pub on_ints : BinaryOperator → Option JavaType
@@ -66,28 +66,28 @@ on_ints Equal = Some BooleanType
 on_ints NotEqual = Some BooleanType
 on_ints And = None
 on_ints Or = None
-on_ints o = Some IntType
+on_ints o = Some int_type
 
-divided : (b : Bool) (n : ℕ) → Good IntType (ended (if b then Err ZeroDivisor else Ok (Int (whole_of Bits32 n))))
-divided true n = tt
-divided false n = whole_good n
+divided : (width : Width) (b : Bool) (n : ℕ) → Good int_type (ended (if b then Err ZeroDivisor else Ok (Int (whole_of width n))))
+divided width true n = tt
+divided width false n = whole_good width n
 
 abbrev pub OnInts : Option JavaType → Result Value Stop → Type 0
 OnInts None r = Unit {0}
 OnInts (Some t) r = Good t r
 
-pub ints_good : (o : BinaryOperator) (x y : ℤ) → OnInts (on_ints o) (operated o (Int x) (Int y))
-ints_good Divide x y = divided (is_zero y) _
-ints_good Remainder x y = divided (is_zero y) _
-ints_good Less x y = λ table types. refl
-ints_good Greater x y = λ table types. refl
-ints_good LessOrEqual x y = λ table types. refl
-ints_good GreaterOrEqual x y = λ table types. refl
-ints_good Equal x y = λ table types. refl
-ints_good NotEqual x y = λ table types. refl
-ints_good And x y = tt
-ints_good Or x y = tt
-ints_good _ x y = whole_good _
+pub ints_good : (width : Width) (o : BinaryOperator) (x y : ℤ) → OnInts (on_ints o) (operated (binary_operation width o) (Int x) (Int y))
+ints_good width Divide x y = divided width (is_zero y) _
+ints_good width Remainder x y = divided width (is_zero y) _
+ints_good width Less x y = λ table types. refl
+ints_good width Greater x y = λ table types. refl
+ints_good width LessOrEqual x y = λ table types. refl
+ints_good width GreaterOrEqual x y = λ table types. refl
+ints_good width Equal x y = λ table types. refl
+ints_good width NotEqual x y = λ table types. refl
+ints_good width And x y = tt
+ints_good width Or x y = tt
+ints_good width _ x y = whole_good width _
 
 -- ---- booleans
 
@@ -103,13 +103,13 @@ abbrev pub OnBooleans : Bool → Result Value Stop → Type 0
 OnBooleans true r = Good BooleanType r
 OnBooleans false r = Unit {0}
 
-pub booleans_good : (o : BinaryOperator) (x y : Bool) → OnBooleans (on_booleans o) (operated o (Truth x) (Truth y))
-booleans_good Equal x y = λ table types. refl
-booleans_good NotEqual x y = λ table types. refl
-booleans_good BitAnd x y = λ table types. refl
-booleans_good BitXor x y = λ table types. refl
-booleans_good BitOr x y = λ table types. refl
-booleans_good _ x y = tt
+pub booleans_good : (width : Width) (o : BinaryOperator) (x y : Bool) → OnBooleans (on_booleans o) (operated (binary_operation width o) (Truth x) (Truth y))
+booleans_good width Equal x y = λ table types. refl
+booleans_good width NotEqual x y = λ table types. refl
+booleans_good width BitAnd x y = λ table types. refl
+booleans_good width BitXor x y = λ table types. refl
+booleans_good width BitOr x y = λ table types. refl
+booleans_good width _ x y = tt
 
 -- ---- requirements of the rules
 
@@ -126,7 +126,7 @@ same_fits t u e = ap type_in e
 
 -- how an operator is used: on ints, on booleans, or on references
 pub data Use (o : BinaryOperator) (a b t : JavaType) : Type 0 where
-  ints : a ≡ IntType → b ≡ IntType → on_ints o ≡ Some t → Use o a b t
+  ints : a ≡ int_type → b ≡ int_type → on_ints o ≡ Some t → Use o a b t
   booleans : a ≡ BooleanType → b ≡ BooleanType → on_booleans o ≡ true → t ≡ BooleanType → Use o a b t
   references : is_reference a ≡ true → is_reference b ≡ true → (o ≡ Equal) ⊎ (o ≡ NotEqual) → t ≡ BooleanType → Use o a b t
 
@@ -140,28 +140,28 @@ only_ints s o a b t u r q e =
     ints x.0 x.1 (q ∙ ap (λ (y : JavaType). Some y) (same_fits u t h.1))
 
 -- of an operator that promotes both operands
-numbers : (o : BinaryOperator) (a b t : JavaType) (r : ℕ) → on_ints o ≡ Some IntType → of_promoted (promoted a b) r ≡ Fits (rules.Value t) → Use o a b t
-numbers o IntType b t r q e = right b e
+numbers : (o : BinaryOperator) (a b t : JavaType) (r : ℕ) → on_ints o ≡ Some int_type → of_promoted (promoted a b) r ≡ Fits (rules.Value t) → Use o a b t
+numbers o (NumberType Bits32) b t r q e = right b e
   where
-    right : (b : JavaType) → of_promoted (promoted_alone b) r ≡ Fits (rules.Value t) → Use o IntType b t
-    right IntType e = ints refl refl (q ∙ ap (λ (y : JavaType). Some y) (same_fits IntType t e))
+    right : (b : JavaType) → of_promoted (promoted_alone b) r ≡ Fits (rules.Value t) → Use o int_type b t
+    right (NumberType Bits32) e = ints refl refl (q ∙ ap (λ (y : JavaType). Some y) (same_fits int_type t e))
     right _ e = absurd (cc (e))
 numbers o _ b t r q e = absurd (cc (e))
 
 -- of a shift, which promotes each alone
-shifted : (o : BinaryOperator) (a b t : JavaType) → on_ints o ≡ Some IntType → shift_rule a b ≡ Fits (rules.Value t) → Use o a b t
-shifted o IntType b t q e =
-    let h = ask_holds (is_number b) 8 (Fits (rules.Value IntType)) (rules.Value t) e in
-    ints refl (alone_is b h.0) (q ∙ ap (λ (y : JavaType). Some y) (same_fits IntType t h.1))
+shifted : (o : BinaryOperator) (a b t : JavaType) → on_ints o ≡ Some int_type → shift_rule a b ≡ Fits (rules.Value t) → Use o a b t
+shifted o (NumberType Bits32) b t q e =
+    let h = ask_holds (is_number b) 8 (Fits (rules.Value int_type)) (rules.Value t) e in
+    ints refl (alone_is b h.0) (q ∙ ap (λ (y : JavaType). Some y) (same_fits int_type t h.1))
 shifted o _ b t q e = absurd (cc ((ask_holds (is_number b) 8 (Breaks 8) (rules.Value t) e).1))
 
 -- of one operand
-alone_fits : (a t : JavaType) (r : ℕ) → of_promoted (promoted_alone a) r ≡ Fits (rules.Value t) → (a ≡ IntType) × (IntType ≡ t)
-alone_fits IntType t r e = (refl, same_fits IntType t e)
+alone_fits : (a t : JavaType) (r : ℕ) → of_promoted (promoted_alone a) r ≡ Fits (rules.Value t) → (a ≡ int_type) × (int_type ≡ t)
+alone_fits (NumberType Bits32) t r e = (refl, same_fits int_type t e)
 alone_fits _ t r e = absurd (cc (e))
 
 -- of a bit operator
-bits : (o : BinaryOperator) (a b t : JavaType) → on_ints o ≡ Some IntType → on_booleans o ≡ true → bit_rule a b ≡ Fits (rules.Value t) → Use o a b t
+bits : (o : BinaryOperator) (a b t : JavaType) → on_ints o ≡ Some int_type → on_booleans o ≡ true → bit_rule a b ≡ Fits (rules.Value t) → Use o a b t
 bits o a b t q p e = go (both_boolean a b) refl e
   where
     go : (n : Bool) → both_boolean a b ≡ n → (if n then Fits (rules.Value BooleanType) else of_promoted (promoted a b) 11) ≡ Fits (rules.Value t) → Use o a b t
@@ -217,7 +217,7 @@ module _ (program : Program) (fixed : Fixed) where
       go u (inl e) k = subst IsObjectType e k
       go u (inr r) k = absurd (cc (r.3))
 
-  pub int_known : (types : List JavaType) (s : State) (v : Value) → IsHeapOf program types s.heap → IsOf program.table types IntType v → (z : ℤ) × (v ≡ Int z)
+  pub int_known : (types : List JavaType) (s : State) (v : Value) → IsHeapOf program types s.heap → IsOf program.table types int_type v → (z : ℤ) × (v ≡ Int z)
   int_known types s (Int z) h i = (z, refl)
   int_known types s (Truth b) h i = absurd (cc (i))
   int_known types s Null h i = absurd (cc (i))
@@ -245,60 +245,60 @@ module _ (program : Program) (fixed : Fixed) where
   said types this ls t (Err OutOfFuel) s h g = absurd g
   said types this ls t (Err Stuck) s h g = absurd g
 
-  pub references_good : (o : BinaryOperator) (v w : Value) → (o ≡ Equal) ⊎ (o ≡ NotEqual) → IsReferenceValue v → IsReferenceValue w → Good BooleanType (operated o v w)
-  references_good o v w k (inl e) (inl f) = rw (e, f) (null_null o k)
+  pub references_good : (width : Width) (o : BinaryOperator) (v w : Value) → (o ≡ Equal) ⊎ (o ≡ NotEqual) → IsReferenceValue v → IsReferenceValue w → Good BooleanType (operated (binary_operation width o) v w)
+  references_good width o v w k (inl e) (inl f) = rw (e, f) (null_null o k)
     where
-      null_null : (o : BinaryOperator) → (o ≡ Equal) ⊎ (o ≡ NotEqual) → Good BooleanType (operated o Null Null)
+      null_null : (o : BinaryOperator) → (o ≡ Equal) ⊎ (o ≡ NotEqual) → Good BooleanType (operated (binary_operation width o) Null Null)
       null_null o (inl q) = rw q (λ table types. refl)
       null_null o (inr q) = rw q (λ table types. refl)
-  references_good o v w k (inl e) (inr f) = rw (e, f.1) (null_object o f.0 k)
+  references_good width o v w k (inl e) (inr f) = rw (e, f.1) (null_object o f.0 k)
     where
-      null_object : (o : BinaryOperator) (p : ℕ) → (o ≡ Equal) ⊎ (o ≡ NotEqual) → Good BooleanType (operated o Null (Reference p))
+      null_object : (o : BinaryOperator) (p : ℕ) → (o ≡ Equal) ⊎ (o ≡ NotEqual) → Good BooleanType (operated (binary_operation width o) Null (Reference p))
       null_object o p (inl q) = rw q (λ table types. refl)
       null_object o p (inr q) = rw q (λ table types. refl)
-  references_good o v w k (inr e) (inl f) = rw (e.1, f) (object_null o e.0 k)
+  references_good width o v w k (inr e) (inl f) = rw (e.1, f) (object_null o e.0 k)
     where
-      object_null : (o : BinaryOperator) (p : ℕ) → (o ≡ Equal) ⊎ (o ≡ NotEqual) → Good BooleanType (operated o (Reference p) Null)
+      object_null : (o : BinaryOperator) (p : ℕ) → (o ≡ Equal) ⊎ (o ≡ NotEqual) → Good BooleanType (operated (binary_operation width o) (Reference p) Null)
       object_null o p (inl q) = rw q (λ table types. refl)
       object_null o p (inr q) = rw q (λ table types. refl)
-  references_good o v w k (inr e) (inr f) = rw (e.1, f.1) (two_objects o e.0 f.0 k)
+  references_good width o v w k (inr e) (inr f) = rw (e.1, f.1) (two_objects o e.0 f.0 k)
     where
-      two_objects : (o : BinaryOperator) (p q : ℕ) → (o ≡ Equal) ⊎ (o ≡ NotEqual) → Good BooleanType (operated o (Reference p) (Reference q))
+      two_objects : (o : BinaryOperator) (p q : ℕ) → (o ≡ Equal) ⊎ (o ≡ NotEqual) → Good BooleanType (operated (binary_operation width o) (Reference p) (Reference q))
       two_objects o p q (inl r) = rw r (λ table types. refl)
       two_objects o p q (inr r) = rw r (λ table types. refl)
 
-  pub safe_operated : (types : List JavaType) (this : Option ℕ) (ls : List JavaType) (s : Scope) (o : BinaryOperator) (a b t : JavaType) (v w : Value) → is_junction o ≡ false → operator_rule s o a b ≡ Fits (rules.Value t) → IsOf program.table types a v → IsOf program.table types b w
-      → Safe program fixed types this ls (say (operated o v w)) (Gives program ls t)
-  safe_operated types this ls s o a b t v w j e i k = record { by = λ state h. said types this ls t (operated o v w) state h (go state h (used s o a b t j e)) }
+  pub safe_operated : (types : List JavaType) (this : Option ℕ) (ls : List JavaType) (s : Scope) (width : Width) (o : BinaryOperator) (a b t : JavaType) (v w : Value) → is_junction o ≡ false → operator_rule s o a b ≡ Fits (rules.Value t) → IsOf program.table types a v → IsOf program.table types b w
+      → Safe program fixed types this ls (say (operated (binary_operation width o) v w)) (Gives program ls t)
+  safe_operated types this ls s width o a b t v w j e i k = record { by = λ state h. said types this ls t (operated (binary_operation width o) v w) state h (go state h (used s o a b t j e)) }
     where
-      go : (state : State) → IsStateOf program fixed types this ls state → Use o a b t → Good t (operated o v w)
+      go : (state : State) → IsStateOf program fixed types this ls state → Use o a b t → Good t (operated (binary_operation width o) v w)
       go state h (ints p q r) =
           let x = int_known types state v h.heap (subst (λ (y : JavaType). IsOf program.table types y v) p i) in
           let z = int_known types state w h.heap (subst (λ (y : JavaType). IsOf program.table types y w) q k) in
-          rw (x.1, z.1) (subst (λ (y : Option JavaType). OnInts y (operated o (Int x.0) (Int z.0))) r (ints_good o x.0 z.0))
+          rw (x.1, z.1) (subst (λ (y : Option JavaType). OnInts y (operated (binary_operation width o) (Int x.0) (Int z.0))) r (ints_good width o x.0 z.0))
       go state h (booleans p q r f) =
           let x = boolean_known types state v h.heap (subst (λ (y : JavaType). IsOf program.table types y v) p i) in
           let z = boolean_known types state w h.heap (subst (λ (y : JavaType). IsOf program.table types y w) q k) in
-          rw (x.1, z.1, f) (subst (λ (y : Bool). OnBooleans y (operated o (Truth x.0) (Truth z.0))) r (booleans_good o x.0 z.0))
-      go state h (references p q r f) = rw f (references_good o v w r (reference_known types a v p i) (reference_known types b w q k))
+          rw (x.1, z.1, f) (subst (λ (y : Bool). OnBooleans y (operated (binary_operation width o) (Truth x.0) (Truth z.0))) r (booleans_good width o x.0 z.0))
+      go state h (references p q r f) = rw f (references_good width o v w r (reference_known types a v p i) (reference_known types b w q k))
 
   -- one operand
-  pub safe_operated_alone : (types : List JavaType) (this : Option ℕ) (ls : List JavaType) (o : UnaryOperator) (a t : JavaType) (v : Value) → unary_rule o a ≡ Fits (rules.Value t) → IsOf program.table types a v → Safe program fixed types this ls (say (operated_alone o v)) (Gives program ls t)
-  safe_operated_alone types this ls o a t v e i = record { by = λ state h. said types this ls t (operated_alone o v) state h (go o state h e) }
+  pub safe_operated_alone : (types : List JavaType) (this : Option ℕ) (ls : List JavaType) (width : Width) (o : UnaryOperator) (a t : JavaType) (v : Value) → unary_rule o a ≡ Fits (rules.Value t) → IsOf program.table types a v → Safe program fixed types this ls (say (operated_alone (unary_operation width o) v)) (Gives program ls t)
+  safe_operated_alone types this ls width o a t v e i = record { by = λ state h. said types this ls t (operated_alone (unary_operation width o) v) state h (go o state h e) }
     where
-      int : (state : State) → IsStateOf program fixed types this ls state → of_promoted (promoted_alone a) 14 ≡ Fits (rules.Value t) → ((z : ℤ) × (v ≡ Int z)) × (IntType ≡ t)
+      int : (state : State) → IsStateOf program fixed types this ls state → of_promoted (promoted_alone a) 14 ≡ Fits (rules.Value t) → ((z : ℤ) × (v ≡ Int z)) × (int_type ≡ t)
       int state h e =
           let r = alone_fits a t 14 e in
           (int_known types state v h.heap (subst (λ (y : JavaType). IsOf program.table types y v) r.0 i), r.1)
 
-      go : (o : UnaryOperator) (state : State) → IsStateOf program fixed types this ls state → unary_rule o a ≡ Fits (rules.Value t) → Good t (operated_alone o v)
-      go Plus state h e = let r = int state h e in subst (λ (y : JavaType). Good y (operated_alone Plus v)) r.1 (rw r.0.1 (whole_good _))
-      go Minus state h e = let r = int state h e in subst (λ (y : JavaType). Good y (operated_alone Minus v)) r.1 (rw r.0.1 (whole_good _))
-      go Complement state h e = let r = int state h e in subst (λ (y : JavaType). Good y (operated_alone Complement v)) r.1 (rw r.0.1 (whole_good _))
+      go : (o : UnaryOperator) (state : State) → IsStateOf program fixed types this ls state → unary_rule o a ≡ Fits (rules.Value t) → Good t (operated_alone (unary_operation width o) v)
+      go Plus state h e = let r = int state h e in subst (λ (y : JavaType). Good y (operated_alone (unary_operation width Plus) v)) r.1 (rw r.0.1 (whole_good width _))
+      go Minus state h e = let r = int state h e in subst (λ (y : JavaType). Good y (operated_alone (unary_operation width Minus) v)) r.1 (rw r.0.1 (whole_good width _))
+      go Complement state h e = let r = int state h e in subst (λ (y : JavaType). Good y (operated_alone (unary_operation width Complement) v)) r.1 (rw r.0.1 (whole_good width _))
       go Not state h e =
           let r = ask_holds (is_boolean a) 13 (Fits (rules.Value BooleanType)) (rules.Value t) e in
           let x = boolean_known types state v h.heap (subst (λ (y : JavaType). IsOf program.table types y v) (same_type a BooleanType r.0) i) in
-          subst (λ (y : JavaType). Good y (operated_alone Not v)) (same_fits BooleanType t r.1) (rw x.1 (λ table types. refl))
+          subst (λ (y : JavaType). Good y (operated_alone (unary_operation width Not) v)) (same_fits BooleanType t r.1) (rw x.1 (λ table types. refl))
 
   -- ---- new arrays
 
@@ -317,7 +317,7 @@ module _ (program : Program) (fixed : Fixed) where
       ap (λ (x : ℕ). is_same (get_or program.arrays x VoidType) (ArrayType t)) q ∙ (ap (λ (u : JavaType). is_same u (ArrayType t)) r.2 ∙ type_same t)
 
   -- elements of a type that have a default, of which there is an array type
-  pub safe_create_array : (types : List JavaType) (this : Option ℕ) (ls : List JavaType) (t : JavaType) (k : ℕ) (v : Value) → array_number program.arrays (ArrayType t) ≡ Some k → IsOf program.table [] t (default_of t) → IsOf program.table types IntType v
+  pub safe_create_array : (types : List JavaType) (this : Option ℕ) (ls : List JavaType) (t : JavaType) (k : ℕ) (v : Value) → array_number program.arrays (ArrayType t) ≡ Some k → IsOf program.table [] t (default_of t) → IsOf program.table types int_type v
       → Safe program fixed types this ls (create_array program t v) (Gives program ls (ArrayType t))
   safe_create_array types this ls t k v e d i = record { by = λ s h. go s h (int_known types s v h.heap i) }
     where

@@ -11,7 +11,7 @@ use Rattle.kr_value.specs.declared.object.Class.{Class}
 use Rattle.kr_value.specs.declared.object.Class.TheVariants.{Object, Array, Set, List as ListClass}
 use Rattle.kr_value.specs.declared.object.Spot.TheVariants.{Field as FieldSpot, Length}
 use Rattle.kr_value.specs.Heaps.{HeapObject, object_in, has_spot, has_spot_of}
-use Rattle.kr_classes_table.specs.Types.{JavaType, IntType, BooleanType, VoidType, ClassType, ArrayType, SetType, ListType, is_element, is_reference}
+use Rattle.kr_classes_table.specs.Types.{JavaType, int_type, BooleanType, VoidType, ClassType, ArrayType, SetType, ListType, is_element, is_reference}
 use Rattle.kr_classes_table.specs.Table.{Table, Field, ancestors, is_among, is_below, is_subtype}
 use Rattle.kr_classes_table.specs.Constants.{is_at_place}
 use Rattle.kr_mean.specs.declared.kind.Kind.{Kind}
@@ -341,10 +341,10 @@ module _ (program : Program) (fixed : Fixed) where
   index_below (negsuc i) n k e = absurd (cc (e))
 
   -- an object is no int
-  pub no_int : (types : List JavaType) (s : State) (o : ℕ) → IsHeapOf program types s.heap → IsOf program.table types IntType (Reference o) → ⊥
-  no_int types s o h i = go (type_at types o) (type_known types s o IntType h i) (object_type program types (type_at types o) (object_in s.heap o) (object_found program types types s.heap o h i.0))
+  pub no_int : (types : List JavaType) (s : State) (o : ℕ) → IsHeapOf program types s.heap → IsOf program.table types int_type (Reference o) → ⊥
+  no_int types s o h i = go (type_at types o) (type_known types s o int_type h i) (object_type program types (type_at types o) (object_in s.heap o) (object_found program types types s.heap o h i.0))
     where
-      go : (u : JavaType) → Assigned program.table u IntType → IsObjectType u → ⊥
+      go : (u : JavaType) → Assigned program.table u int_type → IsObjectType u → ⊥
       go u (inl e) k = subst IsObjectType e k
       go u (inr r) k = absurd (cc (r.3))
 
@@ -360,7 +360,7 @@ module _ (program : Program) (fixed : Fixed) where
           subst (λ (b : Bool). Fine program fixed types this ls (λ more after x. (after ≡ ls) × (n : ℕ) × (x ≡ Int (pos n)) × IsLength n) (load_if b o Length s).said (load_if b o Length s).after) (sym (has_length (object_in s.heap o) t x.0)) (types, ls, extends_self types, h, (refl, length (object_in s.heap o).values, refl, x.2), extends_self ls)
 
   -- an element
-  pub safe_element : (types : List JavaType) (this : Option ℕ) (ls : List JavaType) (t : JavaType) (v w : Value) → IsOf program.table types (ArrayType t) v → IsOf program.table types IntType w → Safe program fixed types this ls (element v w) (Gives program ls t)
+  pub safe_element : (types : List JavaType) (this : Option ℕ) (ls : List JavaType) (t : JavaType) (v w : Value) → IsOf program.table types (ArrayType t) v → IsOf program.table types int_type w → Safe program fixed types this ls (element v w) (Gives program ls t)
   safe_element types this ls t (Int z) w i j = absurd (cc (i.0))
   safe_element types this ls t (Truth b) w i j = absurd (cc (i))
   safe_element types this ls t Null (Int z) i j = record { by = λ s h. (types, ls, extends_self types, h, extends_self ls) }
@@ -385,7 +385,7 @@ module _ (program : Program) (fixed : Fixed) where
   set_long heap o x types h k = let a = heap_long program types types heap h in let b = heap_long program types types (slice_set heap o x) (object_set program types types heap o x h k) in omega (arith, a, b)
 
   -- writes an element
-  pub safe_store_element : (types : List JavaType) (this : Option ℕ) (ls : List JavaType) (t : JavaType) (v w x : Value) → IsOf program.table types (ArrayType t) v → IsOf program.table types IntType w → IsOf program.table types t x → Safe program fixed types this ls (store_element program t v w x) (Keeps ls)
+  pub safe_store_element : (types : List JavaType) (this : Option ℕ) (ls : List JavaType) (t : JavaType) (v w x : Value) → IsOf program.table types (ArrayType t) v → IsOf program.table types int_type w → IsOf program.table types t x → Safe program fixed types this ls (store_element program t v w x) (Keeps ls)
   safe_store_element types this ls t (Int z) w x i j y = absurd (cc (i.0))
   safe_store_element types this ls t (Truth b) w x i j y = absurd (cc (i))
   safe_store_element types this ls t Null (Int z) x i j y = record { by = λ s h. (types, ls, extends_self types, h, extends_self ls) }

@@ -3,7 +3,9 @@ use Rattle.std.proofs.Common.{◌≡◌, ℕ, Bool, true, false, List, refl, sym
 use Rattle.std.specs.Prelude.{not}
 use Rattle.kr_value.specs.declared.value.Value.{Value}
 use Rattle.kr_value.specs.declared.value.Value.TheVariants.{Int, Bool as Truth, Null, Ref as Reference}
-use Rattle.kr_classes_table.specs.Types.{JavaType, IntType, BooleanType, NullType, VoidType, ClassType, ArrayType, SetType, ListType, InferredType, is_void, is_reference}
+use Rattle.kr_classes_table.specs.Numbers.{Bits32}
+use Rattle.kr_classes_table.proofs.Widths.{width_itself}
+use Rattle.kr_classes_table.specs.Types.{JavaType, NumberType, int_type, BooleanType, NullType, VoidType, ClassType, ArrayType, SetType, ListType, InferredType, is_void, is_reference}
 use Rattle.kr_classes_table.specs.Table.{Table, is_below, is_subtype}
 use Rattle.kr_mean.specs.Program.{default_of}
 use Rattle.kr_laws_safety.specs.Fits.{IsOf, type_at}
@@ -20,7 +22,7 @@ not_true false e = refl
 not_true true e = absurd (cc (e))
 
 pub variable_target : (t : JavaType) → is_variable_type t ≡ true → is_target t ≡ true
-variable_target IntType e = refl
+variable_target (NumberType w) e = refl
 variable_target BooleanType e = refl
 variable_target (ClassType c) e = refl
 variable_target (ArrayType t) e = e
@@ -34,7 +36,7 @@ variable_not_void _ e = refl
 
 pub result_target : (t : JavaType) → is_result_type t ≡ true → is_target t ≡ true
 result_target NullType e = refl
-result_target IntType e = refl
+result_target (NumberType w) e = refl
 result_target BooleanType e = refl
 result_target VoidType e = refl
 result_target (ClassType c) e = refl
@@ -52,7 +54,7 @@ void_is t e = same_type t VoidType e
 
 -- the value that a variable begins with
 pub default_is : (table : Table) (types : List JavaType) (t : JavaType) → is_variable_type t ≡ true → IsOf table types t (default_of t)
-default_is table types IntType e = (refl, small)
+default_is table types (NumberType Bits32) e = (refl, small)
   where
     small : Rattle.kr_laws_safety.specs.Fits.IsWithin Rattle.kr_classes_table.specs.Numbers.Bits32 (Rattle.std.specs.Prelude.pos 0)
     small = omega Rattle.std.proofs.Common.arith
@@ -79,7 +81,7 @@ assignable_reference table _ u r e = absurd (cc (r))
 pub assignable_itself : (table : Table) (t : JavaType) → is_target t ≡ true → is_subtype table t t ≡ true
 assignable_itself table NullType e = refl
 assignable_itself table (ClassType c) e = below_itself table c
-assignable_itself table IntType e = refl
+assignable_itself table (NumberType w) e = width_itself w
 assignable_itself table BooleanType e = refl
 assignable_itself table VoidType e = refl
 assignable_itself table (ArrayType t) e = type_same (ArrayType t)
@@ -124,7 +126,7 @@ module _ (table : Table) (onward : IsOnward table) where
 
   -- a value of a type is one of those to which it may be assigned
   pub widened : (types : List JavaType) (t u : JavaType) (v : Value) → is_subtype table t u ≡ true → IsOf table types t v → IsOf table types u v
-  widened types t u (Int z) e i = (sym (same_type IntType u (subst (λ (k : JavaType). is_subtype table k u ≡ true) i.0 e)), i.1)
+  widened types t u (Int z) e i = (sym (same_type int_type u (subst (λ (k : JavaType). is_subtype table k u ≡ true) i.0 e)), i.1)
   widened types t u (Truth b) e i = sym (same_type BooleanType u (subst (λ (k : JavaType). is_subtype table k u ≡ true) i e))
   widened types t u Null e i = assignable_reference table t u i e
   widened types t u (Reference o) e i = (i.0, assignable_through (type_at types o) t u i.1 e)
@@ -148,7 +150,7 @@ as_itself table t e f = record { type = t; target = e; fits = assignable_itself 
 
 pub used : (table : Table) (t : JavaType) → is_value_type t ≡ true → Used table t
 used table NullType e = as_itself table NullType refl refl
-used table IntType e = as_itself table IntType refl refl
+used table (NumberType w) e = as_itself table (NumberType w) refl refl
 used table BooleanType e = as_itself table BooleanType refl refl
 used table (ClassType c) e = as_itself table (ClassType c) refl refl
 used table (ArrayType t) e = as_itself table (ArrayType t) e refl

@@ -5,7 +5,7 @@ use Rattle.std.proofs.lemmas.Bool.{and_parts, or_cases}
 use Rattle.kr_base.specs.declared.place.Place.{Place}
 use Rattle.kr_ast.specs.Tree as trees
 use Rattle.kr_ast.specs.Tree.{Tree}
-use Rattle.kr_classes_table.specs.Types.{JavaType, IntType, BooleanType, ArrayType, is_void, is_reference, is_collection, is_element}
+use Rattle.kr_classes_table.specs.Types.{JavaType, int_type, BooleanType, ArrayType, is_void, is_reference, is_collection, is_element}
 use Rattle.kr_classes_table.specs.Table.{is_subtype, are_related}
 use Rattle.kr_types_meaning.specs.Scopes.{Scope, value, in_old, written}
 use Rattle.kr_types_meaning.specs.Rules as rules
@@ -147,7 +147,7 @@ module _ (program : Program) (fixed : Fixed) (facts : IsTypedProgram program) (p
       let same = written_is s w of.0 i of.1 in
       safe_as program fixed facts.below types (this_of s) (types_of s.locals) _ t u a
       (subst (λ (n : JavaType). Safe program fixed types (this_of s) (types_of s.locals) (p.value (plain s) e >>= create_array program (written s w)) (Gives program (types_of s.locals) n)) (ap ArrayType (sym same) ∙ ruled_value (ArrayType of.0) t inside.1)
-      (safe_next program fixed types (this_of s) (types_of s.locals) (p.value (plain s) e) _ _ _ (part_as program fixed facts p q (value s) e k h back types IntType (x.known ∙ ap (λ (n : JavaType). Some n) (int_is x.type asked.0)) refl refl)
+      (safe_next program fixed types (this_of s) (types_of s.locals) (p.value (plain s) e) _ _ _ (part_as program fixed facts p q (value s) e k h back types int_type (x.known ∙ ap (λ (n : JavaType). Some n) (int_is x.type asked.0)) refl refl)
       (λ more v m j. safe_create_array program fixed more (this_of s) (types_of s.locals) (written s w) number.0 v number.1 (default_is program.table [] (written s w) (subst (λ (n : JavaType). is_variable_type n ≡ true) same of.2)) j)))
 
   -- ---- postconditions

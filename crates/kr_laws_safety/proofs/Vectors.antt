@@ -10,7 +10,8 @@ use Rattle.kr_value.specs.declared.value.Value.{Value}
 use Rattle.kr_value.specs.declared.value.Value.TheVariants.{Int, Bool as Truth, Null, Ref as Reference}
 use Rattle.kr_value.specs.declared.object.Class.{Class}
 use Rattle.kr_value.specs.declared.object.Class.TheVariants.{Object, Array, Set, List as ListClass}
-use Rattle.kr_classes_table.specs.Types.{JavaType, IntType, BooleanType, NullType, VoidType, ClassType, ArrayType, SetType, ListType, InferredType, UnknownType, AppliedType, is_same}
+use Rattle.kr_classes_table.proofs.Widths.{width_itself}
+use Rattle.kr_classes_table.specs.Types.{JavaType, NumberType, BooleanType, NullType, VoidType, ClassType, ArrayType, SetType, ListType, InferredType, UnknownType, AppliedType, is_same}
 use Rattle.kr_classes_table.specs.Table.{ancestors, is_among, is_below, is_subtype, fields_of}
 use Rattle.kr_mean.specs.Program.{is_array_of}
 use Rattle.kr_mean.specs.Problem.{Problem, DomainItem, Plain, Objects, Domain, Spotted, Slot, DomainObject, Choice, all_objects, heap_number, objects_of_domain, item_choices, choices_in, object_choice, domain_at, slots, slot_at}
@@ -39,7 +40,7 @@ both_hold : (a b : Bool) → a ≡ true → b ≡ true → (a && b) ≡ true
 both_hold a b e f = rw (e, f) refl
 
 pub type_same : (t : JavaType) → is_same t t ≡ true
-type_same IntType = refl
+type_same (NumberType w) = width_itself w
 type_same BooleanType = refl
 type_same NullType = refl
 type_same VoidType = refl
@@ -176,7 +177,7 @@ module _ (problem : Problem) (w : IsWellFormed problem) (h : HaveDomainsTypes pr
                 subst (λ (xs : List Value). IsLength (length xs)) (sym (values_are d k (Array n) a b e)) (omega (arith, below, j.1, length-map-range_with_len (value_at problem v) (first_slot problem d k + 1) m)),
               )
           array (ArrayType t) g [] q j = absurd j
-          array IntType g ss q j = absurd j
+          array (NumberType w) g ss q j = absurd j
           array BooleanType g ss q j = absurd j
           array NullType g ss q j = absurd j
           array VoidType g ss q j = absurd j

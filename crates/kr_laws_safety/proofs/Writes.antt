@@ -11,7 +11,8 @@ use Rattle.kr_ast.specs.Tree as trees
 use Rattle.kr_ast.specs.Tree.{Tree}
 use Rattle.kr_value.specs.declared.value.Value.{Value}
 use Rattle.kr_value.specs.declared.value.Value.TheVariants.{Int}
-use Rattle.kr_classes_table.specs.Types.{BooleanType, JavaType, IntType, ClassType, ArrayType, is_void, is_known}
+use Rattle.kr_classes_table.specs.Numbers.{Bits32}
+use Rattle.kr_classes_table.specs.Types.{BooleanType, JavaType, NumberType, int_type, ClassType, ArrayType, is_void, is_known}
 use Rattle.kr_classes_table.specs.Table.{Field, field_named, is_below, is_subtype}
 use Rattle.kr_classes_table.specs.Constants.{field_meant}
 use Rattle.kr_types_meaning.specs.Scopes.{Scope, Meant, LocalName, FieldName, NoName, value, meant, class_before}
@@ -21,8 +22,8 @@ use Rattle.kr_types_meaning.specs.Rules.{Typed, Untyped, Judgement, Fits, ask, g
 use Rattle.kr_types_meaning.specs.Typing.{judge, on_one, on_two, field_of, judged, type_in, type_of}
 use Rattle.kr_mean.specs.Program.{Program}
 use Rattle.kr_mean.specs.Steps.{Run, say, get_this, read_local, assign, load_field, element, store, store_element}
-use Rattle.kr_mean.specs.Operators.{operated, step_operator, gives_old}
-use Rattle.kr_mean.specs.Meaning.{Parts, Target, LocalTarget, OwnField, FieldOf, ElementOf, NoTarget, name_target, field_target, element_target, field_of_type, typed_field, target_of, assigned, changed, Change, change_to, change_from, compound, stepped}
+use Rattle.kr_mean.specs.Operators.{operated, binary_operation, step_operation, step_operator, gives_old}
+use Rattle.kr_mean.specs.Meaning.{Parts, Target, LocalTarget, OwnField, FieldOf, ElementOf, NoTarget, name_target, field_target, element_target, field_of_type, typed_field, target_of, assigned, changed, Change, change_to, change_from, compound, stepped, width_at, width_of}
 use Rattle.kr_laws_safety.specs.Fits.{IsOf}
 use Rattle.kr_laws_safety.specs.Triples.{Fixed, Safe, Gives, Keeps, type_of_local}
 use Rattle.kr_laws_safety.specs.Steps.{is_junction, HasField}
@@ -45,10 +46,10 @@ use Rattle.kr_laws_types.proofs.Typed.{front_none, back_none, below_none}
 -- ---- operators that give what they are assigned to
 
 numbers_kept : (a b : JavaType) (r : ℕ) → not (is_broken (of_promoted (promoted a b) r)) ≡ true → of_promoted (promoted a b) r ≡ Fits (rules.Value a)
-numbers_kept IntType b r e = right b e
+numbers_kept (NumberType Bits32) b r e = right b e
   where
-    right : (b : JavaType) → not (is_broken (of_promoted (promoted_alone b) r)) ≡ true → of_promoted (promoted_alone b) r ≡ Fits (rules.Value IntType)
-    right IntType e = refl
+    right : (b : JavaType) → not (is_broken (of_promoted (promoted_alone b) r)) ≡ true → of_promoted (promoted_alone b) r ≡ Fits (rules.Value int_type)
+    right (NumberType Bits32) e = refl
     right _ e = absurd (cc (e))
 numbers_kept _ b r e = absurd (cc (e))
 
@@ -56,7 +57,7 @@ shift_kept : (a b : JavaType) → not (is_broken (shift_rule a b)) ≡ true → 
 shift_kept a b e = go (is_number b) e
   where
     left : (a : JavaType) → not (is_broken (of_promoted (promoted_alone a) 8)) ≡ true → of_promoted (promoted_alone a) 8 ≡ Fits (rules.Value a)
-    left IntType e = refl
+    left (NumberType w) e = refl
     left _ e = absurd (cc (e))
 
     go : (n : Bool) → not (is_broken (ask n 8 (of_promoted (promoted_alone a) 8))) ≡ true → ask n 8 (of_promoted (promoted_alone a) 8) ≡ Fits (rules.Value a)
@@ -104,7 +105,7 @@ step_plain steps.IncrementBehind = refl
 step_plain steps.DecrementBefore = refl
 step_plain steps.DecrementBehind = refl
 
-step_gives : (s : Scope) (o : StepOperator) → operator_rule s (step_operator o) IntType IntType ≡ Fits (rules.Value IntType)
+step_gives : (s : Scope) (o : StepOperator) → operator_rule s (step_operator o) int_type int_type ≡ Fits (rules.Value int_type)
 step_gives s steps.IncrementBefore = refl
 step_gives s steps.IncrementBehind = refl
 step_gives s steps.DecrementBefore = refl
@@ -123,7 +124,7 @@ module _ (program : Program) (fixed : Fixed) (facts : IsTypedProgram program) (p
     local : (k : ℕ) → type_of_local (types_of s.locals) k ≡ Some t → Writes s t (LocalTarget k)
     own : (f : Field) → s.is_static ≡ false → HasField program s.class f.name f.type → is_below program.table s.class f.class ≡ true → f.type ≡ t → Writes s t (OwnField f)
     other : (e : Tree) (f : Field) (c : ℕ) → Part s e (ClassType c) → HasField program c f.name f.type → is_below program.table c f.class ≡ true → f.type ≡ t → Writes s t (FieldOf e f)
-    at : (b i : Tree) → Part s b (ArrayType t) → Part s i IntType → is_variable_type t ≡ true → Writes s t (ElementOf b i t)
+    at : (b i : Tree) → Part s b (ArrayType t) → Part s i int_type → is_variable_type t ≡ true → Writes s t (ElementOf b i t)
 
   not_given : (pl : Place) (t : JavaType) → is_variable (judge pl (gives t) []).typed ≡ true → ⊥
   not_given pl t e = go (is_known t) e
@@ -167,7 +168,7 @@ module _ (program : Program) (fixed : Fixed) (facts : IsTypedProgram program) (p
       instance : (c : ℕ) (g : Field) → field_named program.table c n ≡ Some g → g.is_static ≡ false → field_of_type program.table n (Some (ClassType c)) ≡ Some g
       instance c g e b = ap (λ (y : Option Field). option_and_then (λ f. if f.is_static then None else Some f) y) e ∙ ap (λ (z : Bool). if z then None else Some g) b
 
-      length : (b : Bool) (fs : List Rattle.kr_classes_table.specs.Rules.Fault) → is_variable (judge pl (ask b 22 (Fits (rules.Value IntType))) fs).typed ≡ true → ⊥
+      length : (b : Bool) (fs : List Rattle.kr_classes_table.specs.Rules.Fault) → is_variable (judge pl (ask b 22 (Fits (rules.Value int_type))) fs).typed ≡ true → ⊥
       length true fs v = cc (v)
       length false fs v = cc (v)
 
@@ -236,9 +237,9 @@ module _ (program : Program) (fixed : Fixed) (facts : IsTypedProgram program) (p
       (λ last u w. safe_give program fixed last (this_of s) (types_of s.locals) v _ (refl, value_more program.table others last t v w i))))
   write s t _ y (at b n array index kind) m given types =
       safe_next program fixed types (this_of s) (types_of s.locals) (p.value (plain s) b) _ _ _ (part_given s b (ArrayType t) y array kind refl types)
-      (λ more o x j. safe_next program fixed more (this_of s) (types_of s.locals) (p.value (plain s) n) _ _ _ (part_given s n IntType y index refl refl more)
+      (λ more o x j. safe_next program fixed more (this_of s) (types_of s.locals) (p.value (plain s) n) _ _ _ (part_given s n int_type y index refl refl more)
       (λ others l z h. safe_next program fixed others (this_of s) (types_of s.locals) m _ _ _ (given others)
-      (λ last v w i. safe_keep program fixed last (this_of s) (types_of s.locals) (store_element program t o l v) _ _ (safe_store_element program fixed last (this_of s) (types_of s.locals) t o l v (value_more program.table others last (ArrayType t) o w (value_more program.table more others (ArrayType t) o z j)) (value_more program.table others last IntType l w h) i)
+      (λ last v w i. safe_keep program fixed last (this_of s) (types_of s.locals) (store_element program t o l v) _ _ (safe_store_element program fixed last (this_of s) (types_of s.locals) t o l v (value_more program.table others last (ArrayType t) o w (value_more program.table more others (ArrayType t) o z j)) (value_more program.table others last int_type l w h) i)
       (λ end u d. safe_give program fixed end (this_of s) (types_of s.locals) v _ (refl, value_more program.table last end t v d i)))))
 
   -- a change of a value of a type
@@ -268,10 +269,10 @@ module _ (program : Program) (fixed : Fixed) (facts : IsTypedProgram program) (p
       (λ end u m. safe_give program fixed end (this_of s) (types_of s.locals) c.given _ (refl, value_more program.table d end t c.given m l.1)))))
   change s t _ y (at h n array index kind) f given types =
       safe_next program fixed types (this_of s) (types_of s.locals) (p.value (plain s) h) _ _ _ (part_given s h (ArrayType t) y array kind refl types)
-      (λ a o x i. safe_next program fixed a (this_of s) (types_of s.locals) (p.value (plain s) n) _ _ _ (part_given s n IntType y index refl refl a)
+      (λ a o x i. safe_next program fixed a (this_of s) (types_of s.locals) (p.value (plain s) n) _ _ _ (part_given s n int_type y index refl refl a)
       (λ b l z j. let o' = value_more program.table a b (ArrayType t) o z i in safe_next program fixed b (this_of s) (types_of s.locals) (element o l) _ _ _ (safe_element program fixed b (this_of s) (types_of s.locals) t o l o' j)
-      (λ d v w r. let o'' = value_more program.table b d (ArrayType t) o w o' in let l' = value_more program.table b d IntType l w j in safe_next program fixed d (this_of s) (types_of s.locals) (f v) _ _ _ (given d v r)
-      (λ end c m g. safe_keep program fixed end (this_of s) (types_of s.locals) (store_element program t o l c.new) _ _ (safe_store_element program fixed end (this_of s) (types_of s.locals) t o l c.new (value_more program.table d end (ArrayType t) o m o'') (value_more program.table d end IntType l m l') g.0)
+      (λ d v w r. let o'' = value_more program.table b d (ArrayType t) o w o' in let l' = value_more program.table b d int_type l w j in safe_next program fixed d (this_of s) (types_of s.locals) (f v) _ _ _ (given d v r)
+      (λ end c m g. safe_keep program fixed end (this_of s) (types_of s.locals) (store_element program t o l c.new) _ _ (safe_store_element program fixed end (this_of s) (types_of s.locals) t o l c.new (value_more program.table d end (ArrayType t) o m o'') (value_more program.table d end int_type l m l') g.0)
       (λ last u k. safe_give program fixed last (this_of s) (types_of s.locals) c.given _ (refl, value_more program.table end last t c.given k g.1))))))
 
   -- ---- the expressions
@@ -324,9 +325,9 @@ module _ (program : Program) (fixed : Fixed) (facts : IsTypedProgram program) (p
       let rule' = compound_gives S o x.type y.type c asked.0 in
       let operand = compound_operand o x.type y.type x.type c (used_by S o x.type y.type x.type (compound_plain o c) rule') in
       safe_as program fixed facts.below types (this_of s) (types_of s.locals) _ x.type u (subst (λ (n : JavaType). is_subtype program.table n u ≡ true) (sym is.1) a)
-      (change S x.type (target_of (plain S) b) k writes (compound o (p.value (plain S) e))
+      (change S x.type (target_of (plain S) b) k writes (compound (binary_operation (width_of (plain S) o b e) o) (p.value (plain S) e))
       (λ more v i. safe_next program fixed more (this_of s) (types_of s.locals) (p.value (plain S) e) _ _ _ (part_as program fixed facts p q (value S) e k l back more y.type y.known operand.0 operand.1)
-      (λ others w z j. safe_next program fixed others (this_of s) (types_of s.locals) (say (operated o v w)) _ _ _ (safe_operated program fixed others (this_of s) (types_of s.locals) S o x.type y.type x.type v w (compound_plain o c) rule' (value_more program.table more others x.type v z i) j)
+      (λ others w z j. safe_next program fixed others (this_of s) (types_of s.locals) (say (operated (binary_operation (width_of (plain S) o b e) o) v w)) _ _ _ (safe_operated program fixed others (this_of s) (types_of s.locals) S (width_of (plain S) o b e) o x.type y.type x.type v w (compound_plain o c) rule' (value_more program.table more others x.type v z i) j)
       (λ last n m d. safe_give program fixed last (this_of s) (types_of s.locals) (change_to n) _ (refl, (d, d)))))
       types)
 
@@ -343,15 +344,15 @@ module _ (program : Program) (fixed : Fixed) (facts : IsTypedProgram program) (p
       let place = x.variable is.0 in
       let int = alone_is x.type asked.0 in
       let writes = subst (λ (n : JavaType). Writes S n (target_of (plain S) b)) int (target_writes s b x.type k h below x.known is.0 place.0) in
-      safe_as program fixed facts.below types (this_of s) (types_of s.locals) _ IntType u (subst (λ (n : JavaType). is_subtype program.table n u ≡ true) (sym is.1 ∙ int) a)
-      (change S IntType (target_of (plain S) b) k writes (stepped o)
-      (λ more v i. safe_next program fixed more (this_of s) (types_of s.locals) (say (operated (step_operator o) v (Int (pos 1)))) _ _ _ (safe_operated program fixed more (this_of s) (types_of s.locals) S (step_operator o) IntType IntType IntType v (Int (pos 1)) (step_plain o) (step_gives S o) i (refl, one))
-      (λ others w z j. safe_give program fixed others (this_of s) (types_of s.locals) (change_from (gives_old o) v w) _ (refl, from (gives_old o) others v w (value_more program.table more others IntType v z i) j)))
+      safe_as program fixed facts.below types (this_of s) (types_of s.locals) _ int_type u (subst (λ (n : JavaType). is_subtype program.table n u ≡ true) (sym is.1 ∙ int) a)
+      (change S int_type (target_of (plain S) b) k writes (stepped (step_operation (width_at (plain S) b) o))
+      (λ more v i. safe_next program fixed more (this_of s) (types_of s.locals) (say (operated (binary_operation (width_at (plain S) b) (step_operator o)) v (Int (pos 1)))) _ _ _ (safe_operated program fixed more (this_of s) (types_of s.locals) S (width_at (plain S) b) (step_operator o) int_type int_type int_type v (Int (pos 1)) (step_plain o) (step_gives S o) i (refl, one))
+      (λ others w z j. safe_give program fixed others (this_of s) (types_of s.locals) (change_from (gives_old o) v w) _ (refl, from (gives_old o) others v w (value_more program.table more others int_type v z i) j)))
       types)
     where
       one : Rattle.kr_laws_safety.specs.Fits.IsWithin Rattle.kr_classes_table.specs.Numbers.Bits32 (pos 1)
       one = omega arith
 
-      from : (n : Bool) (others : List JavaType) (v w : Value) → IsOf program.table others IntType v → IsOf program.table others IntType w → IsChange others IntType (change_from n v w)
+      from : (n : Bool) (others : List JavaType) (v w : Value) → IsOf program.table others int_type v → IsOf program.table others int_type w → IsChange others int_type (change_from n v w)
       from true others v w i j = (j, i)
       from false others v w i j = (j, j)

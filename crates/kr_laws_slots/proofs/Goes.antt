@@ -16,12 +16,12 @@ use Rattle.kr_value.specs.declared.object.Class.TheVariants.{Object, Array, Set,
 use Rattle.kr_value.specs.declared.object.Spot.{Spot}
 use Rattle.kr_value.specs.declared.object.Spot.TheVariants.{Field, Length, Element}
 use Rattle.kr_value.specs.Heaps.{HeapObject, no_object, object_in, has_spot_of, has_spot, value_of_spot}
-use Rattle.kr_classes_table.specs.Types.{JavaType, IntType, BooleanType, NullType, VoidType, ClassType, ArrayType, SetType, ListType, InferredType, UnknownType, AppliedType}
+use Rattle.kr_classes_table.specs.Types.{JavaType, NumberType, BooleanType, NullType, VoidType, ClassType, ArrayType, SetType, ListType, InferredType, UnknownType, AppliedType}
 use Rattle.kr_classes_table.specs.Table.{Field as FieldOf, Method}
 use Rattle.kr_classes_table.specs.Arrays.{array_number}
 use Rattle.kr_classes_table.specs.Constants.{is_at_place}
-use Rattle.kr_classes_table.specs.Numbers.{Bits32}
 use Rattle.kr_classes_table.specs.declared.errors.OperatorError.TheVariants.{ZeroDivisor, NotDefined}
+use Rattle.kr_classes_table.specs.Numbers.{Width}
 use Rattle.kr_classes_table.specs.Operators.{Applied, of_wholes, of_booleans, of_references, apply_alone}
 use Rattle.kr_laws_slots.proofs.Plain.{IsPlain, wholes_plain, booleans_plain, references_plain, alone_plain}
 use Rattle.kr_types_meaning.specs.Scopes.{Scope}
@@ -33,7 +33,9 @@ use Rattle.kr_mean.specs.Program.{Program, default_of, spot_of_field, is_array_o
 use Rattle.kr_mean.specs.Places.{SlotPlace, This, Parameter, At}
 use Rattle.kr_mean.specs.Collections.{is_same_value, has_member, without, Collected, gives, added_once, add, remove_first, is_collection, is_empty, called_with, called_alone, called_on, collected}
 use Rattle.kr_mean.specs.Steps.{Local, Old, State, Outcome, Run, say, stop, go_on, bind, ◌>>=◌, given, tick, tick_at, get_result, old_at, get_old, local_at, place_reads, local_given, read_local, plain_local, declare, assign_if, assign, back_to, entered, within, scoped, load_if, load, index_within, element_read, element_if, element, class_or_null, put, store_at, store, store_new, store_index, store_element_if, store_element, make, collected_said, collect_as, collect}
-use Rattle.kr_mean.specs.Operators.{said, operated, operated_alone}
+use Rattle.kr_mean.specs.declared.operations.BinaryOperation.{BinaryOperation}
+use Rattle.kr_mean.specs.declared.operations.UnaryOperation.{UnaryOperation}
+use Rattle.kr_mean.specs.Operators.{said, operated, operated_alone, unary_operation}
 use Rattle.kr_mean.specs.Meaning.{choose, make_array, create_array, parts_within, run_method, eval, value}
 use Rattle.kr_mean.specs.Code.{Node, code, code_of_method}
 use Rattle.kr_laws_runs.proofs.Respects.{Any, Same, Each, OnOption, AllOf, Logic, IsCode, evals, parts_alike, runs_method}
@@ -636,7 +638,7 @@ module _ (program : Program) (st : Setting) where
   each_replicate (suc n) v r = (r, each_replicate n v r)
 
   default_like : (t : JavaType) → Related (default_of t) (default_of t)
-  default_like IntType = (refl, tt)
+  default_like (NumberType w) = (refl, tt)
   default_like BooleanType = (refl, tt)
   default_like NullType = (refl, tt)
   default_like VoidType = (refl, tt)
@@ -708,28 +710,28 @@ module _ (program : Program) (st : Setting) where
   references_like : (o : BinaryOperator) (b : Bool) → SaidLike Related (said (of_references o b)) (said (of_references o b))
   references_like o b = applied_like (of_references o b) (references_plain o b)
 
-  operated_like : (o : BinaryOperator) (v w : Value) → SaidLike Related (operated o v w) (operated o (renamed_value st.name v) (renamed_value st.name w))
-  operated_like o (Int m) (Int n) = applied_like (of_wholes Bits32 o m n) (wholes_plain o m n)
-  operated_like o (Truth a) (Truth b) = applied_like (of_booleans o a b) (booleans_plain o a b)
-  operated_like o Null Null = references_like o true
-  operated_like o Null (Reference p) = references_like o false
-  operated_like o (Reference p) Null = references_like o false
-  operated_like o (Reference p) (Reference q) = subst (λ (b : Bool). SaidLike Related (said (of_references o (nat_eq p q))) (said (of_references o b))) (sym (one_name p q)) (references_like o (nat_eq p q))
+  operated_like : (o : BinaryOperation) (v w : Value) → SaidLike Related (operated o v w) (operated o (renamed_value st.name v) (renamed_value st.name w))
+  operated_like o (Int m) (Int n) = applied_like (of_wholes o.width o.operator m n) (wholes_plain o.width o.operator m n)
+  operated_like o (Truth a) (Truth b) = applied_like (of_booleans o.operator a b) (booleans_plain o.operator a b)
+  operated_like o Null Null = references_like o.operator true
+  operated_like o Null (Reference p) = references_like o.operator false
+  operated_like o (Reference p) Null = references_like o.operator false
+  operated_like o (Reference p) (Reference q) = subst (λ (b : Bool). SaidLike Related (said (of_references o.operator (nat_eq p q))) (said (of_references o.operator b))) (sym (one_name p q)) (references_like o.operator (nat_eq p q))
   operated_like o _ _ = refl
 
-  operates : (o : BinaryOperator) (v v' w w' : Value) → Related v v' → Related w w' → Goes Related (say (operated o v w)) (say (operated o v' w'))
+  operates : (o : BinaryOperation) (v v' w w' : Value) → Related v v' → Related w w' → Goes Related (say (operated o v w)) (say (operated o v' w'))
   operates o v v' w w' r q = rw (r.0, q.0) (say_like Related (operated o v w) (operated o (renamed_value st.name v) (renamed_value st.name w)) (operated_like o v w))
 
-  alone_like : (o : UnaryOperator) (v : Value) → SaidLike Related (operated_alone o v) (operated_alone o (renamed_value st.name v))
-  alone_like o (Int m) = applied_like (apply_alone o (Int m)) (alone_plain o (Int m))
-  alone_like o (Truth b) = applied_like (apply_alone o (Truth b)) (alone_plain o (Truth b))
-  alone_like Not Null = refl
-  alone_like _ Null = refl
-  alone_like Not (Reference p) = refl
-  alone_like _ (Reference p) = refl
+  alone_like : (width : Width) (o : UnaryOperator) (v : Value) → SaidLike Related (operated_alone (unary_operation width o) v) (operated_alone (unary_operation width o) (renamed_value st.name v))
+  alone_like width o (Int m) = applied_like (apply_alone width o (Int m)) (alone_plain width o (Int m))
+  alone_like width o (Truth b) = applied_like (apply_alone width o (Truth b)) (alone_plain width o (Truth b))
+  alone_like width Not Null = refl
+  alone_like width _ Null = refl
+  alone_like width Not (Reference p) = refl
+  alone_like width _ (Reference p) = refl
 
-  operates_alone : (o : UnaryOperator) (v v' : Value) → Related v v' → Goes Related (say (operated_alone o v)) (say (operated_alone o v'))
-  operates_alone o v v' r = rw r.0 (say_like Related (operated_alone o v) (operated_alone o (renamed_value st.name v)) (alone_like o v))
+  operates_alone : (o : UnaryOperation) (v v' : Value) → Related v v' → Goes Related (say (operated_alone o v)) (say (operated_alone o v'))
+  operates_alone o v v' r = rw r.0 (say_like Related (operated_alone o v) (operated_alone o (renamed_value st.name v)) (alone_like o.width o.operator v))
 
   -- ---- collections
 

@@ -7,7 +7,7 @@ use Rattle.kr_ast.specs.declared.node.BinaryOperator.TheVariants.{Divide, Remain
 use Rattle.kr_value.specs.declared.value.Value.{Value}
 use Rattle.kr_value.specs.declared.value.Value.TheVariants.{Int, Bool as Truth, Null, Ref as Reference}
 use Rattle.kr_classes_table.specs.declared.errors.OperatorError.TheVariants.{ZeroDivisor}
-use Rattle.kr_classes_table.specs.Numbers.{Bits32}
+use Rattle.kr_classes_table.specs.Numbers.{Width}
 use Rattle.kr_classes_table.specs.Operators.{Applied, of_wholes, of_booleans, of_references, is_zero, apply_alone}
 
 abbrev pub IsPlain : Applied → Type 0
@@ -18,10 +18,10 @@ divided : (b : Bool) (z : ℤ) → IsPlain (if b then Err ZeroDivisor else Ok (I
 divided true z = tt
 divided false z = tt
 
-pub wholes_plain : (o : BinaryOperator) (a b : ℤ) → IsPlain (of_wholes Bits32 o a b)
-wholes_plain Divide a b = divided (is_zero b) _
-wholes_plain Remainder a b = divided (is_zero b) _
-wholes_plain _ a b = tt
+pub wholes_plain : (width : Width) (o : BinaryOperator) (a b : ℤ) → IsPlain (of_wholes width o a b)
+wholes_plain width Divide a b = divided (is_zero b) _
+wholes_plain width Remainder a b = divided (is_zero b) _
+wholes_plain width _ a b = tt
 
 pub booleans_plain : (o : BinaryOperator) (a b : Bool) → IsPlain (of_booleans o a b)
 booleans_plain Equal a b = tt
@@ -31,12 +31,12 @@ pub references_plain : (o : BinaryOperator) (same : Bool) → IsPlain (of_refere
 references_plain Equal same = tt
 references_plain _ same = tt
 
-pub alone_plain : (o : UnaryOperator) (v : Value) → IsPlain (apply_alone o v)
-alone_plain Not (Int z) = tt
-alone_plain _ (Int z) = tt
-alone_plain Not (Truth b) = tt
-alone_plain _ (Truth b) = tt
-alone_plain Not Null = tt
-alone_plain _ Null = tt
-alone_plain Not (Reference o) = tt
-alone_plain _ (Reference o) = tt
+pub alone_plain : (width : Width) (o : UnaryOperator) (v : Value) → IsPlain (apply_alone width o v)
+alone_plain width Not (Int z) = tt
+alone_plain width _ (Int z) = tt
+alone_plain width Not (Truth b) = tt
+alone_plain width _ (Truth b) = tt
+alone_plain width Not Null = tt
+alone_plain width _ Null = tt
+alone_plain width Not (Reference o) = tt
+alone_plain width _ (Reference o) = tt

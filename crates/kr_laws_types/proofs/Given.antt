@@ -5,7 +5,8 @@ use Rattle.std.proofs.lemmas.Bool.{and_parts, or_right}
 use Rattle.kr_ast.specs.declared.node.UnaryOperator.{UnaryOperator}
 use Rattle.kr_ast.specs.declared.node.UnaryOperator.TheVariants as unaries
 use Rattle.kr_ast.specs.declared.node.BinaryOperator.{BinaryOperator}
-use Rattle.kr_classes_table.specs.Types.{JavaType, IntType, BooleanType, VoidType, ClassType, ArrayType, SetType, ListType, is_known, is_element, is_void}
+use Rattle.kr_classes_table.specs.Numbers.{Bits32}
+use Rattle.kr_classes_table.specs.Types.{JavaType, NumberType, int_type, BooleanType, VoidType, ClassType, ArrayType, SetType, ListType, is_known, is_element, is_void}
 use Rattle.kr_classes_table.specs.Table.{Field, Method, field_named, method_named, is_assignable, are_related}
 use Rattle.kr_classes_table.specs.Constants.{constant_only, or_else, outer_class, field_meant}
 use Rattle.kr_types_meaning.specs.declared.operators.OperatorKind.{OperatorKind}
@@ -44,7 +45,7 @@ fine_if place statement false v w h k = k
 -- ---- kinds of types
 
 pub variable_value : (t : JavaType) → is_variable_type t ≡ true → is_value_type t ≡ true
-variable_value IntType e = refl
+variable_value (NumberType w) e = refl
 variable_value BooleanType e = refl
 variable_value (ClassType c) e = refl
 variable_value (ArrayType t) e = e
@@ -53,7 +54,7 @@ variable_value (ListType t) e = or_right (is_inferred t) _ e
 variable_value _ e = absurd (cc (e))
 
 pub variable_known : (t : JavaType) → is_variable_type t ≡ true → is_known t ≡ true
-variable_known IntType e = refl
+variable_known (NumberType w) e = refl
 variable_known BooleanType e = refl
 variable_known (ClassType c) e = refl
 variable_known (ArrayType t) e = variable_known t e
@@ -67,7 +68,7 @@ value_expression false t e = e
 
 pub result_known : (t : JavaType) → is_result_type t ≡ true → is_known t ≡ true
 result_known VoidType e = refl
-result_known IntType e = refl
+result_known (NumberType w) e = refl
 result_known BooleanType e = refl
 result_known (ClassType c) e = refl
 result_known (ArrayType t) e = variable_known (ArrayType t) e
@@ -91,19 +92,19 @@ result_expression false t e q = go (is_void t) e q
 good_value : (place b : Bool) (t : JavaType) → is_value_type t ≡ true → Fine place b (Fits (Value t))
 good_value place b t e = value_expression b t e
 
-good_int : (place b : Bool) → Fine place b (Fits (Value IntType))
-good_int place b = value_expression b IntType refl
+good_int : (place b : Bool) → Fine place b (Fits (Value int_type))
+good_int place b = value_expression b int_type refl
 
 good_boolean : (place b : Bool) → Fine place b (Fits (Value BooleanType))
 good_boolean place b = value_expression b BooleanType refl
 
 -- a number's type is that of an expression
 fine_alone : (b : Bool) (a : JavaType) (r : ℕ) → Fine false b (of_promoted (promoted_alone a) r)
-fine_alone b IntType r = good_int false b
+fine_alone b (NumberType Bits32) r = good_int false b
 fine_alone b _ r = tt
 
 fine_promoted : (b : Bool) (a c : JavaType) (r : ℕ) → Fine false b (of_promoted (promoted a c) r)
-fine_promoted b IntType c r = fine_alone b c r
+fine_promoted b (NumberType Bits32) c r = fine_alone b c r
 fine_promoted b _ c r = tt
 
 good_known : (place b : Bool) (t : JavaType) → is_expression_type b t ≡ true → Fine place b (gives t)
@@ -208,7 +209,7 @@ module _ (s : Scope) (has : HasVariables s.table) where
 
   pub access_fine : (n : List ℕ) (t : JavaType) → FineHere true (access_rule s n t)
   access_fine n (ClassType c) = field_fine (field_named s.table c n) (field_good c n)
-  access_fine n (ArrayType t) = fine_ask true (is_statement s.role) (bytes_eq n (codes "length")) 22 (Fits (Value IntType)) (λ q. good_int true (is_statement s.role))
+  access_fine n (ArrayType t) = fine_ask true (is_statement s.role) (bytes_eq n (codes "length")) 22 (Fits (Value int_type)) (λ q. good_int true (is_statement s.role))
   access_fine n _ = tt
 
   pub constant_fine : (c : ℕ) (n : List ℕ) → FineHere true (constant_rule (field_named s.table c n))
@@ -256,7 +257,7 @@ module _ (s : Scope) (has : HasVariables s.table) where
 
   collection_fine : (is_list : Bool) (t : JavaType) (n : List ℕ) (ts : List JavaType) → (is_inferred t || (is_element t && is_variable_type t)) ≡ true → FineHere false (collection_rule s is_list t n ts)
   collection_fine is_list t n [] h =
-      fine_if false (is_statement s.role) (bytes_eq n (codes "size")) (Fits (Value IntType)) _ (good_int false (is_statement s.role))
+      fine_if false (is_statement s.role) (bytes_eq n (codes "size")) (Fits (Value int_type)) _ (good_int false (is_statement s.role))
       (fine_if false (is_statement s.role) (bytes_eq n (codes "isEmpty")) (Fits (Value BooleanType)) _ (good_boolean false (is_statement s.role))
       (fine_ask false (is_statement s.role) (bytes_eq n (codes "removeFirst") && is_list && is_element t) 25 (Fits (Value t)) (λ q. good_value false (is_statement s.role) t (member_good t h (and_parts (bytes_eq n (codes "removeFirst") && is_list) (is_element t) q).1))))
   collection_fine is_list t n (x ∷ []) h =
@@ -321,7 +322,7 @@ module _ (s : Scope) (has : HasVariables s.table) where
   instance_fine from to = fine_ask false (is_statement s.role) _ 21 (Fits (Value BooleanType)) (λ q. good_boolean false (is_statement s.role))
 
   pub number_fine : (n : ℕ) → FineHere false (number_rule s n)
-  number_fine n = fine_ask false (is_statement s.role) _ 6 (Fits (Value IntType)) (λ q. good_int false (is_statement s.role))
+  number_fine n = fine_ask false (is_statement s.role) _ 6 (Fits (Value int_type)) (λ q. good_int false (is_statement s.role))
 
   pub this_fine : FineHere false (this_rule s)
   this_fine = fine_ask false (is_statement s.role) _ 5 (Fits (Value (ClassType s.class))) (λ q. good_value false (is_statement s.role) (ClassType s.class) refl)

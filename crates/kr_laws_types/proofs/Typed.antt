@@ -6,7 +6,7 @@ use Rattle.kr_ast.specs.declared.node.UnaryOperator.{UnaryOperator}
 use Rattle.kr_ast.specs.declared.node.UnaryOperator.TheVariants as unaries
 use Rattle.kr_ast.specs.Tree as trees
 use Rattle.kr_ast.specs.Tree.{Tree}
-use Rattle.kr_classes_table.specs.Types.{JavaType, IntType, BooleanType, NullType, ClassType, ArrayType, SetType, ListType, InferredType, AppliedType, is_known, is_element, is_void}
+use Rattle.kr_classes_table.specs.Types.{JavaType, int_type, BooleanType, NullType, ClassType, ArrayType, SetType, ListType, InferredType, AppliedType, is_known, is_element, is_void}
 use Rattle.kr_classes_table.specs.Rules.{Fault}
 use Rattle.kr_classes_table.specs.Table.{Table, Field, Method, applied, field_named, method_named, is_assignable}
 use Rattle.kr_classes_table.specs.Constants.{constant_only, or_else, outer_class, field_meant}
@@ -209,7 +209,7 @@ module _ (s : Scope) (known : AreTypesKnown s.table) where
 
   access_gives : (n : List ℕ) (t : JavaType) → Gives (access_rule s n t)
   access_gives n (ClassType c) = field_gives (field_named s.table c n) (field_known c n)
-  access_gives n (ArrayType t) = gives_ask (bytes_eq n (codes "length")) 22 (Fits (Value IntType)) (gives_value IntType)
+  access_gives n (ArrayType t) = gives_ask (bytes_eq n (codes "length")) 22 (Fits (Value int_type)) (gives_value int_type)
   access_gives n _ = gives_none 22
 
   constant_gives : (f : Option Field) → FieldKnown f → Gives (constant_rule f)
@@ -240,7 +240,7 @@ module _ (s : Scope) (known : AreTypesKnown s.table) where
 
   collection_gives : (is_list : Bool) (t : JavaType) (n : List ℕ) (ts : List JavaType) → Gives (collection_rule s is_list t n ts)
   collection_gives is_list t n [] =
-      gives_if (bytes_eq n (codes "size")) (Fits (Value IntType)) _ (gives_value IntType) (gives_if (bytes_eq n (codes "isEmpty")) (Fits (Value BooleanType)) _ (gives_value BooleanType) (gives_ask (bytes_eq n (codes "removeFirst") && is_list && is_element t) 25 (Fits (Value t)) (gives_value t)))
+      gives_if (bytes_eq n (codes "size")) (Fits (Value int_type)) _ (gives_value int_type) (gives_if (bytes_eq n (codes "isEmpty")) (Fits (Value BooleanType)) _ (gives_value BooleanType) (gives_ask (bytes_eq n (codes "removeFirst") && is_list && is_element t) 25 (Fits (Value t)) (gives_value t)))
   collection_gives is_list t n (x ∷ []) =
       gives_if (bytes_eq n (codes "add")) _ _ (gives_ask (is_assignable s.table x t) 25 (Fits (Value BooleanType)) (gives_value BooleanType))
       (gives_ask ((bytes_eq n (codes "contains") || bytes_eq n (codes "remove")) && Rattle.kr_classes_table.specs.Types.is_reference x && not (Rattle.kr_classes_table.specs.Types.is_collection x)) 25 (Fits (Value BooleanType)) (gives_value BooleanType))
@@ -369,7 +369,7 @@ typed true s (trees.Cons a b) k h f =
     joined_types (judged s a).typed (judged (Rattle.kr_types_meaning.specs.Scopes.after s a) b).typed (typed false s a k h.0 (front_none (judged s a).faults _ f))
     (typed true (Rattle.kr_types_meaning.specs.Scopes.after s a) b (subst IsKnownScope (sym e) k) h.1 (back_none (judged s a).faults _ f))
 typed true s _ k h f = absurd h
-typed false s (trees.Number p n) k h f = judge_type p (number_rule s n) [] (gives_ask (nat_lt n 2147483648 || Rattle.kr_types_meaning.specs.Rules.is_under_minus s.role) 6 (Fits (Value IntType)) (gives_value IntType)) f
+typed false s (trees.Number p n) k h f = judge_type p (number_rule s n) [] (gives_ask (nat_lt n 2147483648 || Rattle.kr_types_meaning.specs.Rules.is_under_minus s.role) 6 (Fits (Value int_type)) (gives_value int_type)) f
 typed false s (trees.Truth p b) k h f = (BooleanType, refl)
 typed false s (trees.Null p) k h f = (NullType, refl)
 typed false s (trees.This p) k h f = judge_type p (this_rule s) [] (gives_ask (not s.is_static) 5 (Fits (Value (ClassType s.class))) (gives_value (ClassType s.class))) f

@@ -1,12 +1,12 @@
 -- Between crates: the types that variables, expressions and methods have.
 use Rattle.std.specs.Prelude.{◌≡◌, ℕ, Bool, true, false, ◌&&◌, ◌||◌, Some, List, [], ◌∷◌}
-use Rattle.kr_classes_table.specs.Types.{JavaType, IntType, BooleanType, NullType, ClassType, ArrayType, SetType, ListType, InferredType, is_element, is_void}
+use Rattle.kr_classes_table.specs.Types.{JavaType, NumberType, BooleanType, NullType, ClassType, ArrayType, SetType, ListType, InferredType, is_element, is_void}
 use Rattle.kr_classes_table.specs.Table.{Table, Field, Method, field_named, method_named}
 use Rattle.kr_types_meaning.specs.Scopes.{Local}
 
 -- a type that a variable may have: an int, a boolean, a class, arrays of these, a collection of objects or arrays
 abbrev pub is_variable_type : JavaType → Bool
-is_variable_type IntType = true
+is_variable_type (NumberType w) = true
 is_variable_type BooleanType = true
 is_variable_type (ClassType c) = true
 is_variable_type (ArrayType t) = is_variable_type t

@@ -4,7 +4,6 @@
 use Rattle.std.specs.Prelude.{ℕ, zero, suc, Bool, true, false, List, [], ◌∷◌, length, map, replicate, Option, Some, None, option_and_then, pos, negsuc, nat_lt, if◌then◌else◌}
 use Rattle.kr_ast.specs.declared.node.BinaryOperator.{BinaryOperator}
 use Rattle.kr_ast.specs.declared.node.BinaryOperator.TheVariants.{And, Or}
-use Rattle.kr_ast.specs.declared.node.StepOperator.{StepOperator}
 use Rattle.kr_ast.specs.Tree as trees
 use Rattle.kr_ast.specs.Tree.{Tree}
 use Rattle.kr_value.specs.declared.value.Value.{Value}
@@ -15,7 +14,7 @@ use Rattle.kr_classes_table.specs.Types.{JavaType, ClassType, ArrayType, SetType
 use Rattle.kr_classes_table.specs.Table.{Table, Field, Method, Constructor, items, fields_of, line_of, field_named, method_named}
 use Rattle.kr_classes_table.specs.Arrays.{array_number}
 use Rattle.kr_classes_table.specs.Constants.{constant_of, known_value as constant_value}
-use Rattle.kr_classes_table.specs.Numbers.{Bits32, wrap}
+use Rattle.kr_classes_table.specs.Numbers.{Width, Bits32, wrap}
 use Rattle.kr_types_meaning.specs.Scopes.{Scope, Locals, Meant, LocalName, FieldName, NoName, written, declaring, bind_local as with_local, after, meant, class_before, static_only, method_meant, super_class}
 use Rattle.kr_types_meaning.specs.Typing.{type_of}
 use Rattle.kr_mean.specs.declared.flow.Flow.{Flow}
@@ -24,7 +23,9 @@ use Rattle.kr_mean.specs.declared.kind.Kind.TheVariants.{NegativeArraySizeExcept
 use Rattle.kr_mean.specs.declared.kind.Stop.TheVariants.{Trapped, OutOfFuel, Stuck}
 use Rattle.kr_mean.specs.Program.{Program, default_of, is_of_type, overriding, class_scope, method_scope, constructor_scope, constructor_of, declared_fields}
 use Rattle.kr_mean.specs.Steps.{Run, say, give, stop, given, ◌>>=◌, ◌>>◌, tick, get_this, read_local, declare, assign, get_result, get_old, within, scoped, load_field, element, class_or_null, class_of, store, store_new, store_element, make, collect}
-use Rattle.kr_mean.specs.Operators.{operated, operated_alone, step_operator, gives_old}
+use Rattle.kr_mean.specs.declared.operations.BinaryOperation.{BinaryOperation}
+use Rattle.kr_mean.specs.declared.operations.StepOperation.{StepOperation}
+use Rattle.kr_mean.specs.Operators.{operated, operated_alone, binary_operation, unary_operation, step_operation, step_binary, gives_old}
 
 -- ---- where statements lead
 
@@ -320,7 +321,7 @@ abbrev pub change_to : Value → Change
 change_to v = record { new = v; given = v }
 
 -- the right operand, and the operator on both (15.26.2)
-abbrev pub compound : BinaryOperator → Run Value → Value → Run Change
+abbrev pub compound : BinaryOperation → Run Value → Value → Run Change
 compound o m v = do
   w ← m
   x ← say (operated o v w)
@@ -331,25 +332,33 @@ change_from true old new = record { new = new; given = old }
 change_from false old new = change_to new
 
 -- one more or one less
-abbrev pub stepped : StepOperator → Value → Run Change
+abbrev pub stepped : StepOperation → Value → Run Change
 stepped o v = do
-  w ← say (operated (step_operator o) v (Int (pos 1)))
-  give (change_from (gives_old o) v w)
+  w ← say (operated (step_binary o) v (Int (pos 1)))
+  give (change_from (gives_old o.operator) v w)
 
 -- ---- expressions
 
+-- the width of an operator's numbers, by the type of its operand: all have 32 bits (5.6.1)
+abbrev pub width_at : Scope → Tree → Width
+width_at s e = Bits32
+
+-- likewise by the types of its operands (5.6.2)
+abbrev pub width_of : Scope → BinaryOperator → Tree → Tree → Width
+width_of s o a b = Bits32
+
 -- two operands: `&&` and `||` look at the second only where the first leaves it open (15.23, 15.24)
-abbrev pub binary : BinaryOperator → Run Value → Run Value → Run Value
-binary And m n = do
+abbrev pub binary : Width → BinaryOperator → Run Value → Run Value → Run Value
+binary width And m n = do
   v ← m
   choose v n (give (Truth false))
-binary Or m n = do
+binary width Or m n = do
   v ← m
   choose v (give (Truth true)) n
-binary o m n = do
+binary width o m n = do
   v ← m
   w ← n
-  say (operated o v w)
+  say (operated (binary_operation width o) v w)
 
 -- null is of each type (15.16)
 abbrev pub cast : Program → JavaType → Value → Option Class → Run Value
@@ -392,9 +401,9 @@ value_of program parts s (trees.ArrayCreation p t e) = do
   create_array program (written s t) n
 value_of program parts s (trees.Unary p o e) = do
   v ← parts.value s e
-  say (operated_alone o v)
-value_of program parts s (trees.Step p o e) = changed program parts s (target_of s e) (stepped o)
-value_of program parts s (trees.Binary p o a b) = binary o (parts.value s a) (parts.value s b)
+  say (operated_alone (unary_operation (width_at s e) o) v)
+value_of program parts s (trees.Step p o e) = changed program parts s (target_of s e) (stepped (step_operation (width_at s e) o))
+value_of program parts s (trees.Binary p o a b) = binary (width_of s o a b) o (parts.value s a) (parts.value s b)
 value_of program parts s (trees.InstanceOf p e t) = do
   v ← parts.value s e
   class ← class_or_null v
@@ -407,7 +416,7 @@ value_of program parts s (trees.Cast p t e) = if is_primitive t then parts.value
   class ← class_or_null v
   cast program (written s t) v class)
 value_of program parts s (trees.Assignment p a e) = assigned program parts s (target_of s a) (parts.value s e)
-value_of program parts s (trees.CompoundAssignment p o a e) = changed program parts s (target_of s a) (compound o (parts.value s e))
+value_of program parts s (trees.CompoundAssignment p o a e) = changed program parts s (target_of s a) (compound (binary_operation (width_of s o a e) o) (parts.value s e))
 value_of program parts s (trees.Result p) = get_result
 value_of program parts s (trees.Old p e) = get_old p
 value_of program parts s t = stop Stuck

@@ -8,7 +8,11 @@ use Rattle.kr_ast.specs.declared.node.StepOperator.TheVariants.{IncrementBefore,
 use Rattle.kr_value.specs.declared.value.Value.{Value}
 use Rattle.kr_value.specs.declared.value.Value.TheVariants.{Int}
 use Rattle.kr_classes_table.specs.declared.errors.OperatorError.TheVariants.{ZeroDivisor, NotDefined}
+use Rattle.kr_classes_table.specs.Numbers.{Width}
 use Rattle.kr_classes_table.specs.Operators.{Applied, apply, apply_alone}
+use Rattle.kr_mean.specs.declared.operations.BinaryOperation.{BinaryOperation}
+use Rattle.kr_mean.specs.declared.operations.UnaryOperation.{UnaryOperation}
+use Rattle.kr_mean.specs.declared.operations.StepOperation.{StepOperation}
 use Rattle.kr_mean.specs.declared.kind.Kind.TheVariants.{ArithmeticException}
 use Rattle.kr_mean.specs.declared.kind.Stop.{Stop}
 use Rattle.kr_mean.specs.declared.kind.Stop.TheVariants.{Trapped, Stuck}
@@ -20,11 +24,20 @@ said (Ok v) = Ok v
 said (Err ZeroDivisor) = Err (Trapped ArithmeticException)
 said (Err NotDefined) = Err Stuck
 
-abbrev pub operated : BinaryOperator → Value → Value → Result Value Stop
-operated o v w = said (apply o v w)
+abbrev pub operated : BinaryOperation → Value → Value → Result Value Stop
+operated o v w = said (apply o.width o.operator v w)
 
-abbrev pub operated_alone : UnaryOperator → Value → Result Value Stop
-operated_alone o v = said (apply_alone o v)
+abbrev pub operated_alone : UnaryOperation → Value → Result Value Stop
+operated_alone o v = said (apply_alone o.width o.operator v)
+
+abbrev pub binary_operation : Width → BinaryOperator → BinaryOperation
+binary_operation w o = record { operator = o; width = w }
+
+abbrev pub unary_operation : Width → UnaryOperator → UnaryOperation
+unary_operation w o = record { operator = o; width = w }
+
+abbrev pub step_operation : Width → StepOperator → StepOperation
+step_operation w o = record { operator = o; width = w }
 
 -- `++` and `--`: by which operator with 1, and whether the value before is given (15.14, 15.15)
 abbrev pub step_operator : StepOperator → BinaryOperator
@@ -32,6 +45,9 @@ step_operator IncrementBefore = Add
 step_operator IncrementBehind = Add
 step_operator DecrementBefore = Subtract
 step_operator DecrementBehind = Subtract
+
+abbrev pub step_binary : StepOperation → BinaryOperation
+step_binary o = binary_operation o.width (step_operator o.operator)
 
 abbrev pub gives_old : StepOperator → Bool
 gives_old IncrementBehind = true

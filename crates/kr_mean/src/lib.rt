@@ -6,9 +6,11 @@
 mod flow;
 mod kind;
 mod mode;
+mod operations;
 mod row;
 
 pub use flow::Flow;
 pub use kind::{Kind, Stop, Verdict};
 pub use mode::{MethodName, Mode};
+pub use operations::{BinaryOperation, StepOperation, UnaryOperation};
 pub use row::{Row, Structure};

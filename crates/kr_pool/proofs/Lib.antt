@@ -1,4 +1,4 @@
 pub mod Collected
 pub mod Handed
 pub mod Owned
-pub mod Scanned
+pub mod Seated

@@ -12,13 +12,14 @@ ghost use Rattle.kr_pool_desk.specs.Leasing.{IsLeaseOf, Takes};
 ghost use Rattle.kr_pool_desk.specs.Limits.{IsWanted, KeepsWindow, begins_within};
 ghost use Rattle.kr_pool_desk.specs.Listings.{ListsFrom};
 ghost use Rattle.kr_pool_desk.specs.Runs.{IsRun, are_shared};
+ghost use Rattle.kr_pool_desk.specs.Short.{IsShortBound, IsShortRun};
 ghost use Rattle.kr_pool_desk.specs.Stops.{IsStopped};
 ghost use Rattle.kr_pool_desk.specs.Traces.{Finishes};
 
-use crate::scanning::scan_part;
 use kr_base::NoMemory;
 use kr_board::{Board, Event, Lease, Logged, Taken, part_law};
 use kr_pool_desk::{Run, Wanted, last_rows};
+use kr_pool_workers::scan_uncounted;
 use kr_survey::{Part, Rows, Survey};
 use std::marker::{Model, PhantomData};
 
@@ -98,7 +99,7 @@ impl<R: Drop, N: Run<R>> Alone<R, N> {
     /// The first free segment is taken.
     fn take(&mut self) -> Result<Taken, NoMemory>
         requires open { is_past N.limit (drained self.old.log) ≡ false }
-        ensures lease { IfOk result (Takes 0) }
+        ensures lease { IfOk result (Takes (IsShortRun N.all N.span N.cuts) 0) }
         ensures drained { drained self.new.log ≡ drained self.old.log }
         ensures kept { rows_kept self.new ≤ rows_kept self.old }
     {
@@ -112,6 +113,7 @@ impl<R: Drop, N: Run<R>> Alone<R, N> {
         requires lease { lease.seat ≡ 0 }
         requires honest { IsPart N.all lease.mark part }
         requires few { length part.rows ≤ 256 }
+        requires short { IsShortRun N.all N.span N.cuts → IsShortBound part.reach }
         ensures drained { drained self.new.log ≡ drained self.old.log }
         ensures kept { rows_kept self.new ≤ rows_kept self.old + length part.rows }
     {
@@ -153,12 +155,12 @@ impl<R: Drop, N: Run<R>> Alone<R, N> {
     ) -> Result<(), NoMemory>
         requires survey { S.all survey.now ≡ N.all }
         requires made { S.made survey.now scratch.old }
-        requires lease { IsLeaseOf 0 lease }
+        requires lease { IsLeaseOf (IsShortRun N.all N.span N.cuts) 0 lease }
         ensures made { S.made survey.now scratch.new }
         ensures drained { drained self.new.log ≡ drained self.old.log }
         ensures kept { rows_kept self.new ≤ rows_kept self.old + 1 }
     {
-        match scan_part(survey, scratch, &lease, 1) {
+        match scan_uncounted(survey, scratch, &lease, 1) {
             Err(why) => Err(why),
             Ok(part) => self.report(lease, part),
         }

@@ -1,16 +1,16 @@
 // The seats of all workers at a board, in rounds that the caller leads.
-ghost use Rattle.std.specs.Prelude.{◌≡◌, ◌+◌, ◌<◌, ◌≤◌, [], Some, IfOk, IfSome, ◌||◌, ◌&&◌, is_some, length, vec_capacity, true};
+ghost use Rattle.std.specs.Prelude.{◌≡◌, ◌+◌, ◌<◌, ◌≤◌, ◌++◌, ◌∷◌, [], Some, IfOk, IfSome, ◌||◌, ◌&&◌, is_some, length, map, reverse, vec_capacity, true};
 ghost use Rattle.std.specs.List.{list_all, list_any};
 ghost use Rattle.kr_core.specs.Openings.{AreInside};
 ghost use Rattle.kr_core.specs.Rows.{drained};
 ghost use Rattle.kr_board.specs.Boards.{IsBoardOf};
+ghost use Rattle.kr_pool_desk.specs.Seats.{numbers_below, numbers_of};
 
 use crate::alone::Alone;
-use crate::hand::{Hand, hands_of, seats_of};
-use crate::lead::Lead;
 use kr_base::{Cut, NoMemory, Span};
 use kr_board::Board;
 use kr_pool_desk::{Run, Seat, Shared};
+use kr_pool_workers::{Hand, Lead, hands_of, seats_of};
 use kr_survey::Survey;
 use std::alloc::Global;
 use std::sync::ledger::{Blank, Ledger};
@@ -66,7 +66,9 @@ fn board_of<R: Drop, S: Survey<Row = R>>(
 }
 
 impl<R: Drop + Send, N: Run<R> + Send + Sync, D: Ledger + Send + Sync> Rounds<R, N, D> {
-    /// So many workers at a span, before the first round; and a place for their seats, to give them back.
+    /// So many workers at a span, before the first round: one seat for each, the caller's and those of the others; and a place for
+    /// their seats, to give them back.
+    #[tactic(auto, using(crate::proofs::Seated::seated))]
     pub fn start<S: Survey<Row = R>>(
         alloc: Global,
         survey: &S,
@@ -91,6 +93,7 @@ impl<R: Drop + Send, N: Run<R> + Send + Sync, D: Ledger + Send + Sync> Rounds<R,
         requires opening { N.opening ≡ [] }
         ensures none { IfOk result (λ r. r.0.lead.0 ≡ 0) }
         ensures seats { IfOk result (λ r. length r.0.others.items + 1 ≡ workers) }
+        ensures numbers { IfOk result (λ r. numbers_of (reverse (map (λ h. h.seat) r.0.others.items)) ++ 0 ∷ [] ≡ numbers_below workers) }
         ensures place { IfOk result (λ r. (length r.1.items ≡ 0) × (workers ≤ vec_capacity r.1)) }
     {
         survey.ascends();

@@ -1,22 +1,20 @@
 // Rounds in which all seats work, and the caller hands over what comes next between two parts of its own.
-ghost use Rattle.std.specs.Prelude.{◌≡◌, ◌||◌, ◌&&◌, is_some, length, true};
+ghost use Rattle.std.specs.Prelude.{◌≡◌, ◌<◌, ◌||◌, ◌&&◌, is_some, length, true};
 ghost use Rattle.std.specs.List.{list_all, list_any};
 ghost use Rattle.kr_survey.specs.Listings.{listed_in};
 ghost use Rattle.kr_survey.specs.declared.taker.Room.TheVariants.{More, Full};
 ghost use Rattle.kr_pool.specs.Handing.{ComesTo};
 
 use crate::came::Came;
-use crate::hand::Hand;
 use crate::handing::{hand_over, is_nothing};
-use crate::lead::Lead;
-use crate::leading::Leading;
 use crate::rounds::Rounds;
-use crate::working::{Round, work_all};
 use kr_io::Gate;
 use kr_pool_desk::{Run, Shared};
+use kr_pool_workers::{Hand, Lead, Leading, Round, Stint, work_all};
 use kr_survey::{Halt, Room, Survey, Taker};
+use std::marker::Brand;
 use std::sync::Wait;
-use std::sync::ledger::Ledger;
+use std::sync::ledger::{Blank, Ledger};
 use std::thread::{Threads, join_mut};
 
 /// Whether this round was the last one: nothing is left to do, or the taker is full, or all workers gave up, or some did, and
@@ -63,6 +61,8 @@ fn hand_on<
     R: Drop,
     N: Run<R>,
     D: Ledger,
+    L: Ledger,
+    E: Ledger,
     S: Survey<Row = R>,
     T: Taker<K, Row = R>,
     G: Gate,
@@ -72,6 +72,7 @@ fn hand_on<
     rt: &W,
     shared: &Shared<R, N, D>,
     lead: &mut Lead<R, N, D>,
+    stint: &mut Stint<R, N, L, E>,
     survey: &S,
     gate: &G,
     taker: &mut T,
@@ -84,7 +85,7 @@ fn hand_on<
     let mut leading = Leading::start();
     let mut nothing = true;
     for _ in rt.forever() {
-        let has_worked = lead.step(rt, shared, survey, &mut scratch, &mut leading, gate);
+        let has_worked = lead.step(rt, shared, survey, &mut scratch, &mut leading, stint, gate);
         if leading.is_due(rt, shared, has_worked) {
             match hand_next(rt, shared, lead, taker, out) {
                 Err(halt) => return Err(halt),
@@ -110,6 +111,40 @@ fn hand_on<
     unreachable!()
 }
 
+/// The same, in a stint of the caller's worker whose runs are counted.
+fn hand_counted<
+    R: Drop,
+    N: Run<R>,
+    D: Ledger,
+    L: Ledger,
+    E: Ledger,
+    S: Survey<Row = R>,
+    T: Taker<K, Row = R>,
+    G: Gate,
+    W: Wait,
+    K,
+>(
+    rt: &W,
+    shared: &Shared<R, N, D>,
+    lead: &mut Lead<R, N, D>,
+    survey: &S,
+    gate: &G,
+    taker: &mut T,
+    out: &mut K,
+    runs: Blank,
+    handed: Blank,
+) -> Result<Came, Halt>
+    requires runs { (runs.name ≡ L.name) × (runs.parts ≡ L.parts) × (0 < L.parts) }
+    requires handed { (handed.name ≡ E.name) × (handed.parts ≡ E.parts) × (0 < E.parts) }
+    requires survey { S.all survey.now ≡ N.all }
+    ensures { ComesTo T.takes (listed_in N.all N.span) lead.old.0 lead.new.0 taker.old out.old taker.new out.new result }
+{
+    let mut stint = lead.begin::<L, E>(runs, handed);
+    let came = hand_on(rt, shared, lead, &mut stint, survey, gate, taker, out);
+    lead.end(stint);
+    came
+}
+
 /// The caller's part of a round, which it ends.
 fn lead_round<
     R: Drop,
@@ -132,7 +167,17 @@ fn lead_round<
     requires survey { S.all survey.now ≡ N.all }
     ensures { ComesTo T.takes (listed_in N.all N.span) lead.old.0 lead.new.0 taker.old out.old taker.new out.new result }
 {
-    let came = hand_on(rt, shared, lead, survey, gate, taker, out);
+    let came = hand_counted::<R, N, D, Brand, Brand, S, T, G, W, K>(
+        rt,
+        shared,
+        lead,
+        survey,
+        gate,
+        taker,
+        out,
+        Blank::new(1),
+        Blank::new(1),
+    );
     shared.end_round(rt);
     came
 }

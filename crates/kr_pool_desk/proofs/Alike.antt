@@ -12,6 +12,7 @@ use Rattle.kr_core.specs.declared.event.Event.TheVariants.{Take, Steal, Report, 
 use Rattle.kr_base.specs.Causes.{capped}
 use Rattle.kr_core.specs.States.{State, segment_of}
 use Rattle.kr_core.specs.Counts.{EndsSpent, IsSpentFlag, Tells, TellsFrom, IsHonest, HonestRuns}
+use Rattle.kr_pool_desk.specs.Short.{AreShortKeys, BeginsShort, IsShort}
 use Rattle.kr_pool_desk.specs.Traces.{IsTrace}
 
 -- as many entries, one by one with the same key and a mark of the same kind
@@ -101,5 +102,14 @@ runs-alike : {R T : Type 0} (es : List (Entry R)) (fs : List (Entry T)) (old : S
 runs-alike es fs old [] new h k = k
 runs-alike es fs old (event ∷ events) new h k = (k.0, k.1, honest-alike es fs old event h k.2, k.3, runs-alike es fs k.1 events new h k.4)
 
+keys-alike : {R T : Type 0} (es : List (Entry R)) (fs : List (Entry T)) → Alike es fs → AreShortKeys fs → AreShortKeys es
+keys-alike [] [] h k = tt
+keys-alike [] (f ∷ fs) h k = absurd h
+keys-alike (e ∷ es) [] h k = absurd h
+keys-alike (e ∷ es) (f ∷ fs) h k = (subst IsShort h.0 k.0, keys-alike es fs h.3 k.1)
+
+begins-alike : {R T : Type 0} (es : List (Entry R)) (fs : List (Entry T)) (first : State) → Alike es fs → BeginsShort fs first → BeginsShort es first
+begins-alike es fs first h s = record { keys = keys-alike es fs h s.keys; segments = s.segments }
+
 pub trace_alike : {R T : Type 0} (es : List (Entry R)) (fs : List (Entry T)) (span : Span) (workers : ℕ) (log : List Event) → Alike es fs → IsTrace es span workers log → IsTrace fs span workers log
-trace_alike es fs span workers log h k = record { last = k.last; runs = runs-alike es fs _ log k.last h k.runs; seats = k.seats; closed = k.closed }
+trace_alike es fs span workers log h k = record { last = k.last; runs = runs-alike es fs _ log k.last h k.runs; seats = k.seats; closed = k.closed; short = λ s. k.short (begins-alike es fs _ h s) }

@@ -1,5 +1,5 @@
 -- A run grows by an event of one of its seats.
-use Rattle.std.proofs.Common.{◌≡◌, ℕ, ◌+◌, ◌<◌, List, [], ◌∷◌, ◌++◌, Bool, true, false, ◌&&◌, length, refl, ap, ◌∙◌, arith, length-append, append_assoc, Option, Some, None}
+use Rattle.std.proofs.Common.{◌≡◌, ℕ, ◌+◌, ◌<◌, List, [], ◌∷◌, ◌++◌, Bool, true, false, ◌&&◌, length, refl, sym, ap, ◌∙◌, subst, arith, length-append, append_assoc, Option, Some, None}
 use Rattle.std.specs.Prelude.{if◌then◌else◌, nat_lt, is_none}
 use Rattle.std.proofs.lemmas.Bool.Decides.{nat_tests}
 use Rattle.kr_base.specs.declared.span.Span.{Span}
@@ -17,6 +17,8 @@ use Rattle.kr_board.specs.Boards.{IsBoardOf, Adds}
 use Rattle.kr_board.specs.Taking.{first_free, first_victim, grant, take_event}
 use Rattle.kr_board.specs.Reporting.{refusal, report_event}
 use Rattle.kr_pool_desk.specs.Runs.{is_shared, are_shared, IsGrown, IsRun}
+use Rattle.kr_pool_desk.specs.Short.{IsShortRun, IsShortEvent, AreShortEvents}
+use Rattle.kr_pool_desk.proofs.Short.{events-more}
 use Rattle.kr_board.proofs.Staying.{drained-more}
 
 below : (seat workers : ℕ) → seat < workers → nat_lt seat workers ≡ true
@@ -58,12 +60,14 @@ pub give_up-shared : (workers seat n : ℕ) → seat < workers → is_shared wor
 give_up-shared workers seat n h = below seat workers h
 
 pub run-more : {R : Type 0} (all : List (Entry R)) (span : Span) (cuts : List (List ℕ)) (opening : List Event) (workers calls calls' : ℕ) (old new : Held R) (event : Event) (reply : Reply) (rows : List R)
-    → IsRun all span cuts opening workers old calls → Adds old event reply rows new → IsBoardOf all span cuts new → is_shared workers event ≡ true → calls' ≡ calls + 1 → IsRun all span cuts opening workers new calls'
-run-more all span cuts opening workers calls calls' old new event reply rows k adds board shared count = record {
+    → IsRun all span cuts opening workers old calls → Adds old event reply rows new → IsBoardOf all span cuts new → is_shared workers event ≡ true → calls' ≡ calls + 1 → (IsShortRun all span cuts → IsShortEvent event)
+    → IsRun all span cuts opening workers new calls'
+run-more all span cuts opening workers calls calls' old new event reply rows k adds board shared count short = record {
   ascends = k.ascends;
   inside = k.inside;
   board = board;
   grown = grown-more opening workers calls calls' old.log new.log event k.grown shared adds.logged count;
+  short = λ s. subst AreShortEvents (sym adds.logged) (events-more old.log (event ∷ []) (k.short s) (short s, tt));
 }
 
 pub steal-shared : (workers seat victim n : ℕ) (cut : List ℕ) → seat < workers → is_shared workers (Steal seat victim cut n) ≡ true

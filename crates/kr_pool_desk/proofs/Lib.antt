@@ -2,6 +2,7 @@ pub mod Whole
 pub mod Drained
 pub mod Nexts
 pub mod Stopping
+pub mod Short
 pub mod Growing
 pub mod Released
 pub mod Leased

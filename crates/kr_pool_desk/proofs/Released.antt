@@ -16,6 +16,8 @@ use Rattle.kr_board.specs.Held.{Held}
 use Rattle.kr_board.specs.Boards.{IsBoardOf}
 use Rattle.kr_board.specs.Releasing.{IsReleased, given_up_by, given_up}
 use Rattle.kr_pool_desk.specs.Runs.{is_shared, are_shared, IsRun}
+use Rattle.kr_pool_desk.specs.Short.{AreShortEvents}
+use Rattle.kr_pool_desk.proofs.Short.{events-more}
 use Rattle.kr_core.proofs.Bools.{and-left, and-right}
 
 abbrev IsBelow : ℕ → Option ℕ → Type 0
@@ -58,6 +60,14 @@ all-given workers span cuts log (g ∷ gs) h k =
     let mine : IsBelow workers g.owner = subst (λ (o : Option ℕ). IsBelow workers o) (sym k.0.owner) (pick workers (has_remainder g) (holder_of g.number None log) None (holder-of workers g.number None log tt h) tt) in
     are_shared-append workers (given_up_by g.owner g.number) (given_up gs) (by-owner workers g.owner g.number mine) (all-given workers span cuts log gs h k.1)
 
+given-by-short : (owner : Option ℕ) (n : ℕ) → AreShortEvents (given_up_by owner n)
+given-by-short None n = tt
+given-by-short (Some seat) n = (tt, tt)
+
+given-short : (segs : List Segment) → AreShortEvents (given_up segs)
+given-short [] = tt
+given-short (g ∷ gs) = events-more (given_up_by g.owner g.number) (given_up gs) (given-by-short g.owner g.number) (given-short gs)
+
 pub released : {R : Type 0} (all : List (Entry R)) (span : Span) (cuts : List (List ℕ)) (ops : List Event) (workers calls calls' : ℕ) (old new : Held R) → IsRun all span cuts ops workers old calls → IsReleased old new
     → IsBoardOf all span cuts new → calls' + length old.log ≡ calls + length new.log → IsRun all span cuts ops workers new calls'
 released all span cuts ops workers calls calls' old new k is board count =
@@ -79,6 +89,7 @@ released all span cuts ops workers calls calls' old new k is board count =
             let d = k.grown.counted in
             omega (arith, a, b, c, d, count);
       };
+      short = λ s. subst AreShortEvents (sym is.logged) (events-more old.log given (k.short s) (given-short old.core.segments));
     }
 
 pub no-fewer : {R : Type 0} (old new : Held R) → IsReleased old new → length old.log + length (given_up old.core.segments) ≡ length new.log

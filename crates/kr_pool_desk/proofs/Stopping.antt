@@ -24,6 +24,8 @@ use Rattle.kr_board.specs.Closing.{all_closed, mark_in, first_mark}
 use Rattle.kr_pool_desk.specs.Runs.{IsRun}
 use Rattle.kr_pool_desk.specs.Traces.{are_by, Finishes}
 use Rattle.kr_pool_desk.specs.Stops.{IsStopped}
+use Rattle.kr_pool_desk.specs.Short.{AreShortEvents}
+use Rattle.kr_pool_desk.proofs.Short.{board-short, events-more, stop-short}
 use Rattle.kr_pool_desk.proofs.Honest.{runs_from_honest}
 use Rattle.kr_pool_desk.proofs.Whole.{by_stopped}
 use Rattle.kr_base.proofs.Bounds.{end_is_last}
@@ -80,12 +82,13 @@ pub none_left : {R : Type 0} (old new : Held R) (mark : List ℕ) (reply : Reply
 none_left old new mark reply rows adds = ap (λ (s : State). list_all is_closed s.segments) adds.step.new_is ∙ stopped-closed mark old.core.segments adds.step.fit
 
 pub stop_finishes : {R : Type 0} (all : List (Entry R)) (span : Span) (cuts : List (List ℕ)) (ops : List Event) (workers calls : ℕ) (old new : Held R) (mark : List ℕ) (reply : Reply) (rows : List R) (log : List Event)
-    → IsRun all span cuts ops workers old calls → Adds old (StopAt mark) reply rows new → IsBoardOf all span cuts new → log ≡ new.log → Finishes all (opening span cuts) workers log
-stop_finishes all span cuts ops workers calls old new mark reply rows log k adds board is = record {
+    → IsRun all span cuts ops workers old calls → At mark ≡ first_mark old.core → Adds old (StopAt mark) reply rows new → IsBoardOf all span cuts new → log ≡ new.log → Finishes all (opening span cuts) workers log
+stop_finishes all span cuts ops workers calls old new mark reply rows log k at adds board is = record {
   last = new.core;
   runs = subst (λ (l : List Event). HonestRuns all (opening span cuts) l new.core) (sym is) board.honest;
   seats = ap (λ (l : List Event). are_by workers l) (is ∙ adds.logged) ∙ by_stopped workers old.log mark k.grown.shared;
   closed = none_left old new mark reply rows adds;
+  short = λ s. subst AreShortEvents (sym (is ∙ adds.logged)) (events-more old.log (StopAt mark ∷ []) (k.short s) (stop-short old.core mark (board-short all span cuts old k.board k.short s) at, tt));
 }
 
 -- its log is the board's, with the stop behind it

@@ -24,6 +24,7 @@ use Rattle.kr_board.proofs.Draining.{closed-each}
 use Rattle.kr_pool_desk.specs.Runs.{is_shared, are_shared, IsRun}
 use Rattle.kr_survey.specs.Listings.{listed_in, spent_in}
 use Rattle.kr_pool_desk.specs.Listings.{ListsFrom}
+use Rattle.kr_pool_desk.specs.Short.{AreShortEvents}
 use Rattle.kr_pool_desk.specs.Traces.{is_last_stop, are_by, Finishes}
 
 -- nothing is cut off where the last one alone is spent
@@ -124,4 +125,5 @@ finishes all span cuts ops workers calls b log k closed is = record {
   runs = subst (λ (l : List Event). HonestRuns all (opening span cuts) l b.core) (sym is) k.board.honest;
   seats = ap (λ (l : List Event). are_by workers l) is ∙ by_shared workers b.log k.grown.shared;
   closed = closed;
+  short = λ s. subst AreShortEvents (sym is) (k.short s);
 }

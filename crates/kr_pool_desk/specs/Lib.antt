@@ -1,3 +1,4 @@
+pub mod Short
 pub mod Runs
 pub mod Listings
 pub mod Draining
@@ -6,5 +7,8 @@ pub mod Traces
 pub mod Laying
 pub mod Limits
 pub mod Stops
+pub mod Refusals
+pub mod Costs
+pub mod Told
 pub mod Seats
 pub mod Tables

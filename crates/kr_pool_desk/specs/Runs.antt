@@ -8,6 +8,7 @@ use Rattle.kr_core.specs.declared.event.Event.TheVariants.{Take, Steal, Report, 
 use Rattle.kr_core.specs.Openings.{AreInside}
 use Rattle.kr_board.specs.Held.{Held}
 use Rattle.kr_board.specs.Boards.{IsBoardOf}
+use Rattle.kr_pool_desk.specs.Short.{IsShortRun, AreShortEvents}
 
 -- an event of a board that workers share: of a seat below their number, or a drain, but no stop
 abbrev pub is_shared : ℕ → Event → Bool
@@ -35,3 +36,4 @@ pub record IsRun {R : Type 0} (all : List (Entry R)) (span : Span) (cuts : List 
   pub inside : AreInside cuts span
   pub board : IsBoardOf all span cuts b
   pub grown : IsGrown opening workers calls b.log
+  pub short : IsShortRun all span cuts → AreShortEvents b.log

@@ -9,6 +9,7 @@ use Rattle.kr_core.specs.Openings.{opening}
 use Rattle.kr_core.specs.Counts.{HonestRuns}
 use Rattle.kr_board.specs.Closing.{all_closed}
 use Rattle.kr_pool_desk.specs.Runs.{is_shared}
+use Rattle.kr_pool_desk.specs.Short.{AreShortEvents, BeginsShort}
 use Rattle.kr_core.specs.Cutting.{cuts_for}
 
 abbrev pub is_last : List Event → Bool
@@ -31,12 +32,13 @@ are_by workers [] = true
 are_by workers (event ∷ events) = (is_shared workers event || is_last_stop event events) && are_by workers events
 
 -- the events, one after another, are honest steps from a state to one in which no segment has an owner or a remainder, all by
--- so many workers
+-- so many workers; and their cuts are short, if keys are and the bounds in the first state
 pub record Finishes {R : Type 0} (all : List (Entry R)) (first : State) (workers : ℕ) (log : List Event) : Type 0 where
   pub last : State
   pub runs : HonestRuns all first log last
   pub seats : are_by workers log ≡ true
   pub closed : all_closed last ≡ true
+  pub short : BeginsShort all first → AreShortEvents log
 
 -- from the state that a span begins in, cut for so many workers
 abbrev pub IsTrace : {R : Type 0} → List (Entry R) → Span → ℕ → List Event → Type 0

@@ -22,11 +22,13 @@ ghost use Rattle.kr_board.specs.declared.board.taking.Taken.TheVariants.{Later, 
 ghost use Rattle.kr_board.specs.declared.board.releasing.GivenUp.TheVariants.{Released, Gone};
 ghost use Rattle.kr_pool_desk.specs.Runs.{IsRun, are_shared};
 ghost use Rattle.kr_pool_desk.specs.Leasing.{IsLeaseOf, Takes, Reports};
+ghost use Rattle.kr_pool_desk.specs.Short.{AreShortEvents, IsShort, IsShortBound, IsShortRun};
 ghost use Rattle.kr_survey.specs.Takings.{is_past};
 ghost use Rattle.kr_pool_desk.specs.Limits.{IsWanted, KeepsWindow, begins_within};
 ghost use Rattle.kr_pool_desk.specs.Draining.{last_rows, rows_kept};
 ghost use Rattle.kr_pool_desk.specs.Laying.{LaysOut};
 ghost use Rattle.kr_pool_desk.specs.Seats.{calls_of};
+ghost use Rattle.kr_pool_desk.specs.Told.{IsTold};
 
 use crate::crew::Run;
 use crate::seat::Seat;
@@ -87,6 +89,7 @@ impl<R: Drop, N: Run<R>, D: Ledger> Desk<R, N, D> {
         requires window { board.window ≡ N.window }
         requires limit { limit ≡ N.limit }
         requires undrained { drained N.opening ≡ 0 }
+        requires short { AreShortEvents N.opening }
         requires kept { KeepsWindow N.window (opening N.span N.cuts) N.opening }
         requires none { (calls.total ≡ 0) × (rows.total ≡ 0) }
         ensures { result.0 ≡ board }
@@ -155,6 +158,7 @@ impl<R: Drop, N: Run<R>, D: Ledger> Desk<R, N, D> {
         ensures kept { IfOk result (λ r. rows_kept self.new.0 + length r.0 ≤ rows_kept self.old.0) }
         ensures counted { IfOk result (λ r. tap.new.amount ≡ tap.old.amount + length r.0) }
         ensures finished { IfOk result (λ r. r.1 ≡ all_closed self.new.0.core) }
+        ensures told { IfOk result (λ r. IsTold N.all N.span N.cuts N.opening N.workers tap.new.amount r.1) }
         ensures last { IfOk result (λ r. r.1 ≡ true → tap.new.amount ≡ length (rows_of (listed_in N.all N.span))) }
         ensures unchanged { OnErr result (self.new.0 ≡ self.old.0) }
         ensures uncounted { OnErr result (tap.new.amount ≡ tap.old.amount) }
@@ -182,7 +186,7 @@ impl<R: Drop, N: Run<R>, D: Ledger> Desk<R, N, D> {
         requires part { 0 < calls.old.parts }
         requires below { seat < N.workers }
         requires open { is_past N.limit (drained self.old.0.log) ≡ false }
-        ensures lease { IfOk result (Takes seat) }
+        ensures lease { IfOk result (Takes (IsShortRun N.all N.span N.cuts) seat) }
         ensures event { IfOk result (λ taken. Adds self.old.0 (take_event seat self.old.0.core) (take_reply taken) [] self.new.0) }
         ensures later { IfOk result (λ taken. (taken ≡ Later) ↔ IsLater self.old.0.core) }
         ensures finished { IfOk result (λ taken. (taken ≡ Finished) ↔ AllClosed self.old.0.core) }
@@ -216,7 +220,8 @@ impl<R: Drop, N: Run<R>, D: Ledger> Desk<R, N, D> {
         requires lease { lease.seat ≡ seat }
         requires honest { IsPart N.all lease.mark part }
         requires few { length part.rows ≤ 256 }
-        ensures lease { IfOk result (Reports seat lease part) }
+        requires short { IsShortRun N.all N.span N.cuts → IsShortBound part.reach }
+        ensures lease { IfOk result (Reports (IsShortRun N.all N.span N.cuts) seat lease part) }
         ensures refusal { IfOk result (IsRefusal (refusal self.old.0 lease part)) }
         ensures event { IfOk result (λ reported. Adds self.old.0 (report_event self.old.0 lease part) (report_reply reported) part.rows self.new.0) }
         ensures kept { rows_kept self.new.0 ≤ rows_kept self.old.0 + length part.rows }
@@ -250,6 +255,7 @@ impl<R: Drop, N: Run<R>, D: Ledger> Desk<R, N, D> {
         requires lease { lease.now.seat ≡ seat }
         requires open { is_past N.limit (drained self.old.0.log) ≡ false }
         ensures seat { IfOk result (λ rest. IfSome rest (λ r. r.seat ≡ seat)) }
+        ensures short { IfOk result (λ rest. IfSome rest (λ r. IsShortRun N.all N.span N.cuts → IsShort r.mark)) }
         ensures cut { IfOk result (λ rest. IfSome rest (λ r. split_of self.old.0.core lease.now ≡ Some r.mark)) }
         ensures event { IfOk result (λ rest. IfSome rest (λ r. Adds self.old.0 (Steal seat lease.now.segment r.mark self.old.0.core.next) (Leased r) [] self.new.0)) }
         ensures no_cut { IfOk result (λ rest. IfNone rest (split_of self.old.0.core lease.now ≡ None)) }
@@ -278,9 +284,9 @@ impl<R: Drop, N: Run<R>, D: Ledger> Desk<R, N, D> {
     fn cut_off(&mut self, seat: u32, lease: Lease, calls: &mut Share<N>) -> (Lease, bool)
         requires part { 0 < calls.old.parts }
         requires below { seat < N.workers }
-        requires lease { IsLeaseOf seat lease }
+        requires lease { IsLeaseOf (IsShortRun N.all N.span N.cuts) seat lease }
         requires open { is_past N.limit (drained self.old.0.log) ≡ false }
-        ensures lease { IsLeaseOf seat result.0 }
+        ensures lease { IsLeaseOf (IsShortRun N.all N.span N.cuts) seat result.0 }
         ensures laid { LaysOut 1 self.old.0 lease self.new.0 result.0 result.1 }
         ensures drained { drained self.new.0.log ≡ drained self.old.0.log }
         ensures parts { calls.new.parts ≡ calls.old.parts }
@@ -309,9 +315,9 @@ impl<R: Drop, N: Run<R>, D: Ledger> Desk<R, N, D> {
     pub fn lay_out(&mut self, seat: u32, lease: Lease, calls: &mut Share<N>) -> (Lease, bool)
         requires part { 0 < calls.old.parts }
         requires below { seat < N.workers }
-        requires lease { IsLeaseOf seat lease }
+        requires lease { IsLeaseOf (IsShortRun N.all N.span N.cuts) seat lease }
         requires open { is_past N.limit (drained self.old.0.log) ≡ false }
-        ensures lease { IsLeaseOf seat result.0 }
+        ensures lease { IsLeaseOf (IsShortRun N.all N.span N.cuts) seat result.0 }
         ensures laid { LaysOut 3 self.old.0 lease self.new.0 result.0 result.1 }
         ensures drained { drained self.new.0.log ≡ drained self.old.0.log }
         ensures parts { calls.new.parts ≡ calls.old.parts }

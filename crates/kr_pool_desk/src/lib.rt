@@ -5,7 +5,9 @@
 mod beginning;
 mod crew;
 mod desk;
+mod handed;
 mod pace;
+mod refusal;
 mod room;
 mod seat;
 mod seats;
@@ -15,6 +17,8 @@ mod wanted;
 
 pub use crew::{Crew, Run};
 pub use desk::{Desk, last_rows};
+pub use handed::Handed;
+pub use refusal::Refusal;
 pub use seat::Seat;
 pub use shared::Shared;
 pub use wanted::Wanted;

@@ -7,13 +7,17 @@ ghost use Rattle.kr_core.specs.Rows.{drained};
 ghost use Rattle.kr_survey.specs.Listings.{listed_in};
 ghost use Rattle.kr_board.specs.Boards.{IsBoardOf};
 ghost use Rattle.kr_board.specs.Parts.{IsPart};
+ghost use Rattle.kr_pool_desk.specs.Costs.{accounted, cost};
 ghost use Rattle.kr_pool_desk.specs.Runs.{IsRun, are_shared};
 ghost use Rattle.kr_pool_desk.specs.Leasing.{IsLeaseOf, Reports};
+ghost use Rattle.kr_pool_desk.specs.Short.{AreShortEvents, IsShortBound, IsShortRun};
 ghost use Rattle.kr_pool_desk.specs.Limits.{KeepsWindow, begins_within};
 ghost use Rattle.kr_pool_desk.specs.Seats.{calls_of, numbers_below, numbers_of};
+ghost use Rattle.kr_pool_desk.specs.Told.{IsTold};
 
 use crate::crew::Run;
 use crate::desk::Desk;
+use crate::handed::Handed;
 use crate::pace::Pace;
 use crate::seat::Seat;
 use crate::seats::seats_for;
@@ -73,6 +77,7 @@ impl<R: Drop, N: Run<R>, D: Ledger> Shared<R, N, D> {
         requires opening { board.log ≡ N.opening }
         requires shared { are_shared N.workers N.opening ≡ true }
         requires undrained { drained N.opening ≡ 0 }
+        requires short { AreShortEvents N.opening }
         requires kept { KeepsWindow N.window (opening N.span N.cuts) N.opening }
         ensures count { IfOk result (λ r. length r.1.items ≡ workers) }
         ensures numbers { IfOk result (λ r. numbers_of r.1.items ≡ numbers_below workers) }
@@ -113,6 +118,7 @@ impl<R: Drop, N: Run<R>, D: Ledger> Shared<R, N, D> {
         requires some { 0 < tap.old.parts }
         ensures rows { IfOk result (λ r. r.0 ≡ take (length r.0) (drop tap.old.amount (rows_of (listed_in N.all N.span)))) }
         ensures counted { IfOk result (λ r. tap.new.amount ≡ tap.old.amount + length r.0) }
+        ensures told { IfOk result (λ r. IsTold N.all N.span N.cuts N.opening N.workers tap.new.amount r.1) }
         ensures last { IfOk result (λ r. r.1 ≡ true → tap.new.amount ≡ length (rows_of (listed_in N.all N.span))) }
         ensures uncounted { OnErr result (tap.new.amount ≡ tap.old.amount) }
         ensures parts { tap.new.parts ≡ tap.old.parts }
@@ -205,7 +211,7 @@ impl<R: Drop, N: Run<R>, D: Ledger> Shared<R, N, D> {
     /// A lease for the seat; or none where nothing is left, or the round is over. It waits while others work and leave nothing
     /// over, or the window is full.
     pub fn take<W: Wait>(&self, rt: &W, seat: &mut Seat<N>) -> Result<Option<Lease>, NoMemory>
-        ensures lease { IfOk result (λ taken. IfSome taken (IsLeaseOf seat.new.number)) }
+        ensures lease { IfOk result (λ taken. IfSome taken (IsLeaseOf (IsShortRun N.all N.span N.cuts) seat.new.number)) }
         ensures number { seat.new.number ≡ seat.old.number }
     {
         let mut quiet = false;
@@ -230,7 +236,7 @@ impl<R: Drop, N: Run<R>, D: Ledger> Shared<R, N, D> {
 
     /// A lease for the seat, if one can be taken now.
     pub fn take_now<W: Wait>(&self, rt: &W, seat: &mut Seat<N>) -> Result<Option<Lease>, NoMemory>
-        ensures lease { IfOk result (λ taken. IfSome taken (IsLeaseOf seat.new.number)) }
+        ensures lease { IfOk result (λ taken. IfSome taken (IsLeaseOf (IsShortRun N.all N.span N.cuts) seat.new.number)) }
         ensures number { seat.new.number ≡ seat.old.number }
     {
         let taken = self.table.lock(rt).take(seat);
@@ -291,23 +297,30 @@ impl<R: Drop, N: Run<R>, D: Ledger> Shared<R, N, D> {
         true
     }
 
-    /// A part of the run's entries, reported. Those that wait look again where there is news for them.
-    pub fn report<W: Wait>(
+    /// A part of the run's entries, reported, and counted as handed in unless it has no room. Those that wait look again where
+    /// there is news for them.
+    pub fn report<E: Ledger, W: Wait>(
         &self,
         rt: &W,
         lease: Lease,
         part: Part<R>,
         seat: &mut Seat<N>,
+        handed: &mut Handed<E>,
     ) -> Result<Reported<R>, Refused<R>>
         requires lease { lease.seat ≡ seat.old.number }
         requires honest { IsPart N.all lease.mark part }
         requires few { length part.rows ≤ 256 }
-        ensures lease { IfOk result (Reports seat.old.number lease part) }
+        requires short { IsShortRun N.all N.span N.cuts → IsShortBound part.reach }
+        ensures lease { IfOk result (Reports (IsShortRun N.all N.span N.cuts) seat.old.number lease part) }
         ensures back { IfErr result (λ refused. (refused.lease ≡ lease) × (refused.part ≡ part)) }
+        ensures handed { handed.new ≡ handed.old + accounted (cost lease part) result }
         ensures number { seat.new.number ≡ seat.old.number }
     {
+        let tried = part.tried;
+        let sought = lease.mark.numbers().len() as u64;
         let mut table = self.table.lock(rt);
         let reported = table.report(lease, part, seat);
+        handed.account(tried, sought, &reported);
         if self.is_beginning() && table.pace.beginning.is_over() {
             self.beginning.store(0, Ordering::SeqCst);
         }

@@ -2,6 +2,7 @@
 ghost use Rattle.std.specs.Prelude.{◌≡◌, ◌≤◌, length, IfOk, IfErr, IfSome, OnErr};
 ghost use Rattle.kr_board.specs.Parts.{IsPart};
 ghost use Rattle.kr_pool_desk.specs.Leasing.{IsLeaseOf, Takes, Reports};
+ghost use Rattle.kr_pool_desk.specs.Short.{IsShortBound, IsShortRun};
 ghost use Rattle.kr_pool_desk.specs.Tables.{Answers, Gives, GoesOn};
 
 use crate::crew::Run;
@@ -24,7 +25,7 @@ impl<R: Drop, N: Run<R>, D: Ledger> Table<R, N, D> {
     /// The answer to a seat that wants work: a lease that was nobody's and is near enough to the front; nothing any more, since nothing
     /// is left or more rows than the limit were drained. None where it should wait.
     pub fn take(&mut self, seat: &mut Seat<N>) -> Result<Option<Taken>, NoMemory>
-        ensures lease { IfOk result (λ taken. IfSome taken (Takes seat.old.number)) }
+        ensures lease { IfOk result (λ taken. IfSome taken (Takes (IsShortRun N.all N.span N.cuts) seat.old.number)) }
         ensures answer { IfOk result (Gives N.limit seat.old.number self.old.desk.0 self.new.desk.0) }
         ensures unchanged { OnErr result (self.new.desk.0 ≡ self.old.desk.0) }
         ensures number { seat.new.number ≡ seat.old.number }
@@ -67,7 +68,8 @@ impl<R: Drop, N: Run<R>, D: Ledger> Table<R, N, D> {
         requires lease { lease.seat ≡ seat.old.number }
         requires honest { IsPart N.all lease.mark part }
         requires few { length part.rows ≤ 256 }
-        ensures lease { IfOk result (Reports seat.old.number lease part) }
+        requires short { IsShortRun N.all N.span N.cuts → IsShortBound part.reach }
+        ensures lease { IfOk result (Reports (IsShortRun N.all N.span N.cuts) seat.old.number lease part) }
         ensures answer { IfOk result (Answers self.old.desk.0 lease part self.new.desk.0) }
         ensures unchanged { OnErr result (self.new.desk.0 ≡ self.old.desk.0) }
         ensures back { IfErr result (λ refused. (refused.lease ≡ lease) × (refused.part ≡ part)) }
@@ -90,8 +92,8 @@ impl<R: Drop, N: Run<R>, D: Ledger> Table<R, N, D> {
 
     // A seat has more to scan under this lease.
     fn go_on(&mut self, lease: Lease, seat: &mut Seat<N>) -> Reported<R>
-        requires lease { IsLeaseOf seat.old.number lease }
-        ensures lease { (next : _) → result ≡ Reported.Go next → IsLeaseOf seat.old.number next }
+        requires lease { IsLeaseOf (IsShortRun N.all N.span N.cuts) seat.old.number lease }
+        ensures lease { (next : _) → result ≡ Reported.Go next → IsLeaseOf (IsShortRun N.all N.span N.cuts) seat.old.number next }
         ensures answer { GoesOn self.old.desk.0 lease self.new.desk.0 result }
         ensures number { seat.new.number ≡ seat.old.number }
     {

@@ -1,5 +1,5 @@
 // Spans shared within a window, held against the keys.
-ghost use Rattle.std.specs.Prelude.{◌≡◌, [], Some, None};
+ghost use Rattle.std.specs.Prelude.{◌≡◌, ◌<◌, [], Some, None};
 ghost use Rattle.kr_core.specs.Openings.{AreInside};
 
 use crate::gates::{Unruly, gathering_of};
@@ -7,7 +7,7 @@ use crate::listing::{Taken, after, numbered, take_all};
 use crate::surveys::{below_one, keys, looked_at};
 use kr_base::{Cut, NoMemory, Span};
 use kr_core::cuts_for;
-use kr_pool::{Gate, Lead, Leading, OpenGate, Rounds, Run, Shared};
+use kr_pool::{Gate, Lead, Leading, OpenGate, Rounds, Run, Shared, Stint};
 use kr_survey::{End, ListSurvey, Rows, Survey};
 use std::alloc::Global;
 use std::marker::Brand;
@@ -203,21 +203,47 @@ fn refused_in_rounds(rt: HostRuntime) -> Result<(), Fail> {
 }
 
 // The caller's seat works until it finds nothing to do.
-fn work_on<N: Run<Cut>, D: Ledger, S: Survey<Row = Cut>, W: Wait>(
+fn work_on<N: Run<Cut>, D: Ledger, L: Ledger, E: Ledger, S: Survey<Row = Cut>, W: Wait>(
     rt: &W,
     survey: &S,
     shared: &Shared<Cut, N, D>,
     lead: &mut Lead<Cut, N, D>,
+    stint: &mut Stint<Cut, N, L, E>,
 )
     requires survey { S.all survey.now ≡ N.all }
 {
     let mut scratch = lead.scratch(survey);
     let mut leading = Leading::start();
     for _ in rt.forever() {
-        if !lead.step(rt, shared, survey, &mut scratch, &mut leading, &OpenGate) {
+        if !lead.step(
+            rt,
+            shared,
+            survey,
+            &mut scratch,
+            &mut leading,
+            stint,
+            &OpenGate,
+        ) {
             break;
         }
     }
+}
+
+fn work_counted<N: Run<Cut>, D: Ledger, L: Ledger, E: Ledger, S: Survey<Row = Cut>, W: Wait>(
+    rt: &W,
+    survey: &S,
+    shared: &Shared<Cut, N, D>,
+    lead: &mut Lead<Cut, N, D>,
+    runs: Blank,
+    handed: Blank,
+)
+    requires runs { (runs.name ≡ L.name) × (runs.parts ≡ L.parts) × (0 < L.parts) }
+    requires handed { (handed.name ≡ E.name) × (handed.parts ≡ E.parts) × (0 < E.parts) }
+    requires survey { S.all survey.now ≡ N.all }
+{
+    let mut stint = lead.begin::<L, E>(runs, handed);
+    work_on(rt, survey, shared, lead, &mut stint);
+    lead.end(stint);
 }
 
 // One round of one seat, and then a drain: whether it gives the four keys, and says that these are the last.
@@ -234,7 +260,14 @@ fn round_of_one<N: Run<Cut> + Send + Sync, D: Ledger + Send + Sync, S: Survey<Ro
         others: _,
     } = rounds;
     shared.lead(rt);
-    work_on(rt, survey, shared, lead);
+    work_counted::<N, D, Brand, Brand, S, W>(
+        rt,
+        survey,
+        shared,
+        lead,
+        Blank::new(1),
+        Blank::new(1),
+    );
     let drained = lead.drain(rt, shared);
     shared.end_round(rt);
     match drained {

@@ -1,3 +1,4 @@
+pub mod NodeLists
 pub mod Found
 pub mod Seen
 pub mod Walk

@@ -5,6 +5,7 @@ ghost use Rattle.kr_ast.specs.Files.{IsNode};
 ghost use Rattle.kr_pure.specs.Found.{AreFound, IsAdded, number_of};
 ghost use Rattle.kr_types.specs.Programs.{all_entries};
 
+use crate::node_list::NodeList;
 use kr_ast::{NodeId, Tree, tree_of};
 use kr_base::NoMemory;
 use std::alloc::Global;
@@ -39,7 +40,7 @@ pub fn count_nodes(trees: &[Tree]) -> usize
 /// The nodes in the order in which they were found, and which of all nodes these are.
 #[derive(Drop)]
 pub struct Found {
-    pub nodes: Vec<NodeId>,
+    pub nodes: NodeList,
     marks: Vec<bool>,
 }
 
@@ -51,7 +52,7 @@ impl Found {
         ensures found { IfOk result (λ found. AreFound trees.now found) }
     {
         let marks = vec![in alloc; false; count]?;
-        let nodes = Vec::new(alloc);
+        let nodes = NodeList::with_room(alloc, count)?;
         Ok(Found { nodes, marks })
     }
 
@@ -87,7 +88,7 @@ impl Found {
     }
 
     /// The nodes that were found. It takes no memory.
-    pub fn into_nodes(self) -> Vec<NodeId>
+    pub fn into_nodes(self) -> NodeList
         ensures { result.items ≡ self.nodes.items }
     {
         self.nodes

@@ -7,6 +7,7 @@ mod entries;
 mod found;
 mod laws;
 mod members;
+mod node_list;
 mod purity;
 mod reaching;
 mod roots;
@@ -15,5 +16,6 @@ pub use found::{Found, count_nodes};
 pub use laws::{
     all_law, expression_law, expressions_law, maybe_law, statements_law, super_law, walk_law,
 };
+pub use node_list::NodeList;
 pub use purity::{PureRefusal, pure};
 pub use reaching::predicate_nodes;

@@ -7,6 +7,7 @@ ghost use Rattle.kr_space_problem.specs.Subjects.{IsSubject};
 ghost use Rattle.kr_pure.specs.declared.purity.PureRefusal.TheVariants.{NoMemory as Lacking};
 ghost use Rattle.kr_pure.specs.Touched.{IsFirstTouch, IsTouchAt, Refuses};
 
+use crate::node_list::NodeList;
 use crate::reaching::predicate_nodes;
 use kr_ast::{NodeId, tree_of};
 use kr_base::{NoMemory, Place};
@@ -45,14 +46,16 @@ fn touch_at(problem: &Problem, at: NodeId) -> Result<Option<Place>, NoMemory>
 }
 
 /// The first place at which some of these nodes touches candidates.
-fn first_touch(problem: &Problem, nodes: &[NodeId]) -> Result<Option<Place>, NoMemory>
+fn first_touch(problem: &Problem, nodes: &NodeList) -> Result<Option<Place>, NoMemory>
     requires posed { IsPosed problem.now }
-    requires nodes { All (λ n. IsThere problem.now.program n.file n.node) nodes.now }
-    ensures { IfOk result (λ first. IsFirstTouch problem.now nodes.now first) }
+    requires nodes { All (λ n. IsThere problem.now.program n.file n.node) nodes.now.items }
+    ensures { IfOk result (λ first. IsFirstTouch problem.now nodes.now.items first) }
 {
+    let count = nodes.len();
     let mut first = None;
-    for at in nodes {
-        let place = touch_at(problem, *at)?;
+    for next in 0..count {
+        let at = nodes.at(next);
+        let place = touch_at(problem, at)?;
         first = earlier(first, place);
     }
     Ok(first)

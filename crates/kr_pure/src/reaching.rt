@@ -11,6 +11,7 @@ ghost use Rattle.kr_space_problem.specs.Subjects.{IsSubject};
 ghost use Rattle.kr_pure.specs.Reach.{AreArenas, ArePredicateCode, IsBelow, IsStep, IsWalked, RunsNothing, beside};
 
 use crate::entries::entries_run;
+use crate::node_list::NodeList;
 use crate::roots::root_entries;
 use crate::{Found, count_nodes};
 use kr_ast::{Node, NodeId, Parts, tree_of};
@@ -108,7 +109,7 @@ fn walk_on(
 {
     let mut next = 0;
     while next < found.nodes.len() {
-        let at = found.nodes[next];
+        let at = found.nodes.at(next);
         follow(alloc, problem, nodes, at, found)?;
         next += 1;
     }
@@ -120,7 +121,7 @@ pub fn predicate_nodes(
     alloc: Global,
     problem: &Problem,
     subject: &Subject,
-) -> Result<Vec<NodeId>, NoMemory>
+) -> Result<NodeList, NoMemory>
     requires posed { IsPosed problem.now }
     requires subject { IsSubject problem.now subject.now }
     ensures { IfOk result (λ nodes. ArePredicateCode problem.now nodes.items) }

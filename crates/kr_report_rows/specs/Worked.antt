@@ -3,7 +3,7 @@ use Rattle.std.specs.Prelude.{◌≡◌, ℕ, false, List, [], ◌∷◌, Some, 
 use Rattle.kr_base.specs.declared.place.Place.{Place}
 use Rattle.kr_ast.specs.Tree.{Nil}
 use Rattle.kr_classes_table.specs.Table.{Class, Field, Method}
-use Rattle.kr_classes_table.specs.Types.{JavaType, ClassType, IntType, VoidType}
+use Rattle.kr_classes_table.specs.Types.{JavaType, ClassType, int_type, VoidType}
 use Rattle.kr_mean.specs.Problem.{Problem, ClassDomain}
 use Rattle.kr_mean.specs.declared.kind.Verdict.TheVariants.{Ensures}
 use Rattle.kr_mean.specs.declared.mode.Mode.TheVariants.{Method as Testing}
@@ -26,7 +26,7 @@ a_method = record {
   name = codes "m";
   place = start;
   is_static = false;
-  parameters = record { name = codes "x"; place = start; type = IntType } ∷ record { name = codes "y"; place = start; type = ClassType 0 } ∷ [];
+  parameters = record { name = codes "x"; place = start; type = int_type } ∷ record { name = codes "y"; place = start; type = ClassType 0 } ∷ [];
   result = VoidType;
   contracts = [];
   body = [];
@@ -39,7 +39,7 @@ a_class = record {
   outer = None;
   extended = Nil;
   super = None;
-  fields = a_field (codes "v") IntType ∷ a_field (codes "next") (ClassType 0) ∷ [];
+  fields = a_field (codes "v") int_type ∷ a_field (codes "next") (ClassType 0) ∷ [];
   methods = a_method ∷ [];
   constructors = [];
 }

@@ -4,12 +4,12 @@ use Rattle.std.specs.Prelude.{map, take, drop, Bool, true, nat_eq}
 use Rattle.std.proofs.lemmas.Bool.{eq-eqb}
 use Rattle.std.proofs.lemmas.List.{take-map}
 use Rattle.kr_value.specs.declared.value.Value.{Value}
-use Rattle.kr_ast.specs.declared.node.BinaryOperator.{BinaryOperator}
 use Rattle.kr_mean.specs.declared.kind.Stop.{Stop}
 use Rattle.kr_mean.specs.declared.kind.Stop.TheVariants.{Stuck}
 use Rattle.kr_mean.specs.Places.{SlotPlace}
 use Rattle.kr_mean.specs.Steps as steps
 use Rattle.kr_mean.specs.Steps.{State, Outcome, Run, after_reads, go_on, bind, give, stop, say, within, entered, back_to, plain_local}
+use Rattle.kr_mean.specs.declared.operations.BinaryOperation.{BinaryOperation}
 use Rattle.kr_mean.specs.Operators.{operated}
 use Rattle.kr_mean.specs.Meaning.{Change, change_to}
 use Rattle.kr_code.specs.declared.code.Code.{Code}
@@ -36,7 +36,7 @@ locals_cut locals n = take-map local_of n locals
 
 -- ---- changes
 
-pub compounds : (code : Code) (d : Doing) (o : BinaryOperator) (e : ℕ) (cell : Cell) (v : Value) (s : State) → altered code d (changes.Compound o e) cell v s ≡ continued (continued (d.value e s) (λ w. say (operated o v w))) (λ x. bind (written code cell x) (λ u. give x))
+pub compounds : (code : Code) (d : Doing) (o : BinaryOperation) (e : ℕ) (cell : Cell) (v : Value) (s : State) → altered code d (changes.Compound o e) cell v s ≡ continued (continued (d.value e s) (λ w. say (operated o v w))) (λ x. bind (written code cell x) (λ u. give x))
 unfolding bind
 compounds code d o e cell v s = go (d.value e s).said
   where

@@ -26,7 +26,7 @@ use crate::unwinding::{Passing, end, is_leaving, pass_by};
 use kr_ast::{BinaryOperator, StepOperator};
 use kr_base::Countdown;
 use kr_code::{Code, Nodes, Statement};
-use kr_mean::{Flow, Kind, Stop};
+use kr_mean::{BinaryOperation, Flow, Kind, Stop};
 use kr_run_frames::{Change, Stack, Task, ValueFrame, Waiting, WriteFrame};
 use kr_run_known::{at_once, statement_at};
 use kr_run_moves::{
@@ -154,16 +154,16 @@ fn alter_compound(
     code: &Code,
     world: &World,
     stack: &mut Stack,
-    operator: BinaryOperator,
+    operation: BinaryOperation,
     node: u32,
     cell: Cell,
     old: Value,
     task: &mut Task,
 ) -> Result<(), Halt>
-    ensures { Leads code.now (next_task result task.new) stack.new world.now world.now (λ d x. out_value code.now d stack.old (altered code.now d (changes.Compound operator node) cell old (state_at world.now x))) }
+    ensures { Leads code.now (next_task result task.new) stack.new world.now world.now (λ d x. out_value code.now d stack.old (altered code.now d (changes.Compound operation node) cell old (state_at world.now x))) }
 {
     write(stack, WriteFrame::Put(cell))?;
-    value(stack, ValueFrame::Right(operator, old))?;
+    value(stack, ValueFrame::Right(operation, old))?;
     *task = Task::Evaluate(node);
     Ok(())
 }
@@ -182,13 +182,17 @@ fn alter(
     ensures { Leads code.now (next_task result task.new) stack.new world.now world.now (λ d x. out_value code.now d stack.old (altered code.now d change cell old (state_at world.now x))) }
 {
     match change {
-        Change::Step(operator) => {
-            write(stack, WriteFrame::Stepped(operator, cell, old))?;
-            *task = Task::Act(Action::Binary(step_operator(operator), old, Value::Int(1)));
+        Change::Step(step) => {
+            write(stack, WriteFrame::Stepped(step.operator, cell, old))?;
+            let operation = BinaryOperation {
+                operator: step_operator(step.operator),
+                width: step.width,
+            };
+            *task = Task::Act(Action::Binary(operation, old, Value::Int(1)));
             Ok(())
         }
-        Change::Compound(operator, node) => {
-            alter_compound(code, world, stack, operator, node, cell, old, task)
+        Change::Compound(operation, node) => {
+            alter_compound(code, world, stack, operation, node, cell, old, task)
         }
     }
 }

@@ -1,7 +1,8 @@
 // Frames that wait for a value, for a statement's end, or for a step without a value.
 
-use kr_ast::{BinaryOperator, StepOperator, UnaryOperator};
+use kr_ast::StepOperator;
 use kr_code::{CollectionCall, Nodes};
+use kr_mean::{BinaryOperation, StepOperation, UnaryOperation};
 use kr_run_state::Cell;
 use kr_value::{Class, Value};
 
@@ -39,8 +40,8 @@ pub struct Up {
 /// How a variable changes: by one, or by an operator with an operand.
 #[derive(Clone, Copy)]
 pub enum Change {
-    Step(StepOperator),
-    Compound(BinaryOperator, u32),
+    Step(StepOperation),
+    Compound(BinaryOperation, u32),
 }
 
 /// A loop.
@@ -79,9 +80,9 @@ pub enum ValueFrame {
     Load(u32),
     ElementOf(u32),
     ElementAt(Value),
-    Unary(UnaryOperator),
-    Left(BinaryOperator, u32),
-    Right(BinaryOperator, Value),
+    Unary(UnaryOperation),
+    Left(BinaryOperation, u32),
+    Right(BinaryOperation, Value),
     AndThen(u32),
     OrElse(u32),
     Choose(u32, u32),

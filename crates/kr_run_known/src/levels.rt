@@ -16,8 +16,8 @@ ghost use Rattle.kr_run_known.specs.Knowing.{Knows, Shows};
 
 use crate::Known;
 use crate::places::{asked, asked_with, element, field, local};
-use kr_ast::{BinaryOperator, UnaryOperator};
 use kr_code::{Code, CollectionCall, Expression, Node, Nodes, Statement};
+use kr_mean::{BinaryOperation, UnaryOperation};
 use kr_run_state::{World, alone, binary};
 use kr_value::Value;
 
@@ -140,15 +140,15 @@ fn element_of<L: Look>(
 fn unary_of<L: Look>(
     code: &Code,
     world: &World,
-    operator: UnaryOperator,
+    operation: UnaryOperation,
     operand: u32,
     fuel: u64,
 ) -> Option<Known>
-    ensures { IfSome result (λ k. Knows code.now world.now fuel k (λ d. bind (d.value operand) (λ v. say (operated_alone operator v)))) }
+    ensures { IfSome result (λ k. Knows code.now world.now fuel k (λ d. bind (d.value operand) (λ v. say (operated_alone operation v)))) }
 {
     match L::look(code, world, operand, fuel) {
         None => None,
-        Some(found) => match alone(operator, found.value) {
+        Some(found) => match alone(operation, found.value) {
             Ok(value) => Some(Known {
                 value,
                 fuel: found.fuel,
@@ -163,18 +163,18 @@ fn unary_of<L: Look>(
 fn binary_of<L: Look>(
     code: &Code,
     world: &World,
-    operator: BinaryOperator,
+    operation: BinaryOperation,
     left: u32,
     right: u32,
     fuel: u64,
 ) -> Option<Known>
-    ensures { IfSome result (λ k. Knows code.now world.now fuel k (λ d. bind (d.value left) (λ v. bind (d.value right) (λ w. say (operated operator v w))))) }
+    ensures { IfSome result (λ k. Knows code.now world.now fuel k (λ d. bind (d.value left) (λ v. bind (d.value right) (λ w. say (operated operation v w))))) }
 {
     match L::look(code, world, left, fuel) {
         None => None,
         Some(first) => match L::look(code, world, right, first.fuel) {
             None => None,
-            Some(second) => match binary(operator, first.value, second.value) {
+            Some(second) => match binary(operation, first.value, second.value) {
                 Ok(value) => Some(Known {
                     value,
                     fuel: second.fuel,
@@ -303,14 +303,14 @@ fn parts_in<L: Look>(
         Expression::OwnField(name) => own_field(code, world, *name, fuel),
         Expression::FieldOf { object, name } => field_of::<L>(code, world, *object, *name, fuel),
         Expression::Element { array, index } => element_of::<L>(code, world, *array, *index, fuel),
-        Expression::Unary { operator, operand } => {
-            unary_of::<L>(code, world, *operator, *operand, fuel)
+        Expression::Unary { operation, operand } => {
+            unary_of::<L>(code, world, *operation, *operand, fuel)
         }
         Expression::Binary {
-            operator,
+            operation,
             left,
             right,
-        } => binary_of::<L>(code, world, *operator, *left, *right, fuel),
+        } => binary_of::<L>(code, world, *operation, *left, *right, fuel),
         Expression::And { left, right } => and_of::<L>(code, world, *left, *right, fuel),
         Expression::Or { left, right } => or_of::<L>(code, world, *left, *right, fuel),
         Expression::CallCollection {

@@ -112,7 +112,7 @@ pub fn field(code: &Code, world: &World, name: u32, object: Value) -> Option<Val
 }
 
 /// An element of a candidate, whose length and which itself was read.
-fn element_told(world: &World, object: Obj, index: i32) -> Option<Value>
+fn element_told(world: &World, object: Obj, index: i64) -> Option<Value>
     requires candidate { object < length world.now.candidates }
     requires array { IsArray (object_in world.now.candidates object).class }
     ensures { IfSome result (λ v. Shows world.now v (element_step (Reference object) (Int index))) }
@@ -135,7 +135,7 @@ fn element_told(world: &World, object: Obj, index: i32) -> Option<Value>
 }
 
 /// An element of an array that the run has made.
-fn element_made(world: &World, object: Obj, number: u32, index: i32) -> Option<Value>
+fn element_made(world: &World, object: Obj, number: u32, index: i64) -> Option<Value>
     requires made { object ≡ length world.now.candidates + number }
     requires array { IsArray (object_in world.now.made number).class }
     ensures { IfSome result (λ v. Shows world.now v (element_step (Reference object) (Int index))) }

@@ -34,11 +34,11 @@ fn value_left(frame: &ValueFrame, given: Value) -> Option<Value>
     ensures { IfSome result (λ v. (code : Code) (d : Doing) (s : State) → got code d frame.now given s ≡ give v s) }
 {
     match frame {
-        ValueFrame::Unary(operator) => match alone(*operator, given) {
+        ValueFrame::Unary(operation) => match alone(*operation, given) {
             Ok(value) => Some(value),
             Err(_) => None,
         },
-        ValueFrame::Right(operator, left) => match binary(*operator, *left, given) {
+        ValueFrame::Right(operation, left) => match binary(*operation, *left, given) {
             Ok(value) => Some(value),
             Err(_) => None,
         },

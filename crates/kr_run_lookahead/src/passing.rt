@@ -13,9 +13,8 @@ ghost use Rattle.kr_run_known.specs.Knowing.{Knows};
 ghost use Rattle.kr_run_lookahead.specs.Flows.{KnowsFlow};
 
 use crate::flows::{Led, known_flow, known_flow_of};
-use kr_ast::{BinaryOperator, UnaryOperator};
 use kr_code::{Code, Nodes};
-use kr_mean::Flow;
+use kr_mean::{BinaryOperation, Flow, UnaryOperation};
 use kr_run_frames::{FlowFrame, Loop, TestFrame, ValueFrame};
 use kr_run_known::{Known, field, look_at};
 use kr_run_state::{World, alone, binary};
@@ -37,13 +36,13 @@ fn loaded(code: &Code, world: &World, name: u32, object: Value, fuel: u64) -> Op
 fn operated_alone(
     code: &Code,
     world: &World,
-    operator: UnaryOperator,
+    operation: UnaryOperation,
     given: Value,
     fuel: u64,
 ) -> Option<Known>
-    ensures { IfSome result (λ k. Knows code.now world.now fuel k (λ d. say (alone_step operator given))) }
+    ensures { IfSome result (λ k. Knows code.now world.now fuel k (λ d. say (alone_step operation given))) }
 {
-    match alone(operator, given) {
+    match alone(operation, given) {
         Err(_) => None,
         Ok(value) => Some(Known { value, fuel }),
     }
@@ -54,14 +53,14 @@ fn operated_alone(
 fn operated(
     code: &Code,
     world: &World,
-    operator: BinaryOperator,
+    operation: BinaryOperation,
     left: Value,
     right: Value,
     fuel: u64,
 ) -> Option<Known>
-    ensures { IfSome result (λ k. Knows code.now world.now fuel k (λ d. say (operated_step operator left right))) }
+    ensures { IfSome result (λ k. Knows code.now world.now fuel k (λ d. say (operated_step operation left right))) }
 {
-    match binary(operator, left, right) {
+    match binary(operation, left, right) {
         Err(_) => None,
         Ok(value) => Some(Known { value, fuel }),
     }
@@ -72,16 +71,16 @@ fn operated(
 fn with_right(
     code: &Code,
     world: &World,
-    operator: BinaryOperator,
+    operation: BinaryOperation,
     right: u32,
     given: Value,
     fuel: u64,
 ) -> Option<Known>
-    ensures { IfSome result (λ k. Knows code.now world.now fuel k (λ d. bind (d.value right) (λ w. say (operated_step operator given w)))) }
+    ensures { IfSome result (λ k. Knows code.now world.now fuel k (λ d. bind (d.value right) (λ w. say (operated_step operation given w)))) }
 {
     match look_at(code, world, right, fuel) {
         None => None,
-        Some(found) => operated(code, world, operator, given, found.value, found.fuel),
+        Some(found) => operated(code, world, operation, given, found.value, found.fuel),
     }
 }
 
@@ -128,11 +127,11 @@ pub(crate) fn value_from(
 {
     match frame {
         ValueFrame::Load(name) => loaded(code, world, *name, given, fuel),
-        ValueFrame::Unary(operator) => operated_alone(code, world, *operator, given, fuel),
-        ValueFrame::Left(operator, right) => {
-            with_right(code, world, *operator, *right, given, fuel)
+        ValueFrame::Unary(operation) => operated_alone(code, world, *operation, given, fuel),
+        ValueFrame::Left(operation, right) => {
+            with_right(code, world, *operation, *right, given, fuel)
         }
-        ValueFrame::Right(operator, left) => operated(code, world, *operator, *left, given, fuel),
+        ValueFrame::Right(operation, left) => operated(code, world, *operation, *left, given, fuel),
         ValueFrame::AndThen(right) => both(code, world, *right, given, fuel),
         ValueFrame::OrElse(right) => either(code, world, *right, given, fuel),
         _ => None,

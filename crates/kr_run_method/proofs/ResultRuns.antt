@@ -12,8 +12,9 @@ use Rattle.kr_types_meaning.specs.Scopes.{Scope, Meant, LocalName, FieldName, No
 use Rattle.kr_types_meaning.specs.Typing.{type_of}
 use Rattle.kr_mean.specs.Program.{Program}
 use Rattle.kr_mean.specs.Steps.{State, Run, say, give, ◌>>=◌, ◌>>◌, tick, get_this, load_field, element, class_or_null, store, store_element}
-use Rattle.kr_mean.specs.Operators.{operated_alone}
-use Rattle.kr_mean.specs.Meaning.{Parts, Target, LocalTarget, OwnField, FieldOf, ElementOf, NoTarget, Change, choose, values_of, read_name, access, field_of_type, typed_field, method_of_type, typed_method, run_method, own_call, called, method_call, super_method, create, create_array, name_target, field_target, element_target, target_of, assigned, changed, compound, stepped, binary, cast, is_primitive, instance, value_of, parts_within, eval, value}
+use Rattle.kr_classes_table.specs.Numbers.{Width}
+use Rattle.kr_mean.specs.Operators.{operated_alone, binary_operation, unary_operation, step_operation}
+use Rattle.kr_mean.specs.Meaning.{Parts, Target, LocalTarget, OwnField, FieldOf, ElementOf, NoTarget, Change, choose, values_of, read_name, access, field_of_type, typed_field, method_of_type, typed_method, run_method, own_call, called, method_call, super_method, create, create_array, name_target, field_target, element_target, target_of, assigned, changed, compound, stepped, binary, cast, is_primitive, instance, width_at, width_of, value_of, parts_within, eval, value}
 use Rattle.kr_laws_types.specs.Shapes.{Expression, Expressions, IsCode}
 use Rattle.kr_laws_types.proofs.Expressions.{after_expression}
 use Rattle.kr_run_method.specs.Results.{has_result, without_result}
@@ -121,8 +122,8 @@ module _ (arrays : List JavaType) (olds : Place → Option JavaType) (program : 
         ap (λ (m : Option Method). both_then (λ o vs. called program parts n o vs m) (parts.value (without_result s) e) (values_of parts (without_result s) (items es))) (method_same s u e n h)
         ∙ both_by (λ o vs. called program parts n o vs (typed_method s e n)) (same s u e h) (values_same s u es i f)
 
-    binary_same : (o : BinaryOperator) {m m' n n' : Run Value} → m ≡ m' → n ≡ n' → binary o m n ≡ binary o m' n'
-    binary_same o {m} {m'} {n} {n'} e h = ap (λ (z : Run Value). binary o z n) e ∙ ap (λ (z : Run Value). binary o m' z) h
+    binary_same : (width : Width) (o : BinaryOperator) {m m' n n' : Run Value} → m ≡ m' → n ≡ n' → binary width o m n ≡ binary width o m' n'
+    binary_same width o {m} {m'} {n} {n'} e h = ap (λ (z : Run Value). binary width o z n) e ∙ ap (λ (z : Run Value). binary width o m' z) h
 
     chosen_same : {c c' m m' n n' : Run Value} → c ≡ c' → m ≡ m' → n ≡ n' → (c >>= (λ v. choose v m n)) ≡ (c' >>= (λ v. choose v m' n'))
     chosen_same {c} {c'} {m} {m'} {n} {n'} e f g = ap (λ (z : Run Value). z >>= (λ v. choose v m n)) e ∙ (ap (λ (z : Run Value). c' >>= (λ v. choose v z n)) f ∙ ap (λ (z : Run Value). c' >>= (λ v. choose v m' z)) g)
@@ -153,9 +154,9 @@ module _ (arrays : List JavaType) (olds : Place → Option JavaType) (program : 
     value_same s u (trees.SuperCall p n es) h f = ap (λ (z : Run (List Value)). get_this >>= (λ o. z >>= (λ vs. run_method program parts o vs (super_method s n)))) (values_same s u es h f)
     value_same s u (trees.ObjectCreation p t es) h f = ap (λ (z : Run (List Value)). z >>= (λ vs. create program parts (written s t) vs)) (values_same s u es h.1 f)
     value_same s u (trees.ArrayCreation p t e) h f = ap (λ (z : Run Value). z >>= (λ n. create_array program (written s t) n)) (same s u e (h.2, f))
-    value_same s u (trees.Unary p o e) h f = ap (λ (z : Run Value). z >>= (λ v. say (operated_alone o v))) (same s u e (h, f))
-    value_same s u (trees.Step p o e) h f = changed_to s u e (stepped o) (stepped o) (h, f) refl
-    value_same s u (trees.Binary p o a b) h f = let k = two_free u a b h.0 h.1 f in binary_same o (same s u a k.0) (same s u b k.1)
+    value_same s u (trees.Unary p o e) h f = ap (λ (z : Run Value). z >>= (λ v. say (operated_alone (unary_operation (width_at s e) o) v))) (same s u e (h, f))
+    value_same s u (trees.Step p o e) h f = let c = step_operation (width_at s e) o in changed_to s u e (stepped c) (stepped c) (h, f) refl
+    value_same s u (trees.Binary p o a b) h f = let k = two_free u a b h.0 h.1 f in binary_same (width_of s o a b) o (same s u a k.0) (same s u b k.1)
     value_same s u (trees.InstanceOf p e t) h f = ap (λ (z : Run Value). z >>= (λ v. class_or_null v >>= (λ class. give (instance program (written s t) class)))) (same s u e (h.0, f))
     value_same s u (trees.Conditional p c a b) h f =
         let k = neither (has_result c) (has_result a || has_result b) f in
@@ -165,7 +166,8 @@ module _ (arrays : List JavaType) (olds : Place → Option JavaType) (program : 
     value_same s u (trees.Assignment p a e) h f = let k = two_free u a e h.0 h.1 f in assigned_to s u a e k.0 k.1
     value_same s u (trees.CompoundAssignment p o a e) h f =
         let k = two_free u a e h.1 h.2 f in
-        changed_to s u a (compound o (parts.value (without_result s) e)) (compound o (parts.value s e)) k.0 (ap (λ (z : Run Value). compound o z) (same s u e k.1))
+        let c = binary_operation (width_of s o a e) o in
+        changed_to s u a (compound c (parts.value (without_result s) e)) (compound c (parts.value s e)) k.0 (ap (λ (z : Run Value). compound c z) (same s u e k.1))
     value_same s u (trees.Result p) h f = absurd (cc (f))
     value_same s u (trees.Old p e) h f = refl
     value_same s u _ h f = absurd h

@@ -373,19 +373,19 @@ fn enter_expression(
             default,
             length,
         } => first(stack, ValueFrame::NewArray(*class, *default), *length, task),
-        Expression::Unary { operator, operand } => first(
+        Expression::Unary { operation, operand } => first(
             stack,
-            ValueFrame::Unary(*operator),
+            ValueFrame::Unary(*operation),
             *operand,
             task,
         ),
         Expression::And { left, right } => first(stack, ValueFrame::AndThen(*right), *left, task),
         Expression::Or { left, right } => first(stack, ValueFrame::OrElse(*right), *left, task),
         Expression::Binary {
-            operator,
+            operation,
             left,
             right,
-        } => first(stack, ValueFrame::Left(*operator, *right), *left, task),
+        } => first(stack, ValueFrame::Left(*operation, *right), *left, task),
         Expression::InstanceOf { operand, class } => first(
             stack,
             ValueFrame::Instance(*class),
@@ -417,7 +417,7 @@ fn enter_expression(
             value: node,
         } => enter_assignment(code, world, stack, *variable, *node, task),
         Expression::Compound {
-            operator,
+            operation,
             variable,
             value: node,
         } => enter_change(
@@ -425,11 +425,21 @@ fn enter_expression(
             world,
             stack,
             *variable,
-            Change::Compound(*operator, *node),
+            Change::Compound(*operation, *node),
             task,
         ),
-        Expression::Step { operator, variable } => {
-            enter_change(code, world, stack, *variable, Change::Step(*operator), task)
+        Expression::Step {
+            operation,
+            variable,
+        } => {
+            enter_change(
+                code,
+                world,
+                stack,
+                *variable,
+                Change::Step(*operation),
+                task,
+            )
         }
         Expression::Result => {
             *task = Task::Act(Action::Result);

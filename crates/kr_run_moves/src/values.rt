@@ -16,9 +16,9 @@ ghost use Rattle.kr_run_state.specs.Worlds.{state_at};
 
 use crate::expressions::enter_node;
 use crate::pushes::{await_arguments, first, flow, test, then_write, value, write};
-use kr_ast::{BinaryOperator, StepOperator, UnaryOperator};
+use kr_ast::StepOperator;
 use kr_code::{Code, Nodes};
-use kr_mean::{Flow, Stop};
+use kr_mean::{BinaryOperation, Flow, Stop, UnaryOperation};
 use kr_run_frames::{
     FlowFrame, Goal, Loop, Stack, Task, TestFrame, ValueFrame, Waiting, WriteFrame,
 };
@@ -227,13 +227,13 @@ pub fn feed(
         return Ok(());
     };
     match *top {
-        Waiting::Value(ValueFrame::Unary(operator)) => {
+        Waiting::Value(ValueFrame::Unary(operation)) => {
             stack.drop_top();
-            return operate_alone(code, world, stack, operator, given, task);
+            return operate_alone(code, world, stack, operation, given, task);
         }
-        Waiting::Value(ValueFrame::Left(operator, right)) => {
+        Waiting::Value(ValueFrame::Left(operation, right)) => {
             stack.drop_top();
-            return take_left(code, world, stack, operator, right, given, task);
+            return take_left(code, world, stack, operation, right, given, task);
         }
         Waiting::Test(TestFrame::Initial(local, others)) => {
             stack.drop_top();
@@ -256,13 +256,13 @@ fn operate_alone(
     code: &Code,
     world: &World,
     stack: &mut Stack,
-    operator: UnaryOperator,
+    operation: UnaryOperation,
     given: Value,
     task: &mut Task,
 ) -> Result<(), Halt>
-    ensures { Leads code.now (next_task result task.new) stack.new world.now world.now (λ d x. out_value code.now d stack.old (say (alone_step operator given) (state_at world.now x))) }
+    ensures { Leads code.now (next_task result task.new) stack.new world.now world.now (λ d x. out_value code.now d stack.old (say (alone_step operation given) (state_at world.now x))) }
 {
-    match operated_alone(world, operator, given) {
+    match operated_alone(world, operation, given) {
         Ok(value) => feed_test(code, world, stack, value, task),
         Err(halt) => Err(halt),
     }
@@ -274,14 +274,14 @@ fn operate(
     code: &Code,
     world: &World,
     stack: &mut Stack,
-    operator: BinaryOperator,
+    operation: BinaryOperation,
     left: Value,
     right: Value,
     task: &mut Task,
 ) -> Result<(), Halt>
-    ensures { Leads code.now (next_task result task.new) stack.new world.now world.now (λ d x. out_value code.now d stack.old (say (operated_step operator left right) (state_at world.now x))) }
+    ensures { Leads code.now (next_task result task.new) stack.new world.now world.now (λ d x. out_value code.now d stack.old (say (operated_step operation left right) (state_at world.now x))) }
 {
-    match operated(world, operator, left, right) {
+    match operated(world, operation, left, right) {
         Ok(value) => feed_test(code, world, stack, value, task),
         Err(halt) => Err(halt),
     }
@@ -293,16 +293,16 @@ fn take_left(
     code: &Code,
     world: &mut World,
     stack: &mut Stack,
-    operator: BinaryOperator,
+    operation: BinaryOperation,
     right: u32,
     given: Value,
     task: &mut Task,
 ) -> Result<(), Halt>
-    ensures { Leads code.now (next_task result task.new) stack.new world.new world.old (λ d x. out_value code.now d stack.old (bind (d.value right) (λ w. say (operated_step operator given w)) (state_at world.old x))) }
+    ensures { Leads code.now (next_task result task.new) stack.new world.new world.old (λ d x. out_value code.now d stack.old (bind (d.value right) (λ w. say (operated_step operation given w)) (state_at world.old x))) }
 {
     match at_once(code, world, right) {
-        Some(value) => operate(code, world, stack, operator, given, value, task),
-        None => first(stack, ValueFrame::Right(operator, given), right, task),
+        Some(value) => operate(code, world, stack, operation, given, value, task),
+        None => first(stack, ValueFrame::Right(operation, given), right, task),
     }
 }
 
@@ -350,12 +350,12 @@ pub fn take_value(
             *task = Task::Act(Action::Element(array, given));
             Ok(())
         }
-        ValueFrame::Unary(operator) => operate_alone(code, world, stack, operator, given, task),
-        ValueFrame::Left(operator, right) => {
-            take_left(code, world, stack, operator, right, given, task)
+        ValueFrame::Unary(operation) => operate_alone(code, world, stack, operation, given, task),
+        ValueFrame::Left(operation, right) => {
+            take_left(code, world, stack, operation, right, given, task)
         }
-        ValueFrame::Right(operator, left) => operate(
-            code, world, stack, operator, left, given, task,
+        ValueFrame::Right(operation, left) => operate(
+            code, world, stack, operation, left, given, task,
         ),
         ValueFrame::AndThen(right) => match given {
             Value::Bool(true) => {

@@ -9,11 +9,10 @@ use crate::memory::{
 use crate::names::{assign, declare, old, read_local, result, tick};
 use crate::operators::{operated, operated_alone};
 use crate::{Halt, World};
-use kr_ast::{BinaryOperator, UnaryOperator};
 use kr_base::Place;
 use kr_classes_table::{FieldId, NameId, TypeId};
 use kr_code::Code;
-use kr_mean::Stop;
+use kr_mean::{BinaryOperation, Stop, UnaryOperation};
 use kr_value::{Class, Value};
 use std::alloc::Global;
 
@@ -39,8 +38,8 @@ pub enum Action {
     Load(NameId, Value),
     /// Array and index.
     Element(Value, Value),
-    Unary(UnaryOperator, Value),
-    Binary(BinaryOperator, Value, Value),
+    Unary(UnaryOperation, Value),
+    Binary(BinaryOperation, Value, Value),
     Instance(TypeId, Value),
     Cast(TypeId, Value),
     /// The array type's number, what an element begins with, and the length.
@@ -90,8 +89,8 @@ pub fn act(alloc: Global, code: &Code, action: Action, world: &mut World) -> Res
         Action::Old(place) => old(world, place),
         Action::Load(name, object) => load_named(code, world, name, object),
         Action::Element(array, index) => element(world, array, index),
-        Action::Unary(operator, value) => operated_alone(world, operator, value),
-        Action::Binary(operator, left, right) => operated(world, operator, left, right),
+        Action::Unary(operation, value) => operated_alone(world, operation, value),
+        Action::Binary(operation, left, right) => operated(world, operation, left, right),
         Action::Instance(class, value) => instance(code, world, class, value),
         Action::Cast(class, value) => cast(code, world, class, value),
         Action::NewArray(class, default, length) => new_array(alloc, world, class, default, length),

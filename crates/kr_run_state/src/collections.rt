@@ -21,7 +21,7 @@ use kr_value::{Class, Obj, Value};
 pub fn size_value(size: usize) -> Value
     ensures { result ≡ Int (pos (min size 2147483647)) }
 {
-    Value::Int(size.min(2147483647) as i32)
+    Value::Int(size.min(2147483647) as i64)
 }
 
 /// A call on a set, with an argument.

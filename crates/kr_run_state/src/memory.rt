@@ -117,14 +117,15 @@ pub fn load_named(
 
 /// An index below a length.
 #[inline(always)]
-pub fn index_below(index: i32, length: usize) -> Option<u32>
+pub fn index_below(index: i64, length: usize) -> Option<u32>
+    requires { length ≤ 2147483647 }
     ensures { result ≡ index_within index length }
 {
-    match u32::try_from(index) {
+    match u64::try_from(index) {
         Err(_) => None,
         Ok(at) => {
-            if (at as usize) < length {
-                Some(at)
+            if at < length as u64 {
+                Some(at as u32)
             } else {
                 None
             }
@@ -133,7 +134,7 @@ pub fn index_below(index: i32, length: usize) -> Option<u32>
 }
 
 /// An element of an array that the run has made.
-fn element_made(world: &World, object: Obj, number: u32, index: i32) -> Result<Value, Halt>
+fn element_made(world: &World, object: Obj, number: u32, index: i64) -> Result<Value, Halt>
     requires made { object ≡ length world.now.candidates + number }
     requires array { IsArray (object_in world.now.made number).class }
     ensures { Agrees result world.now world.now (λ x. element_step (Reference object) (Int index) (state_at world.now x)) }
@@ -148,7 +149,7 @@ fn element_made(world: &World, object: Obj, number: u32, index: i32) -> Result<V
 }
 
 /// An element of a candidate: the length is read, and then the element.
-fn element_candidate(world: &mut World, object: Obj, index: i32) -> Result<Value, Halt>
+fn element_candidate(world: &mut World, object: Obj, index: i64) -> Result<Value, Halt>
     requires candidate { object < length world.old.candidates }
     requires array { IsArray (object_in world.old.candidates object).class }
     ensures agrees { Agrees result world.new world.old (λ x. element_step (Reference object) (Int index) (state_at world.old x)) }
@@ -267,7 +268,8 @@ pub fn store_initial(
 /// How many values an object has.
 #[inline(always)]
 fn size_of(world: &World, object: Obj) -> usize
-    ensures { result ≡ length (object_in (world.now.candidates ++ world.now.made) object).values }
+    ensures is { result ≡ length (object_in (world.now.candidates ++ world.now.made) object).values }
+    ensures few { result ≤ 2147483647 }
 {
     match made_number(world, object) {
         None => world.candidates.size_of(object),
@@ -288,7 +290,7 @@ fn stays_frozen(world: &World, object: Obj) -> bool
 fn put_element(
     world: &mut World,
     object: Obj,
-    index: i32,
+    index: i64,
     value: Value,
     given: Value,
 ) -> Result<Value, Halt>
@@ -417,7 +419,7 @@ pub(crate) fn new_array(
     ensures { Agrees result world.new world.old (λ x. array_of class default length (state_at world.old x)) }
 {
     match length {
-        Value::Int(number) => match u32::try_from(number) {
+        Value::Int(number) => match u64::try_from(number) {
             Err(_) => Err(Halt::Ended(Stop::Trapped(Kind::NegativeArraySizeException))),
             Ok(count) => {
                 if count > 64 {

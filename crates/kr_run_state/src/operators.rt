@@ -5,10 +5,9 @@ ghost use Rattle.kr_mean.specs.Operators as meaning;
 ghost use Rattle.kr_run_state.specs.Worlds.{state_at, Agrees};
 
 use crate::{Halt, World};
-use kr_ast::{BinaryOperator, UnaryOperator};
 use kr_classes_operators::{apply, apply_alone};
 use kr_classes_table::OperatorError;
-use kr_mean::{Kind, Stop};
+use kr_mean::{BinaryOperation, Kind, Stop, UnaryOperation};
 use kr_value::Value;
 
 /// A zero divisor traps.
@@ -25,31 +24,31 @@ fn said(given: Result<Value, OperatorError>) -> Result<Value, Stop>
 
 /// The result of an operator on two operands.
 #[inline(always)]
-pub fn binary(operator: BinaryOperator, left: Value, right: Value) -> Result<Value, Stop>
-    ensures { result ≡ meaning.operated operator left right }
+pub fn binary(operation: BinaryOperation, left: Value, right: Value) -> Result<Value, Stop>
+    ensures { result ≡ meaning.operated operation left right }
 {
-    said(apply(operator, left, right))
+    said(apply(operation.width, operation.operator, left, right))
 }
 
 /// The result of an operator on one operand.
 #[inline(always)]
-pub fn alone(operator: UnaryOperator, value: Value) -> Result<Value, Stop>
-    ensures { result ≡ meaning.operated_alone operator value }
+pub fn alone(operation: UnaryOperation, value: Value) -> Result<Value, Stop>
+    ensures { result ≡ meaning.operated_alone operation value }
 {
-    said(apply_alone(operator, value))
+    said(apply_alone(operation.width, operation.operator, value))
 }
 
 /// Two operands.
 #[inline(always)]
 pub fn operated(
     world: &World,
-    operator: BinaryOperator,
+    operation: BinaryOperation,
     left: Value,
     right: Value,
 ) -> Result<Value, Halt>
-    ensures { Agrees result world.now world.now (λ x. say (meaning.operated operator left right) (state_at world.now x)) }
+    ensures { Agrees result world.now world.now (λ x. say (meaning.operated operation left right) (state_at world.now x)) }
 {
-    match binary(operator, left, right) {
+    match binary(operation, left, right) {
         Ok(value) => Ok(value),
         Err(end) => Err(Halt::Ended(end)),
     }
@@ -57,10 +56,10 @@ pub fn operated(
 
 /// One operand.
 #[inline(always)]
-pub fn operated_alone(world: &World, operator: UnaryOperator, value: Value) -> Result<Value, Halt>
-    ensures { Agrees result world.now world.now (λ x. say (meaning.operated_alone operator value) (state_at world.now x)) }
+pub fn operated_alone(world: &World, operation: UnaryOperation, value: Value) -> Result<Value, Halt>
+    ensures { Agrees result world.now world.now (λ x. say (meaning.operated_alone operation value) (state_at world.now x)) }
 {
-    match alone(operator, value) {
+    match alone(operation, value) {
         Ok(value) => Ok(value),
         Err(end) => Err(Halt::Ended(end)),
     }

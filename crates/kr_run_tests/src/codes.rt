@@ -5,11 +5,20 @@ use kr_base::NoMemory;
 use kr_code::{
     Callee, ClassCode, Code, CollectionCall, Expression, MethodCode, Node, Nodes, Statement,
 };
+use kr_mean::BinaryOperation;
 use kr_space_layout::counted;
-use kr_value::Value;
+use kr_value::{Value, Width};
 use std::alloc::Global;
 
 pub(crate) const NONE: Nodes = Nodes { first: 0, count: 0 };
+
+/// An operator on ints.
+pub(crate) fn int_operation(operator: BinaryOperator) -> BinaryOperation {
+    BinaryOperation {
+        operator,
+        width: Width::Bits32,
+    }
+}
 
 /// The lists of code whose classes are instances of nothing.
 #[derive(Drop)]
@@ -52,7 +61,7 @@ impl Parts {
         self.node(Node::Statement(statement))
     }
 
-    pub(crate) fn int(&mut self, number: i32) -> Result<u32, NoMemory> {
+    pub(crate) fn int(&mut self, number: i64) -> Result<u32, NoMemory> {
         self.put(Expression::Literal(Value::Int(number)))
     }
 
@@ -63,7 +72,7 @@ impl Parts {
         right: u32,
     ) -> Result<u32, NoMemory> {
         self.put(Expression::Binary {
-            operator,
+            operation: int_operation(operator),
             left,
             right,
         })

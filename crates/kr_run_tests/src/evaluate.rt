@@ -60,21 +60,21 @@ impl Written for Inc {
 }
 
 /// Adds a cell.
-fn push_cell(alloc: Global, heap: &mut Heap, number: i32) -> Result<(), NoMemory> {
+fn push_cell(alloc: Global, heap: &mut Heap, number: i64) -> Result<(), NoMemory> {
     let fields = vec![in alloc; Value::Int(number)]?;
     let _ = heap.allocate(Class::Object(0), fields)?;
     Ok(())
 }
 
 /// A heap of a cell.
-fn heap(alloc: Global, number: i32) -> Result<Heap, NoMemory> {
+fn heap(alloc: Global, number: i64) -> Result<Heap, NoMemory> {
     let mut heap = Heap::new(alloc);
     push_cell(alloc, &mut heap, number)?;
     Ok(heap)
 }
 
 /// Fills what the expressions see beside the cell, which is `this`.
-fn see(env: &mut Env, numbers: &[i32]) -> Result<(), NoMemory> {
+fn see(env: &mut Env, numbers: &[i64]) -> Result<(), NoMemory> {
     env.arguments.push(Value::Int(2))?;
     for number in numbers {
         env.olds.push(Value::Int(*number))?;
@@ -82,7 +82,7 @@ fn see(env: &mut Env, numbers: &[i32]) -> Result<(), NoMemory> {
     Ok(())
 }
 
-fn env(alloc: Global, given: Option<Value>, numbers: &[i32]) -> Result<Env, NoMemory> {
+fn env(alloc: Global, given: Option<Value>, numbers: &[i64]) -> Result<Env, NoMemory> {
     let mut env = Env {
         this: Value::Ref(0),
         arguments: Vec::new(alloc),
@@ -109,8 +109,8 @@ fn ends(
     alloc: Global,
     code: &Code,
     node: u32,
-    number: Option<i32>,
-    olds: &[i32],
+    number: Option<i64>,
+    olds: &[i64],
     fuel: u64,
     end: Result<Option<Value>, Stop>,
     left: u64,

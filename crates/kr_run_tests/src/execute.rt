@@ -296,7 +296,7 @@ fn copies(
     code: &Code,
     fuel: u64,
     end: Ending,
-    number: i32,
+    number: i64,
 ) -> Result<bool, NoMemory> {
     let copy = executed(alloc, code, COPY, &[Value::Ref(0)], fuel)?;
     Ok(

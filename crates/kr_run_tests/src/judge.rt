@@ -6,7 +6,7 @@ ghost use Rattle.kr_mean.specs.WellFormed.{IsWellFormed};
 ghost use Rattle.kr_space_layout.specs.Bounds.{bare};
 ghost use Rattle.kr_run_tests.specs.OneCell.{cells as cell_domain, item_lists, one_cell};
 
-use crate::codes::{NONE, Parts, Written, code_of, push_row};
+use crate::codes::{NONE, Parts, Written, code_of, int_operation, push_row};
 use crate::problems::{class_domain, listed};
 use kr_ast::BinaryOperator;
 use kr_base::{NoMemory, Steps};
@@ -29,7 +29,7 @@ fn push_nodes(nodes: &mut Vec<Node>) -> Result<(), NoMemory> {
         Node::Expression(Expression::OwnField(1)),
         Node::Expression(Expression::Literal(Value::Int(0))),
         Node::Expression(Expression::Binary {
-            operator: BinaryOperator::Greater,
+            operation: int_operation(BinaryOperator::Greater),
             left: 0,
             right: 1,
         }),

@@ -1,6 +1,6 @@
 // Small pieces of code, run by the machine.
 
-use crate::codes::{NONE, Parts, Written, code_of, push_row};
+use crate::codes::{NONE, Parts, Written, code_of, int_operation, push_row};
 use kr_ast::{BinaryOperator, StepOperator};
 use kr_base::NoMemory;
 use kr_code::{
@@ -8,14 +8,14 @@ use kr_code::{
     Statement, Variable,
 };
 use kr_heap::Heap;
-use kr_mean::{Kind, Stop};
+use kr_mean::{Kind, StepOperation, Stop};
 use kr_run::evaluate;
 use kr_run_state::{Halt, Local, Reads, World};
-use kr_value::{Class, Value};
+use kr_value::{Class, Value, Width};
 use std::alloc::Global;
 use std::test::Fail;
 
-fn int(number: i32) -> Node {
+fn int(number: i64) -> Node {
     Node::Expression(Expression::Literal(Value::Int(number)))
 }
 
@@ -35,12 +35,15 @@ fn push_nodes(nodes: &mut Vec<Node>) -> Result<(), NoMemory> {
         local(0),
         local(1),
         Node::Expression(Expression::Binary {
-            operator: BinaryOperator::Less,
+            operation: int_operation(BinaryOperator::Less),
             left: 3,
             right: 2,
         }),
         Node::Expression(Expression::Step {
-            operator: StepOperator::IncrementBehind,
+            operation: StepOperation {
+                operator: StepOperator::IncrementBehind,
+                width: Width::Bits32,
+            },
             variable: Variable::Local(1),
         }),
         Node::Statement(Statement::Evaluate(5)),
@@ -49,7 +52,7 @@ fn push_nodes(nodes: &mut Vec<Node>) -> Result<(), NoMemory> {
             body: 6,
         }),
         Node::Expression(Expression::Binary {
-            operator: BinaryOperator::Equal,
+            operation: int_operation(BinaryOperator::Equal),
             left: 3,
             right: 2,
         }),
@@ -65,7 +68,7 @@ fn push_nodes(nodes: &mut Vec<Node>) -> Result<(), NoMemory> {
         Node::Expression(Expression::OwnField(1)),
         Node::Expression(Expression::Literal(Value::Null)),
         Node::Expression(Expression::Binary {
-            operator: BinaryOperator::Equal,
+            operation: int_operation(BinaryOperator::Equal),
             left: 13,
             right: 14,
         }),
@@ -76,7 +79,7 @@ fn push_nodes(nodes: &mut Vec<Node>) -> Result<(), NoMemory> {
             arguments: NONE,
         }),
         Node::Expression(Expression::Binary {
-            operator: BinaryOperator::Add,
+            operation: int_operation(BinaryOperator::Add),
             left: 16,
             right: 17,
         }),

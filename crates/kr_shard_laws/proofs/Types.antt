@@ -5,7 +5,7 @@ use Rattle.std.specs.List.{AllByRecursion, ends_with, starts_with}
 use Rattle.std.proofs.lemmas.Bool.{and_parts}
 use Rattle.std.proofs.lemmas.List.{drop-drop, take-append-drop}
 use Rattle.std.proofs.lemmas.Slice.Eq.{bytes_eq-Decides}
-use Rattle.kr_classes_table.specs.Types.{JavaType, IntType, BooleanType, ClassType, ArrayType, SetType, ListType}
+use Rattle.kr_classes_table.specs.Types.{JavaType, int_type, BooleanType, ClassType, ArrayType, SetType, ListType}
 use Rattle.kr_classes_table.specs.Table.{Heading, number_from, number_of}
 use Rattle.kr_space_meaning.specs.Names.{ArrayOf, ListOf, SetOf, Word, array_or_none, array_type, inside, is_of, of_elements, type_of, type_within, word_type}
 use Rattle.kr_shard_laws.proofs.Bytes.{without_append}
@@ -64,7 +64,7 @@ module _ (hs : List Heading) (lines : AllByRecursion (λ h. IsLine h.name) hs) w
   word_line text t e = go (bytes_eq text (codes "int")) (bytes_eq text (codes "boolean")) refl refl e
     where
       go : (a b : Bool) → bytes_eq text (codes "int") ≡ a → bytes_eq text (codes "boolean") ≡ b
-          → (if a then Some IntType else if b then Some BooleanType else option_map ClassType (number_of hs text)) ≡ Some t → IsLine text
+          → (if a then Some int_type else if b then Some BooleanType else option_map ClassType (number_of hs text)) ≡ Some t → IsLine text
       go true b is else_is e = subst IsLine (sym ((bytes_eq-Decides text (codes "int")).0 is)) (refl, (refl, (refl, tt)))
       go false true is else_is e = subst IsLine (sym ((bytes_eq-Decides text (codes "boolean")).0 else_is)) (refl, (refl, (refl, (refl, (refl, (refl, (refl, tt)))))))
       go false false is else_is e = numbered_line text (number_of hs text) t refl e

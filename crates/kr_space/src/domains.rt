@@ -5,7 +5,7 @@ ghost use Rattle.kr_space_layout.specs.Items.{domain_of};
 ghost use Rattle.kr_space_meaning.specs.Bounds.{lengths_of, values_of, values_with};
 ghost use Rattle.kr_space_meaning.specs.Limits.{AreLengths, IsSmall};
 ghost use Rattle.kr_space_rules.specs.Classes.{AreTyped};
-ghost use Rattle.kr_space_rules.specs.Widths.{asked, width_shown};
+ghost use Rattle.kr_space_rules.specs.Widths.{asked};
 ghost use Rattle.kr_space.specs.Basis.{AreBoundsOn, IsBasis, setting_on};
 ghost use Rattle.kr_space.specs.Pools.{all_lengths, all_values, pool};
 
@@ -14,7 +14,8 @@ use kr_base::NoMemory;
 use kr_classes_names::Types;
 use kr_fin::{ArrayBound, Item as FinItem, Listed, NamedDomain};
 use kr_space_layout::DomainEntry;
-use kr_space_rules::{Keyed, Width, entries_of, width_asked};
+use kr_space_rules::{Keyed, entries_of, width_asked};
+use kr_value::Width;
 use std::alloc::Global;
 
 /// Adds the values of a domain whose numbers have a width.
@@ -29,7 +30,7 @@ fn add_values(
     requires basis { IsBasis basis.now }
     requires bounds { AreBoundsOn types.old basis.now }
     requires small { All IsSmall items.now }
-    ensures added { OnOk result (map domain_of domains.new.items ≡ map domain_of domains.old.items ++ values_with (setting_on basis.now) (width_shown width) items.now ∷ []) }
+    ensures added { OnOk result (map domain_of domains.new.items ≡ map domain_of domains.old.items ++ values_with (setting_on basis.now) width items.now ∷ []) }
     ensures extends { Extends types.old types.new }
 {
     let classes = basis.classes;

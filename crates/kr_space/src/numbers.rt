@@ -7,7 +7,7 @@ ghost use Rattle.kr_space_meaning.specs.Bounds.{lengths_of, values_of, values_wi
 ghost use Rattle.kr_space_meaning.specs.Faults.{number_faults, numbers_of, numbers_of_lengths, of_arrays};
 ghost use Rattle.kr_space_meaning.specs.Limits.{AreLengths, IsSmall};
 ghost use Rattle.kr_space_meaning.specs.Order.{lesser};
-ghost use Rattle.kr_space_rules.specs.Widths.{asked, width_shown};
+ghost use Rattle.kr_space_rules.specs.Widths.{asked};
 ghost use Rattle.kr_space.specs.Bounded.{IsBounded, problem_in, setting_in};
 
 use crate::bounded::Bounded;
@@ -16,7 +16,8 @@ use kr_classes_names::Types;
 use kr_fin::{ArrayBound, Item, Least, NamedDomain};
 use kr_space_meaning::SpaceRule;
 use kr_space_names::item_of;
-use kr_space_rules::{Keyed, Width, entries_of, note_numbers, width_asked};
+use kr_space_rules::{Keyed, entries_of, note_numbers, width_asked};
+use kr_value::Width;
 
 #[tactic(auto, using(crate::proofs::BoundedKept::numbers_same))]
 /// The numbers of the values of a domain whose numbers have a width, under its item.
@@ -30,7 +31,7 @@ fn note_values(
 ) -> Result<(), NoMemory>
     requires bounded { IsBounded types.old bounded.now }
     requires small { All IsSmall items.now }
-    ensures noted { OnOk result (least.new ≡ fold lesser least.old (number_faults item.now (choices_in (problem_in bounded.now) (values_with (setting_in bounded.now) (width_shown width) items.now)))) }
+    ensures noted { OnOk result (least.new ≡ fold lesser least.old (number_faults item.now (choices_in (problem_in bounded.now) (values_with (setting_in bounded.now) width items.now)))) }
     ensures extends { Extends types.old types.new }
 {
     let classes = bounded.classes;
@@ -59,7 +60,7 @@ fn note_domain(
 ) -> Result<(), NoMemory>
     requires bounded { IsBounded types.old bounded.now }
     requires small { All IsSmall domain.now.domain }
-    ensures noted { OnOk result (least.new ≡ fold lesser least.old (number_faults (table.now ++ domain.now.key) (choices_in (problem_in bounded.now) (values_with (setting_in bounded.now) (width_shown width) domain.now.domain)))) }
+    ensures noted { OnOk result (least.new ≡ fold lesser least.old (number_faults (table.now ++ domain.now.key) (choices_in (problem_in bounded.now) (values_with (setting_in bounded.now) width domain.now.domain)))) }
     ensures extends { Extends types.old types.new }
 {
     let item = item_of(least.alloc(), table, domain.key.as_str())?;

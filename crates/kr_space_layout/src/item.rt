@@ -6,6 +6,6 @@ use kr_value::Value;
 #[derive(Clone, Copy, PartialEq, Eq)]
 pub enum DomainEntry {
     Plain(Value),
-    Integers(i32, i32),
+    Integers(i64, i64),
     Objects(u32),
 }

@@ -1,5 +1,5 @@
 // Stretches: entries of domains with all that their values are made of.
-ghost use Rattle.std.specs.Prelude.{◌≡◌, ◌<◌, ◌+◌, ◌+ℤ◌, pos};
+ghost use Rattle.std.specs.Prelude.{◌≡◌, ◌<◌, ◌≤◌, ◌+◌, ◌-◌, ◌^◌, ◌+ℤ◌, pos, min};
 ghost use Rattle.std.proofs.Common.{get_or};
 ghost use Rattle.kr_mean.specs.Space.{no_choice};
 ghost use Rattle.kr_space_layout.specs.Items.{width_between};
@@ -22,7 +22,7 @@ pub struct Block {
 #[derive(Clone, Copy, PartialEq, Eq)]
 pub enum Stretch {
     Plain(Value),
-    Integers(i32, i32),
+    Integers(i64, i64),
     Objects(Block),
 }
 
@@ -34,11 +34,12 @@ pub struct Chosen {
 }
 
 /// How many integers there are from one to another, both included.
-fn width_of(from: i32, to: i32) -> u64
-    ensures { result ≡ width_between from to }
+fn width_of(from: i64, to: i64) -> u128
+    ensures is { result ≡ width_between from to }
+    ensures few { result ≤ 2 ^ 64 }
 {
     if from <= to {
-        u64::from(to.abs_diff(from)) + 1
+        u128::from(to.abs_diff(from)) + 1
     } else {
         0
     }
@@ -46,11 +47,11 @@ fn width_of(from: i32, to: i32) -> u64
 
 /// The integer so many places after the first.
 #[inline(always)]
-fn integer_at(from: i32, to: i32, index: u32) -> i32
+fn integer_at(from: i64, to: i64, index: u32) -> i64
     requires { index < width_between from to }
     ensures { result ≡ from +ℤ pos index }
 {
-    (i64::from(from) + i64::from(index)) as i32
+    (i128::from(from) + i128::from(index)) as i64
 }
 
 impl Stretch {
@@ -66,14 +67,22 @@ impl Stretch {
     }
 
     /// How many values it has.
-    pub fn count(self) -> u64
-        ensures { result ≡ count_of self }
+    pub fn count(self) -> u128
+        ensures is { result ≡ count_of self }
+        ensures few { result ≤ 2 ^ 64 }
     {
         match self {
             Stretch::Plain(_) => 1,
             Stretch::Integers(from, to) => width_of(from, to),
-            Stretch::Objects(block) => u64::from(block.count),
+            Stretch::Objects(block) => u128::from(block.count),
         }
+    }
+
+    /// How many values it has, as far as a number of 64 bits goes.
+    pub fn capped_count(self) -> u64
+        ensures { result ≡ min (count_of self) (2 ^ 64 - 1) }
+    {
+        u64::try_from(self.count()).unwrap_or(u64::MAX)
     }
 
     /// The value at an index.

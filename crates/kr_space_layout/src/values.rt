@@ -80,9 +80,9 @@ impl Values {
         requires { Fits stretch }
         ensures { OnOk result (self.new ≡ self.old ++ stretch ∷ []) }
     {
-        let total = u64::from(self.size) + stretch.count();
+        let total = u128::from(self.size) + stretch.count();
         let Ok(size) = u32::try_from(total) else {
-            return Err(NoMemory::at_sum(u64::from(self.size), stretch.count()));
+            return Err(NoMemory::at_sum(u64::from(self.size), stretch.capped_count()));
         };
         let start = self.size;
         let shape = self.shape.with(stretch, size);

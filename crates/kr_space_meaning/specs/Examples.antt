@@ -4,7 +4,7 @@ use Rattle.kr_ast.specs.declared.node.BinaryOperator.TheVariants.{Equal}
 use Rattle.kr_ast.specs.Tree as trees
 use Rattle.kr_ast.specs.Tree.{Tree, Nil}
 use Rattle.kr_ast.specs.declared.node.Primitive.TheVariants.{Int as IntName, Boolean as BooleanName}
-use Rattle.kr_classes_table.specs.Types.{JavaType, IntType, BooleanType, ArrayType}
+use Rattle.kr_classes_table.specs.Types.{JavaType, int_type, BooleanType, ArrayType}
 use Rattle.kr_value.specs.declared.value.Value.TheVariants.{Int, Bool as TruthValue, Null}
 use Rattle.kr_value.specs.declared.object.Class.TheVariants.{Object, Array}
 use Rattle.kr_value.specs.declared.object.Spot.TheVariants.{Field, Length, Element}
@@ -233,7 +233,7 @@ pub record Problems : Type 0 where
       ∷ record { name = codes "int[]"; class = Array 0; count = 2; spots = record { spot = Length; domain = int_items (1 ∷ []) } ∷ record { spot = Element 0; domain = int_items (7 ∷ []) } ∷ [] }
       ∷ record { name = codes "int[][]"; class = Array 1; count = 1; spots = record { spot = Length; domain = int_items (0 ∷ 2 ∷ []) } ∷ record { spot = Element 0; domain = Plain Null ∷ Objects 2 ∷ [] } ∷ record { spot = Element 1; domain = Plain Null ∷ Objects 2 ∷ [] } ∷ [] } ∷ []
   -- the array types that only the document names have numbers after the program's own
-  pub of_named_types : array_types with_arrays (of_arrays (Number (pos 0) ∷ []) (Number (pos 7) ∷ [])) ≡ ArrayType IntType ∷ ArrayType (ArrayType IntType) ∷ ArrayType BooleanType ∷ []
+  pub of_named_types : array_types with_arrays (of_arrays (Number (pos 0) ∷ []) (Number (pos 7) ∷ [])) ≡ ArrayType int_type ∷ ArrayType (ArrayType int_type) ∷ ArrayType BooleanType ∷ []
   pub of_parameters : parameters with_heir (with_params (given (codes "put.x") (Truth true ∷ []) ∷ [])) (codes "put") ≡ (Plain (TruthValue true) ∷ []) ∷ []
   pub of_numbers_given : parameters (node_and (rep_ok_of always ∷ method_of (codes "put") int ∷ [])) (with_parameter two_nodes (codes "put.x") (Range (negsuc 0) (pos 1) ∷ [])) (codes "put") ≡ (Plain (Int (negsuc 0)) ∷ int_items (0 ∷ 1 ∷ [])) ∷ []
   pub nodes_taken : refused (node ∷ []) two_nodes Listing ≡ None

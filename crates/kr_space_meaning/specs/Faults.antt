@@ -3,7 +3,7 @@
 use Rattle.std.specs.Prelude.{ℕ, ◌+◌, ◌==◌, Bool, true, false, not, ◌&&◌, ◌||◌, List, [], ◌∷◌, ◌++◌, length, flat_map, nat_lt, codes, Option, Some, None, is_none, if◌then◌else◌}
 use Rattle.std.specs.Int.Signed.{le_z}
 use Rattle.std.specs.List.{list_any}
-use Rattle.kr_classes_table.specs.Types.{JavaType, IntType, BooleanType, ClassType, is_same, is_reference}
+use Rattle.kr_classes_table.specs.Types.{JavaType, int_type, BooleanType, ClassType, is_same, is_reference}
 use Rattle.kr_classes_table.specs.Table.{Table, Heading, Parameter, Method, fields_of, number_of, is_assignable}
 use Rattle.kr_mean.specs.Collections.{is_same_value}
 use Rattle.kr_mean.specs.declared.mode.Mode.{Mode}
@@ -149,8 +149,8 @@ meant_fits table t Unknown = true
 
 -- a range that is empty has no value that could be unfit; a name is judged also where it has no objects
 abbrev pub fits : Table → FinDoc → JavaType → Item → Bool
-fits table document t (Number z) = is_same t IntType
-fits table document t (Range from to) = not (le_z from to) || is_same t IntType
+fits table document t (Number z) = is_same t int_type
+fits table document t (Range from to) = not (le_z from to) || is_same t int_type
 fits table document t (FinTruth b) = is_same t BooleanType
 fits table document t (Name name) = meant_fits table t (meant table.headings document name)
 

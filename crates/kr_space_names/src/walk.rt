@@ -9,12 +9,16 @@ use kr_base::NoMemory;
 use std::alloc::Global;
 
 /// Adds items, the last of them first.
-fn add_reversed(alloc: Global, left: &mut Vec<u32>, items: &[u32]) -> Result<(), NoMemory>
+#[inline(always)]
+fn add_reversed(left: &mut Vec<u32>, items: &[u32]) -> Result<(), NoMemory>
     ensures { OnOk result (left.new.items ≡ left.old.items ++ reverse items.now) }
 {
-    let mut turned = Vec::from_slice(alloc, items)?;
-    turned.reverse();
-    left.extend_from_slice(&turned)?;
+    left.reserve(items.len())?;
+    let mut next = items.len();
+    while next > 0 {
+        next -= 1;
+        left.push_reserved(items[next]);
+    }
     Ok(())
 }
 
@@ -52,7 +56,7 @@ pub(crate) fn nodes_of(alloc: Global, tree: &Tree) -> Result<Vec<u32>, NoMemory>
         let entry = tree.entry(node);
         add_own(&mut found, entry.node, node)?;
         let parts = entry.node.parts();
-        add_reversed(alloc, &mut left, parts.as_slice())?;
+        add_reversed(&mut left, parts.as_slice())?;
     }
     Ok(found)
 }

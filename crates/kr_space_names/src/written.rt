@@ -67,7 +67,7 @@ fn only_array(types: &Types, found: Option<u32>) -> Option<u32>
     };
     match types.form(number) {
         TypeForm::Array(_) => Some(number),
-        TypeForm::Int => None,
+        TypeForm::Number(_) => None,
         TypeForm::Boolean => None,
         TypeForm::Null => None,
         TypeForm::Void => None,

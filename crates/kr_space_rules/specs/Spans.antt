@@ -8,10 +8,10 @@ use Rattle.kr_space_layout.specs.declared.stretch.Stretch.{Stretch}
 use Rattle.kr_space_layout.specs.declared.stretch.Stretch.TheVariants.{Plain, Integers, Objects}
 use Rattle.kr_space_rules.specs.declared.spans.Span.{Span}
 
--- an integer, counted from the least one of 32 bits on, after the numbers of all other values
+-- an integer, counted from the least one of 64 bits on, after the numbers of all other values
 abbrev pub shifted : ℤ → ℕ
-shifted (pos n) = n + 6442450947
-shifted (negsuc n) = 6442450946 - n
+shifted (pos n) = n + 9223372041149743107
+shifted (negsuc n) = 9223372041149743106 - n
 
 abbrev pub number_of : Value → ℕ
 number_of Null = 0
@@ -33,10 +33,10 @@ start_of (Objects b) = b.first + 3
 abbrev pub covered : List Span → List ℕ
 covered spans = flat_map (λ s. range_with_len s.start s.count) spans
 
--- not below the least integer of 32 bits
+-- not below the least integer of 64 bits
 abbrev pub IsHigh : ℤ → Type 0
 IsHigh (pos n) = Unit {0}
-IsHigh (negsuc n) = n < 2147483648
+IsHigh (negsuc n) = n < 9223372036854775808
 
 -- a value that is determined by its number
 abbrev pub IsTold : Value → Type 0

@@ -1,16 +1,10 @@
--- Between crates: widths as the code has them, and the types that the keys of a table require.
+-- Between crates: the types that the keys of a table require.
 use Rattle.std.specs.Prelude.{ℕ, List, Option}
 use Rattle.kr_classes_table.specs.Types.{JavaType}
-use Rattle.kr_classes_table.specs.Numbers as numbers
 use Rattle.kr_space_meaning.specs.Keys.{field_type, parameter_type}
 use Rattle.kr_space_meaning.specs.Bounds.{Setting, root_of}
 use Rattle.kr_space_rules.specs.declared.widths.Keyed.{Keyed}
 use Rattle.kr_space_rules.specs.declared.widths.Keyed.TheVariants.{Field, Parameter}
-use Rattle.kr_space_rules.specs.declared.widths.Width.{Width}
-use Rattle.kr_space_rules.specs.declared.widths.Width.TheVariants.{Bits32}
-
-abbrev pub width_shown : Width → numbers.Width
-width_shown Bits32 = numbers.Bits32
 
 abbrev pub asked : Setting → Keyed → List ℕ → Option JavaType
 asked setting Field key = field_type setting.table key

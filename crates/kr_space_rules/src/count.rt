@@ -16,7 +16,7 @@ fn value_count(items: &[DomainEntry], blocks: &[Block]) -> u64
 {
     let mut count: u64 = 0;
     for item in items {
-        count = count.saturating_add(Stretch::of(*item, blocks).count());
+        count = count.saturating_add(Stretch::of(*item, blocks).capped_count());
     }
     count
 }

@@ -9,21 +9,19 @@ ghost use Rattle.kr_space_layout.specs.Items.{domain_of, integers};
 ghost use Rattle.kr_space_meaning.specs.Bounds.{all_of as all_objects, item_values, meant_values, setting_of, values_with};
 ghost use Rattle.kr_space_meaning.specs.Names.{Meant};
 ghost use Rattle.kr_space_names.specs.Meanings.{IsMeaning};
-ghost use Rattle.kr_space_meaning.specs.Limits.{IsInt, IsSmall};
+ghost use Rattle.kr_space_meaning.specs.Limits.{IsSmall};
 ghost use Rattle.kr_space_rules.specs.Entries.{AreBounds};
 ghost use Rattle.kr_space_rules.specs.ObjectDomains.{AreDeclared};
-ghost use Rattle.kr_space_rules.specs.Widths.{width_shown};
 
 use crate::bounds::{Bound, array_domain_of};
 use crate::objects::{Declared, object_domain_of};
-use crate::widths::Width;
 use kr_ast::Tree;
 use kr_base::{NoMemory, add_found};
 use kr_classes_names::{Heads, Types};
 use kr_fin::{FinDoc, Item as FinItem};
 use kr_space_layout::DomainEntry;
 use kr_space_names::{Meaning, meaning_of};
-use kr_value::Value;
+use kr_value::{Value, Width};
 use std::alloc::Global;
 
 /// The entry that is all objects of a domain, if there is one.
@@ -69,25 +67,12 @@ fn meant_entry(
     }
 }
 
-/// A number as a value of a width.
-fn number_value(width: Width, number: i64) -> Value
-    requires { IsInt number }
-    ensures { result ≡ number_of (width_shown width) number }
-{
-    match width {
-        Width::Bits32 => Value::Int(number as i32),
-    }
-}
-
 /// The numbers of a width from one to another, both included.
 fn range_entry(width: Width, from: i64, to: i64) -> DomainEntry
-    requires from { IsInt from }
-    requires to { IsInt to }
-    ensures { domain_of (result ∷ []) ≡ map (λ z. Plain (number_of (width_shown width) z)) (integers from to) }
+    ensures { domain_of (result ∷ []) ≡ map (λ z. Plain (number_of width z)) (integers from to) }
 {
-    match width {
-        Width::Bits32 => DomainEntry::Integers(from as i32, to as i32),
-    }
+    let _ = width;
+    DomainEntry::Integers(from, to)
 }
 
 /// An entry of a document, where numbers have a width: nothing where its name has no objects.
@@ -108,11 +93,11 @@ fn entry_of(
     requires few { length objects.now + length bounds.now < 2 ^ 32 }
     requires objects { AreDeclared document.now.objects objects.now (setting_of (map root trees.now) document.now).objects }
     requires bounds { AreBounds types.old document.now.arrays bounds.now (setting_of (map root trees.now) document.now).arrays }
-    ensures is { IfOk result (λ found. domain_of (option_to_list found) ≡ item_values (setting_of (map root trees.now) document.now) (width_shown width) item.now) }
+    ensures is { IfOk result (λ found. domain_of (option_to_list found) ≡ item_values (setting_of (map root trees.now) document.now) width item.now) }
     ensures extends { Extends types.old types.new }
 {
     match item {
-        FinItem::Number(number) => Ok(Some(DomainEntry::Plain(number_value(width, *number)))),
+        FinItem::Number(number) => Ok(Some(DomainEntry::Plain(Value::Int(*number)))),
         FinItem::Range(from, to) => Ok(Some(range_entry(width, *from, *to))),
         FinItem::Truth(truth) => Ok(Some(DomainEntry::Plain(Value::Bool(*truth)))),
         FinItem::Name(name) => {
@@ -141,7 +126,7 @@ pub fn entries_of(
     requires few { length objects.now + length bounds.now < 2 ^ 32 }
     requires objects { AreDeclared document.now.objects objects.now (setting_of (map root trees.now) document.now).objects }
     requires bounds { AreBounds types.old document.now.arrays bounds.now (setting_of (map root trees.now) document.now).arrays }
-    ensures are { IfOk result (λ found. domain_of found.items ≡ values_with (setting_of (map root trees.now) document.now) (width_shown width) items.now) }
+    ensures are { IfOk result (λ found. domain_of found.items ≡ values_with (setting_of (map root trees.now) document.now) width items.now) }
     ensures extends { Extends types.old types.new }
 {
     let mut found = Vec::new(alloc);

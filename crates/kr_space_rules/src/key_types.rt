@@ -27,7 +27,7 @@ fn element_of(types: &Types, found: Option<u32>) -> Option<u32>
     };
     match types.form(number) {
         TypeForm::Array(element) => Some(element),
-        TypeForm::Int => None,
+        TypeForm::Number(_) => None,
         TypeForm::Boolean => None,
         TypeForm::Null => None,
         TypeForm::Void => None,

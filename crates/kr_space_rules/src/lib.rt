@@ -27,4 +27,4 @@ pub use parameters::{Parameter, instance_parameters};
 pub use slots::note_slots;
 pub use twice::has_twice;
 pub use unfit::note_unfit;
-pub use widths::{Keyed, Width, width_asked};
+pub use widths::{Keyed, width_asked};

@@ -11,32 +11,32 @@ use std::alloc::Global;
 /// Numbers that follow each other.
 #[derive(Clone, Copy)]
 pub(crate) struct Span {
-    pub(crate) start: u64,
-    pub(crate) count: u64,
+    pub(crate) start: u128,
+    pub(crate) count: u128,
 }
 
 /// The number of an integer.
-fn shifted(number: i32) -> u64
+fn shifted(number: i64) -> u128
     ensures { result ≡ shifted_to number }
 {
-    (i64::from(number) + 6_442_450_947) as u64
+    (i128::from(number) + 9_223_372_041_149_743_107) as u128
 }
 
 /// The number of a value.
-fn number_of(value: Value) -> u64
+fn number_of(value: Value) -> u128
     ensures { result ≡ number_in value }
 {
     match value {
         Value::Null => 0,
         Value::Bool(false) => 1,
         Value::Bool(true) => 2,
-        Value::Ref(object) => u64::from(object) + 3,
+        Value::Ref(object) => u128::from(object) + 3,
         Value::Int(number) => shifted(number),
     }
 }
 
 /// The number of a stretch's first value.
-fn start_of(stretch: Stretch) -> u64
+fn start_of(stretch: Stretch) -> u128
     requires { Fits stretch }
     ensures is { result ≡ first_number stretch }
     ensures told { AreTold stretch }
@@ -44,7 +44,7 @@ fn start_of(stretch: Stretch) -> u64
     match stretch {
         Stretch::Plain(value) => number_of(value),
         Stretch::Integers(from, _) => shifted(from),
-        Stretch::Objects(block) => u64::from(block.first) + 3,
+        Stretch::Objects(block) => u128::from(block.first) + 3,
     }
 }
 

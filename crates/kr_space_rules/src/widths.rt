@@ -5,7 +5,7 @@ ghost use Rattle.kr_classes_names.specs.Types.{Extends};
 ghost use Rattle.kr_space_names.specs.Texts.{Stands};
 ghost use Rattle.kr_space_meaning.specs.Bounds.{setting_of, width_for as width_of_type};
 ghost use Rattle.kr_space_rules.specs.Classes.{AreClasses, AreTyped, files_of};
-ghost use Rattle.kr_space_rules.specs.Widths.{asked, width_shown};
+ghost use Rattle.kr_space_rules.specs.Widths.{asked};
 
 use crate::classes::Classes;
 use crate::key_types::{field_type, parameter_type};
@@ -13,13 +13,8 @@ use kr_base::NoMemory;
 use kr_classes_names::Types;
 use kr_fin::FinDoc;
 use kr_space_names::class_of;
+use kr_value::Width;
 use std::alloc::Global;
-
-/// How many bits whole numbers have.
-#[derive(Clone, Copy, PartialEq, Eq)]
-pub enum Width {
-    Bits32,
-}
 
 /// Whose domains the keys of a table name: those of fields and elements, or those of parameters.
 #[derive(Clone, Copy, PartialEq, Eq)]
@@ -31,7 +26,7 @@ pub enum Keyed {
 /// The width of the numbers of a type, where there is one.
 #[tactic(auto, unfolding(kr_space_meaning::specs::Bounds::width_for))]
 fn width_for(types: &Types, found: Option<u32>) -> Width
-    ensures { (t : Option JavaType) → Stands types.now found t → width_shown result ≡ width_of_type t }
+    ensures { (t : Option JavaType) → Stands types.now found t → result ≡ width_of_type t }
 {
     let _ = types;
     let _ = found;
@@ -73,7 +68,7 @@ pub fn width_asked(
 ) -> Result<Width, NoMemory>
     requires classes { AreClasses classes.now }
     requires typed { AreTyped classes.now types.old }
-    ensures width { IfOk result (λ width. width_shown width ≡ width_of_type (asked (setting_of (files_of classes.now) document.now) keyed key.now)) }
+    ensures width { IfOk result (λ width. width ≡ width_of_type (asked (setting_of (files_of classes.now) document.now) keyed key.now)) }
     ensures extends { Extends types.old types.new }
 {
     let found = type_asked(alloc, classes, types, document, keyed, key)?;

@@ -5,4 +5,9 @@ pub mod Folds
 pub mod Sections
 pub mod Logs
 pub mod Taken
+pub mod Numbered
+pub mod Chains
+pub mod Views
+pub mod Opened
+pub mod Replays
 mod Examples

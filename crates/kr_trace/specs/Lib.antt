@@ -7,3 +7,4 @@ pub mod Found
 pub mod Reading
 pub mod Tables
 pub mod Stages
+pub mod Chains

@@ -1,8 +1,6 @@
 // The end of a log, and the last line.
 ghost use Rattle.std.specs.Prelude.{◌≡◌, ◌+◌, ◌<◌, ◌^◌, length};
-ghost use Rattle.std.specs.List.{list_all};
 ghost use Rattle.kr_base.specs.Bounds.{is_same, less};
-ghost use Rattle.kr_core.specs.States.{is_closed};
 ghost use Rattle.kr_core.specs.Openings.{end_of};
 ghost use Rattle.kr_trace.specs.Checked.{agrees, ended_with, is_whole};
 ghost use Rattle.kr_trace.specs.Stages.{Answers};
@@ -11,21 +9,9 @@ use crate::ending::Last;
 use crate::judging::Listing;
 use crate::reading::bad;
 use crate::refusal::{TraceRefusal, TraceRule};
+use crate::replay::{Replay, is_at};
 use crate::rows::Rows;
-use kr_base::{Bound, Cut, Span};
-use kr_core::{Core, Segment};
-
-/// Whether no segment has an owner or a remainder.
-fn are_closed(segments: &[Segment]) -> bool
-    ensures { result ≡ list_all is_closed segments.now }
-{
-    for segment in segments {
-        if !segment.is_closed() {
-            return false;
-        }
-    }
-    true
-}
+use kr_base::{Bound, Span};
 
 fn is_same(a: &Bound, b: &Bound) -> bool
     ensures { result ≡ is_same a.now b.now }
@@ -33,14 +19,8 @@ fn is_same(a: &Bound, b: &Bound) -> bool
     !a.is_below(b) && !b.is_below(a)
 }
 
-fn is_at(bound: &Bound, cut: &Cut) -> bool
-    ensures { result ≡ is_same bound.now (Bound.At cut.now) }
-{
-    !bound.is_below_cut(cut) && !bound.is_above_cut(cut)
-}
-
 /// Whether all of the span was scanned, and none was spent.
-fn is_whole(span: &Span, core: &Core) -> bool
+fn is_whole(span: &Span, core: &Replay) -> bool
     ensures { result ≡ is_whole span.now core.now }
 {
     let end = core.end();
@@ -55,7 +35,7 @@ fn is_whole(span: &Span, core: &Core) -> bool
 }
 
 /// Whether the last line says what rows and events say.
-fn agrees(span: &Span, rows: &Rows, core: &Core, last: &Last) -> bool
+fn agrees(span: &Span, rows: &Rows, core: &Replay, last: &Last) -> bool
     ensures { result ≡ agrees span.now rows.now core.now last.now }
 {
     match last {
@@ -75,14 +55,14 @@ fn agrees(span: &Span, rows: &Rows, core: &Core, last: &Last) -> bool
 pub(crate) fn end_log(
     span: &Span,
     listing: &Listing,
-    core: &Core,
+    core: &Replay,
     number: u64,
     count: u64,
 ) -> Result<u64, TraceRefusal>
     requires { number + count + 1 < 2 ^ 64 }
     ensures { Answers (ended_with span.now listing.now.rows listing.now.last number count core.now) result }
 {
-    if !are_closed(core.segments()) {
+    if !core.are_closed() {
         return Err(bad(number + count + 1, TraceRule::Unfinished));
     }
     if agrees(span, &listing.rows, core, &listing.last) {

@@ -1,5 +1,5 @@
 // A text, checked.
-ghost use Rattle.std.specs.Prelude.{◌≡◌, ◌≤◌, ◌<◌, ◌+◌, ◌^◌, IfOk, length};
+ghost use Rattle.std.specs.Prelude.{◌≡◌, ◌<◌, ◌+◌, ◌^◌, length};
 ghost use Rattle.kr_text.specs.Splitting.{is_empty, lines_in, unended};
 ghost use Rattle.kr_core.specs.Cutting.{cuts_for};
 ghost use Rattle.kr_core.specs.Openings.{opening};
@@ -13,9 +13,9 @@ use crate::judging::{Listing, take_lines};
 use crate::parts::{Parts, parts_of};
 use crate::reading::{bad, read_rows};
 use crate::refusal::{TraceRefusal, TraceRule};
+use crate::replay::Replay;
 use crate::rows::Rows;
-use kr_base::{NoMemory, Span};
-use kr_core::{Core, cuts_for};
+use kr_base::Span;
 use std::alloc::Global;
 
 /// The most bytes of a text that is checked.
@@ -33,21 +33,12 @@ fn is_test(last: &Option<Last>) -> bool
     }
 }
 
-/// The machine in the state in which workers begin a span.
-fn open(alloc: Global, span: &Span, workers: u32) -> Result<Core, NoMemory>
-    requires { 0 < workers }
-    ensures { IfOk result (λ core. core ≡ opening span.now (cuts_for span.now workers)) }
-{
-    let cuts = cuts_for(alloc, span, workers)?;
-    Core::open(alloc, span, cuts.as_slice())
-}
-
 /// Checks the events and the last line, which has a number.
 fn check_events(
     alloc: Global,
     span: &Span,
     listing: &Listing,
-    core: &mut Core,
+    core: &mut Replay,
     number: u64,
     text: &[u8],
 ) -> Result<u64, TraceRefusal>
@@ -67,7 +58,7 @@ fn check_after(
     workers: u32,
     rows: Rows,
     last: Option<Last>,
-    mut core: Core,
+    mut core: Replay,
     text: &[u8],
 ) -> Result<u64, TraceRefusal>
     requires ascend { Ascend rows.keys }
@@ -107,7 +98,7 @@ fn check_parts(
         last,
         events,
     } = parts;
-    let core = open(alloc, span, workers)?;
+    let core = Replay::open(alloc, span, workers)?;
     match read_rows(alloc, is_test(&last), &span.after, core.end(), count, text) {
         Ok(rows) => check_after(alloc, span, workers, rows, last, core, events),
         Err(refusal) => Err(refusal),

@@ -1,7 +1,6 @@
 // Events, taken one after another.
-ghost use Rattle.std.specs.Prelude.{◌≡◌, ◌+◌, ◌<◌, ◌^◌, true, length, IfOk, OnOk};
+ghost use Rattle.std.specs.Prelude.{◌≡◌, ◌+◌, ◌<◌, ◌^◌, length, IfOk};
 ghost use Rattle.kr_text.specs.Splitting.{is_empty, lines_in, unended};
-ghost use Rattle.kr_core.specs.Steps.{after, fits};
 ghost use Rattle.kr_trace.specs.Checked.{event_after, events_from, has_rows, is_by, is_written};
 ghost use Rattle.kr_trace.specs.Stages.{Judges, Reaches};
 ghost use Rattle.kr_trace.specs.Tables.{Ascend};
@@ -11,9 +10,10 @@ use crate::ending::Last;
 use crate::events::event_in;
 use crate::reading::bad;
 use crate::refusal::{TraceRefusal, TraceRule};
+use crate::replay::Replay;
 use crate::rows::Rows;
-use kr_base::{Bound, NoMemory};
-use kr_core::{Core, CoreRefusal, Event, Segment};
+use kr_base::Bound;
+use kr_core::{Event, Segment};
 use kr_text::first_line;
 use std::alloc::Global;
 
@@ -53,7 +53,7 @@ fn is_written(listing: &Listing, reach: &Bound, count: u64, segment: &Segment) -
 }
 
 /// Whether a report's rows are those that were written.
-fn has_rows(listing: &Listing, core: &Core, event: &Event) -> bool
+fn has_rows(listing: &Listing, core: &Replay, event: &Event) -> bool
     requires { Ascend listing.now.rows.keys }
     ensures { result ≡ has_rows listing.now.last listing.now.rows.keys core.now event.now }
 {
@@ -77,7 +77,7 @@ fn has_rows(listing: &Listing, core: &Core, event: &Event) -> bool
 }
 
 /// The rule that an event breaks.
-fn broken_by(listing: &Listing, core: &Core, event: &Event) -> Option<TraceRule>
+fn broken_by(listing: &Listing, core: &Replay, event: &Event) -> Option<TraceRule>
     requires { Ascend listing.now.rows.keys }
     ensures { Judges listing.now core.now event.now result }
 {
@@ -91,23 +91,11 @@ fn broken_by(listing: &Listing, core: &Core, event: &Event) -> Option<TraceRule>
     }
 }
 
-/// Takes an event that fits.
-fn take_event(core: &mut Core, event: Event) -> Result<(), NoMemory>
-    requires { fits core.old event ≡ true }
-    ensures { OnOk result (core.new ≡ after core.old event) }
-{
-    match core.apply(event) {
-        Ok(_) => Ok(()),
-        Err(CoreRefusal::NoMemory(why)) => Err(why),
-        Err(CoreRefusal::Illegal(_)) => unreachable!(),
-    }
-}
-
 /// Takes the event on a line.
 fn take_line(
     alloc: Global,
     listing: &Listing,
-    core: &mut Core,
+    core: &mut Replay,
     number: u64,
     line: &[u8],
 ) -> Result<(), TraceRefusal>
@@ -119,7 +107,7 @@ fn take_line(
     };
     match broken_by(listing, core, &event) {
         Some(rule) => Err(bad(number, rule)),
-        None => Ok(take_event(core, event)?),
+        None => Ok(core.apply(event)?),
     }
 }
 
@@ -127,7 +115,7 @@ fn take_line(
 pub(crate) fn take_lines(
     alloc: Global,
     listing: &Listing,
-    core: &mut Core,
+    core: &mut Replay,
     first: u64,
     text: &[u8],
 ) -> Result<u64, TraceRefusal>

@@ -2,15 +2,18 @@
 #![tactic(auto)]
 
 mod agreeing;
+mod chain;
 mod checking;
 mod ending;
 mod events;
 mod files;
 mod judging;
 mod laws;
+mod nodes;
 mod parts;
 mod reading;
 mod refusal;
+mod replay;
 mod row;
 mod rows;
 mod words;

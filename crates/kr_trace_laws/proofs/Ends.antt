@@ -115,10 +115,8 @@ ends {R} es span workers log new h =
     let kept = stays es (opening span (cuts_for span workers)) log new h.unstopped h.runs unspent in
     let all : is_whole span new ≡ true = whole_is span new unspent kept.1 in
     let counted : tried_in new ≡ capped (length own) = listed.tried ∙ ap (λ (xs : List (Entry R)). capped (length xs)) same in
-    let few = h.few in
-    let tried : length own ≡ tried_in new = omega (arith, counted, few) in
     record {
       keys_are = ap valid_keys (all_through (within a span.upto es) h.unspent ∙ same_end es span);
-      listed = λ failing. listed_says span (valid_keys own) failing new (length own) tried all;
-      tested = λ failing. tested_says span (valid_keys own) failing new (length own) tried all;
+      listed = λ failing. listed_says span (valid_keys own) failing new (capped (length own)) (sym counted) all;
+      tested = λ failing. tested_says span (valid_keys own) failing new (capped (length own)) (sym counted) all;
     }

@@ -1,9 +1,10 @@
 -- To be believed: a listing or a test of all rows of a span in which no entry is spent.
-use Rattle.std.specs.Prelude.{◌≡◌, ℕ, ◌^◌, ◌<◌, List, [], ◌∷◌, true, length, None}
+use Rattle.std.specs.Prelude.{◌≡◌, ℕ, List, [], ◌∷◌, true, length, None}
 use Rattle.std.specs.List.{list_all}
 use Rattle.kr_base.specs.declared.span.Bound.TheVariants.{At}
 use Rattle.kr_base.specs.declared.span.Span.{Span}
 use Rattle.kr_base.specs.declared.entry.Entry.{Entry}
+use Rattle.kr_base.specs.Causes.{capped}
 use Rattle.kr_base.specs.Entries.{Ascends, entries_in, within}
 use Rattle.kr_core.specs.declared.event.Event.{Event}
 use Rattle.kr_core.specs.declared.event.Event.TheVariants.{Take, Steal, Report, GiveUp, Drain, StopAt, Look}
@@ -34,7 +35,6 @@ pub record EndsWhole {R : Type 0} (es : List (Entry R)) (span : Span) (workers :
   pub closed : list_all is_closed new.segments ≡ true
   pub unstopped : HasNoStop log
   pub unspent : spent_in (entries_in (At span.after) span.upto es) ≡ None
-  pub few : length (entries_in (At span.after) span.upto es) < 2 ^ 64
 
 -- Then the rows of the span's entries are those up to its end, and the line of how many they are, how many fail and how many entries
 -- there are says what they and the log say.
@@ -45,4 +45,4 @@ pub record SaysWhole {R : Type 0} (es : List (Entry R)) (span : Span) (new : Sta
 
 abbrev pub EndsLaw : Type 0 → Type 0
 EndsLaw R = (es : List (Entry R)) (span : Span) (workers : ℕ) (log : List Event) (new : State) → EndsWhole es span workers log new →
-    SaysWhole es span new (valid_keys (entries_in (At span.after) span.upto es)) (length (entries_in (At span.after) span.upto es))
+    SaysWhole es span new (valid_keys (entries_in (At span.after) span.upto es)) (capped (length (entries_in (At span.after) span.upto es)))

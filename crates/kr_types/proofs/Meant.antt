@@ -1,8 +1,8 @@
 -- The meanings of a file's nodes, while one more node is added.
-use Rattle.std.proofs.Common.{◌≡◌, refl, sym, ap, ◌∙◌, subst, ℕ, zero, suc, ◌<◌, ◌≤◌, ◌⊎◌, inl, inr, List, [], ◌∷◌, ◌++◌, length, get_or, Some, arith}
+use Rattle.std.proofs.Common.{◌≡◌, refl, sym, ap, ◌∙◌, subst, ℕ, zero, suc, ◌<◌, ◌≤◌, ◌⊎◌, inl, inr, List, [], ◌∷◌, ◌++◌, length, Some, arith}
 use Rattle.std.specs.Prelude.{IfOk, Option, Result, Ok, Err, slice_get, slice_index_or}
 use Rattle.std.proofs.lemmas.List.{length-append}
-use Rattle.std.proofs.lemmas.Option.{get_or_from_slice_get, slice_get_read, slice_get_within}
+use Rattle.std.proofs.lemmas.Option.{get_or_from_slice_get, slice_get_within}
 use Rattle.kr_base.specs.declared.place.Place.{Place}
 use Rattle.kr_base.proofs.ListLemmas.{slice_get-push}
 use Rattle.kr_ast.specs.Tree.{Tree}
@@ -77,11 +77,11 @@ object_scope s l site i a p n lt tree part runs =
     (site.scopes (table_in s.trees.now) (values_of (table_in s.trees.now))).hands i 0 a lt part ∙ (ap (λ (t : Tree). handed (scope_of s i) t 0) tree ∙ runs)
 
 -- the class before a dot is the one that the node there means
-pub class_said : (s : Site) (l : TypeList) (ns : List Note) (ms : List Meaning) (i a : ℕ) (x : Meaning) (c : Option ℕ) → AreMeant s l ns ms → length ms ≡ length ns → length ns < length (tree_there s).entries → a < length ns → x ≡ get_or ms a x
+pub class_said : (s : Site) (l : TypeList) (ns : List Note) (ms : List Meaning) (i a : ℕ) (x : Meaning) (c : Option ℕ) → AreMeant s l ns ms → length ms ≡ length ns → length ns < length (tree_there s).entries → a < length ns → slice_get ms a ≡ Some x
     → c ≡ meanings.class_meant (meaning_shown (table_in s.trees.now) x) → scope_of s a ≡ value (scope_of s i) → c ≡ class_before (scope_of s i) (tree_in (tree_there s) a)
 class_said s l ns ms i a x c meant count few lt at is scope =
     let e = some_entry (tree_there s).entries a (omega (arith, few, lt)) in
-    let m = meant a e.0 x e.1 (slice_get_read ms (length ms) a x refl (omega (arith, lt, count)) at) in
+    let m = meant a e.0 x e.1 at in
     let t = tree_in (tree_there s) a in
     is ∙ (ap meanings.class_meant m.shown ∙ (before_meant (scope_of s a) t (object_noted (shown_notes l ns) e.0.node) ∙ (ap (λ (r : Scope). class_before r t) scope ∙ before_value (scope_of s i) t)))
 

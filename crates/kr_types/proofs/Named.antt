@@ -7,7 +7,7 @@ use Rattle.kr_ast.specs.Tree as trees
 use Rattle.kr_ast.specs.Tree.{Tree}
 use Rattle.kr_ast.specs.declared.node.Primitive.{Primitive}
 use Rattle.kr_ast.specs.declared.node.Primitive.TheVariants.{Int, Boolean, Void}
-use Rattle.kr_classes_table.specs.Types.{JavaType, IntType, BooleanType, NullType, VoidType, ClassType, ArrayType, SetType, ListType, InferredType, UnknownType, AppliedType}
+use Rattle.kr_classes_table.specs.Types.{JavaType, NumberType, BooleanType, NullType, VoidType, ClassType, ArrayType, SetType, ListType, InferredType, UnknownType, AppliedType}
 use Rattle.kr_classes_table.specs.Table.{Heading, applied, class_at, class_named, class_or, classes_from, is_number, line_of, line_within, number_of, outer_of, super_of, table_of, type_named}
 use Rattle.kr_classes_table.proofs.Tables.{long, bounded_from}
 
@@ -32,7 +32,7 @@ not_applied (UnknownType [] n) t c e = go (bytes_eq n (codes "HashSet")) (bytes_
     go false true f = cc (f)
     go false false f = cc (f)
 not_applied (UnknownType (x ∷ xs) n) t c e = cc (e)
-not_applied IntType t c e = cc (e)
+not_applied (NumberType w) t c e = cc (e)
 not_applied BooleanType t c e = cc (e)
 not_applied NullType t c e = cc (e)
 not_applied VoidType t c e = cc (e)

@@ -2,3 +2,4 @@ pub mod Programs
 pub mod Refusals
 pub mod Sites
 pub mod Kinds
+pub mod MeaningLists

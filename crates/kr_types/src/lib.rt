@@ -8,6 +8,7 @@ mod files;
 mod group;
 mod growing;
 mod lists;
+mod meaning_list;
 mod meanings;
 mod nodes;
 mod notes;
@@ -19,5 +20,6 @@ mod statements;
 mod types;
 
 pub use files::check;
+pub use meaning_list::MeaningList;
 pub use program::{Program, TypedFile};
 pub use refusal::TypeRefusal;

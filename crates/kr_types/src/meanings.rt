@@ -35,7 +35,7 @@ fn class_of_object(
     requires handed { scope_of _site.now object ≡ value (scope_of _site.now _at) }
     ensures { result ≡ class_before (scope_of _site.now _at) (tree_in (tree_there _site.now) object) }
 {
-    noted.meanings[object as usize].class()
+    noted.meanings.at(object).class()
 }
 
 /// The class before the dot of a node, if it has one.

@@ -15,6 +15,7 @@ ghost use Rattle.kr_types.specs.Sites.{AreKept, IsMeantBy, IsSite, IsSpot, IsSpo
 use crate::context::Context;
 use crate::group::{Bare, Group, Named, group_of};
 use crate::lists::link_note;
+use crate::meaning_list::MeaningList;
 use crate::meanings::{class_before, node_meaning};
 use crate::nodes::{bare_note, named_note};
 use crate::site::{Inside, Site, Spot};
@@ -30,27 +31,26 @@ use std::alloc::Global;
 #[derive(Drop)]
 pub(crate) struct Noted {
     pub(crate) notes: NoteList,
-    pub(crate) meanings: Vec<Meaning>,
+    pub(crate) meanings: MeaningList,
     /// the class of the last of them
     pub(crate) inside: Inside,
 }
 
 impl Noted {
-    /// Empty, with room for this many nodes.
-    fn with_room(alloc: Global, nodes: usize) -> Result<Noted, NoMemory>
-        ensures notes { IfOk result (λ k. k.notes ≡ []) }
-        ensures meanings { IfOk result (λ k. k.meanings.items ≡ []) }
-        ensures inside { IfOk result (λ k. (g : Setting) → class_there g k.inside.declared ≡ k.inside.class) }
+    /// None. Allocates nothing.
+    fn new(alloc: Global) -> Noted
+        ensures notes { result.notes ≡ [] }
+        ensures meanings { result.meanings.items ≡ [] }
+        ensures inside { (g : Setting) → class_there g result.inside.declared ≡ result.inside.class }
     {
-        let notes = NoteList::with_room(alloc, nodes)?;
-        Ok(Noted {
-            notes,
-            meanings: Vec::with_capacity(alloc, nodes)?,
+        Noted {
+            notes: NoteList::new(alloc),
+            meanings: MeaningList::new(alloc),
             inside: Inside {
                 declared: None,
                 class: 0,
             },
-        })
+        }
     }
 }
 
@@ -188,7 +188,7 @@ pub(crate) fn notes_of(alloc: Global, site: &Site<'_>, types: &mut Types) -> Res
     ensures meant { IfOk result (λ k. (i : ℕ) → i < length (tree_there site.now).entries → IsMeant (table_in site.now.trees.now) (scope_of site.now i) (tree_in (tree_there site.now) i) (meaning_at k.meanings.items i)) }
 {
     let nodes = site.tree().nodes();
-    let mut noted = Noted::with_room(alloc, nodes as usize)?;
+    let mut noted = Noted::new(alloc);
     for at in 0..nodes {
         add_node(alloc, site, types, &mut noted, at)?;
     }

@@ -10,6 +10,7 @@ ghost use Rattle.kr_types_resolving.specs.Shown.{IsMeaningWithin, IsMeant};
 ghost use Rattle.kr_types.specs.Programs.{IsProgram, all_entries, scope_there};
 ghost use Rattle.kr_types.specs.declared.program.TypedFile.{TypedFile as Typed};
 
+use crate::meaning_list::MeaningList;
 use kr_ast::Tree;
 use kr_base::Place;
 use kr_classes::ClassTable;
@@ -24,7 +25,7 @@ use kr_types_scopes::Scopes;
 pub struct TypedFile {
     pub scopes: Scopes,
     pub notes: NoteList,
-    pub meanings: Vec<Meaning>,
+    pub meanings: MeaningList,
 }
 
 /// The files of a program, their class table with all types by number, their fields and methods by number, and the
@@ -84,6 +85,6 @@ impl Program {
         ensures within { IsMeaningWithin (table_in self.now.trees.items) result }
         ensures meant { (t : Typed) → slice_get self.now.files.items file ≡ Some t → IsMeant (table_in self.now.trees.items) (scope_there self.now.trees.items file t node) (tree_in (file_at self.now.trees.items file) node) result }
     {
-        self.files[file as usize].meanings[node as usize]
+        self.files[file as usize].meanings.at(node)
     }
 }

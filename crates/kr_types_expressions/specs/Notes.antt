@@ -7,9 +7,14 @@ use Rattle.kr_types_meaning.specs.Noting as noting
 use Rattle.kr_classes_names.specs.Types.{TypeList}
 use Rattle.kr_types_judging.specs.declared.known.Known.{Known}
 use Rattle.kr_types_judging.specs.declared.known.Known.TheVariants as known
+use Rattle.kr_types_judging.specs.declared.known.Typed.TheVariants as typed
 use Rattle.kr_types_judging.specs.declared.notes.Note.{Note}
 use Rattle.kr_types_judging.specs.Shown.{IsNoteWithin, note_shown}
 use Rattle.kr_types_expressions.specs.Links.{IsLinked}
+
+-- what is known of a node without a type
+abbrev pub untyped : Known
+untyped = known.One typed.Untyped
 
 -- the note of a node in which nothing is broken
 abbrev pub sound_note : Known → Note

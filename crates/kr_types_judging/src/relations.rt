@@ -13,6 +13,7 @@ ghost use Rattle.kr_types_judging.specs.Shown.{are_comparable, are_related_refer
 use kr_classes_members::Members;
 use kr_classes_names::{TypeForm, Types};
 use kr_classes_table::{ClassId, TypeId};
+use kr_value::Width;
 
 /// Whether it is `int`.
 pub fn is_int(types: &Types, number: TypeId) -> bool
@@ -20,7 +21,9 @@ pub fn is_int(types: &Types, number: TypeId) -> bool
     ensures { result ≡ rules.is_int (type_at types.now number) }
 {
     match types.form(number) {
-        TypeForm::Int => true,
+        TypeForm::Number(width) => match width {
+            Width::Bits32 => true,
+        },
         _ => false,
     }
 }
@@ -142,7 +145,7 @@ pub(crate) fn promoted_alone(types: &Types, number: TypeId) -> Option<TypeId>
     ensures is { option_map (type_at types.now) result ≡ promotion.promoted_alone (type_at types.now number) }
 {
     match types.form(number) {
-        TypeForm::Int => Some(number),
+        TypeForm::Number(_) => Some(number),
         _ => None,
     }
 }
@@ -155,7 +158,9 @@ pub(crate) fn promoted(types: &Types, a: TypeId, b: TypeId) -> Option<TypeId>
     ensures is { option_map (type_at types.now) result ≡ promotion.promoted (type_at types.now a) (type_at types.now b) }
 {
     match types.form(a) {
-        TypeForm::Int => promoted_alone(types, b),
+        TypeForm::Number(width) => match width {
+            Width::Bits32 => promoted_alone(types, b),
+        },
         _ => None,
     }
 }
@@ -166,7 +171,7 @@ pub(crate) fn is_number(types: &Types, number: TypeId) -> bool
     ensures { result ≡ promotion.is_number (type_at types.now number) }
 {
     match types.form(number) {
-        TypeForm::Int => true,
+        TypeForm::Number(_) => true,
         _ => false,
     }
 }
@@ -178,7 +183,9 @@ pub(crate) fn are_numbers(types: &Types, a: TypeId, b: TypeId) -> bool
     ensures { result ≡ promotion.are_numbers (type_at types.now a) (type_at types.now b) }
 {
     match types.form(a) {
-        TypeForm::Int => is_number(types, b),
+        TypeForm::Number(width) => match width {
+            Width::Bits32 => is_number(types, b),
+        },
         _ => false,
     }
 }

@@ -4,7 +4,7 @@ use Rattle.std.specs.Prelude.{[], ◌∷◌, map, flat_map, length, take, true, 
 use Rattle.kr_ast.specs.declared.node.BinaryOperator.TheVariants.{Add, Less}
 use Rattle.kr_ast.specs.Tree as trees
 use Rattle.kr_ast.specs.Tree.{Nil}
-use Rattle.kr_classes_table.specs.Types.{IntType, BooleanType, NullType, ClassType, SetType, ListType, ArrayType, InferredType}
+use Rattle.kr_classes_table.specs.Types.{int_type, BooleanType, NullType, ClassType, SetType, ListType, ArrayType, InferredType}
 use Rattle.kr_classes_table.specs.Table.{table_of, class_at, ancestors, fields_of, field_named, method_named, constructor_parameters, is_assignable, are_related}
 use Rattle.kr_classes_table.specs.Nodes.{nodes}
 use Rattle.kr_classes_table.specs.Arrays.{array_types_of, array_number}
@@ -41,7 +41,7 @@ inherited : option_map (λ m. m.class) (method_named table 3 (codes "t")) ≡ So
 unfolding table_of is_constant evaluated values_of judged
 inherited = refl
 
-constructor : map (λ p. p.type) (constructor_parameters table 3) ≡ IntType ∷ []
+constructor : map (λ p. p.type) (constructor_parameters table 3) ≡ int_type ∷ []
 unfolding table_of is_constant evaluated values_of judged
 constructor = refl
 
@@ -49,7 +49,7 @@ values : map (λ k. k.value) (values_of table) ≡ Whole (pos 1) ∷ Whole (pos 
 unfolding table_of is_constant evaluated values_of judged
 values = refl
 
-older_local : meant scope (codes "x") ≡ LocalName 0 IntType
+older_local : meant scope (codes "x") ≡ LocalName 0 int_type
 unfolding table_of is_constant evaluated values_of judged
 older_local = refl
 
@@ -85,7 +85,7 @@ own_method : option_map (λ m. m.class) (method_meant nested (codes "m")) ≡ So
 unfolding table_of is_constant evaluated values_of judged
 own_method = refl
 
-of_local : type_of scope (variable (codes "x")) ≡ Some IntType
+of_local : type_of scope (variable (codes "x")) ≡ Some int_type
 unfolding table_of is_constant evaluated values_of judged
 of_local = refl
 
@@ -133,11 +133,11 @@ inferred : are_related table (SetType (ClassType 0)) (SetType InferredType) ≡ 
 unfolding table_of is_constant evaluated values_of judged
 inferred = refl
 
-null : is_assignable table NullType (ArrayType IntType) ≡ true
+null : is_assignable table NullType (ArrayType int_type) ≡ true
 unfolding table_of is_constant evaluated values_of judged
 null = refl
 
-null_to_int : is_assignable table NullType IntType ≡ false
+null_to_int : is_assignable table NullType int_type ≡ false
 unfolding table_of is_constant evaluated values_of judged
 null_to_int = refl
 
@@ -145,7 +145,7 @@ of_value : type_of (under_minus scope) (trees.Number (at 0 9 9) 2147483648) ≡ 
 unfolding table_of is_constant evaluated values_of judged
 of_value = refl
 
-numbered : array_types_of with_arrays ≡ ArrayType IntType ∷ ArrayType (ArrayType IntType) ∷ ArrayType BooleanType ∷ ArrayType (ClassType 0) ∷ ArrayType (ClassType 1) ∷ []
+numbered : array_types_of with_arrays ≡ ArrayType int_type ∷ ArrayType (ArrayType int_type) ∷ ArrayType BooleanType ∷ ArrayType (ClassType 0) ∷ ArrayType (ClassType 1) ∷ []
 numbered = refl
 
 number_of_type : array_number (array_types_of with_arrays) (ArrayType (ClassType 0)) ≡ Some 3
@@ -154,7 +154,7 @@ number_of_type = refl
 unnamed : array_number (array_types_of with_arrays) (ArrayType (ClassType 2)) ≡ None
 unnamed = refl
 
-elements_first : array_types_of arrays_of_collections ≡ ArrayType IntType ∷ ArrayType (SetType (ArrayType IntType)) ∷ ArrayType BooleanType ∷ ArrayType (ListType (ArrayType BooleanType)) ∷ []
+elements_first : array_types_of arrays_of_collections ≡ ArrayType int_type ∷ ArrayType (SetType (ArrayType int_type)) ∷ ArrayType BooleanType ∷ ArrayType (ListType (ArrayType BooleanType)) ∷ []
 elements_first = refl
 
 parts_in_order : flat_map numbers_in (nodes every_kind) ≡ 0 ∷ 1 ∷ 2 ∷ 3 ∷ 4 ∷ 5 ∷ 6 ∷ 7 ∷ 8 ∷ 9 ∷ 10 ∷ 11 ∷ 12 ∷ 13 ∷ 14 ∷ 15 ∷ 16 ∷ 17 ∷ 18 ∷ 19 ∷ 20 ∷ 21 ∷ 22 ∷ 23 ∷ 24 ∷ 25 ∷ 26 ∷ 27 ∷ 28 ∷ 29 ∷ 30 ∷ 31 ∷ 32 ∷ 33 ∷ 34 ∷ 35 ∷ 36 ∷ 37 ∷ 38 ∷ 39 ∷ 40 ∷ 41 ∷ 42 ∷ 43 ∷ 44 ∷ 45 ∷ 46 ∷ 47 ∷ 48 ∷ 49 ∷ 50 ∷ 51 ∷ 52 ∷ 53 ∷ 54 ∷ 55 ∷ 56 ∷ 57 ∷ 58 ∷ 59 ∷ 60 ∷ 61 ∷ 62 ∷ 63 ∷ 64 ∷ 65 ∷ []

@@ -7,7 +7,7 @@ use Rattle.kr_ast.specs.declared.node.UnaryOperator.TheVariants.{Not}
 use Rattle.kr_ast.specs.declared.node.StepOperator.TheVariants.{IncrementBefore}
 use Rattle.kr_ast.specs.Tree as trees
 use Rattle.kr_ast.specs.Tree.{Tree, Nil}
-use Rattle.kr_classes_table.specs.Types.{IntType, BooleanType, NullType, ClassType, SetType, ListType, ArrayType, InferredType}
+use Rattle.kr_classes_table.specs.Types.{int_type, BooleanType, NullType, ClassType, SetType, ListType, ArrayType, InferredType}
 use Rattle.kr_classes_table.specs.Table.{Table, Class, table_of, class_at, ancestors, fields_of, field_named, method_named, constructor_parameters, is_assignable, are_related}
 use Rattle.kr_classes_table.specs.Rules.{C6}
 use Rattle.kr_classes_table.specs.Nodes.{nodes}
@@ -24,7 +24,7 @@ table = table_of family
 
 -- in the code of the class C, where x is an int and b a boolean
 abbrev pub scope : Scope
-scope = bind_local (codes "b") BooleanType (bind_local (codes "x") IntType (scope_of table (values_of table) 3))
+scope = bind_local (codes "b") BooleanType (bind_local (codes "x") int_type (scope_of table (values_of table) 3))
 
 -- the scope in N
 abbrev pub nested : Scope
@@ -140,20 +140,20 @@ whole_class = record {
   outer = None;
   extended = trees.NamedType (at 0 1 17) (codes "B");
   super = Some 1;
-  fields = record { class = 0; name = codes "v"; place = at 0 2 7; is_static = false; is_final = false; type = IntType; initial = number 1 } ∷ [];
+  fields = record { class = 0; name = codes "v"; place = at 0 2 7; is_static = false; is_final = false; type = int_type; initial = number 1 } ∷ [];
   methods = record {
     class = 0;
     name = codes "m";
     place = at 0 5 7;
     is_static = false;
     parameters = record { name = codes "y"; place = at 0 5 17; type = BooleanType } ∷ [];
-    result = IntType;
+    result = int_type;
     contracts = trees.Requires (at 0 4 3) (trees.Truth (at 0 4 16) true) ∷ [];
     body = trees.Return (at 0 5 22) (variable (codes "v")) ∷ [];
   } ∷ [];
   constructors = record {
     place = at 0 3 3;
-    parameters = record { name = codes "x"; place = at 0 3 9; type = IntType } ∷ [];
+    parameters = record { name = codes "x"; place = at 0 3 9; type = int_type } ∷ [];
     call = trees.ConstructorCall (at 0 3 14) (list_of (variable (codes "x") ∷ []));
     body = trees.Empty (at 0 3 24) ∷ [];
   } ∷ [];
@@ -228,11 +228,11 @@ pub record Meanings : Type 0 where
   pub declared_by : map (λ f. f.class) (fields_of table 3) ≡ 0 ∷ 2 ∷ 2 ∷ 3 ∷ []
   pub overridden : option_map (λ m. m.class) (method_named table 3 (codes "m")) ≡ Some 2
   pub inherited : option_map (λ m. m.class) (method_named table 3 (codes "t")) ≡ Some 0
-  pub constructor : map (λ p. p.type) (constructor_parameters table 3) ≡ IntType ∷ []
+  pub constructor : map (λ p. p.type) (constructor_parameters table 3) ≡ int_type ∷ []
   -- constants
   pub values : map (λ k. k.value) (values_of table) ≡ Whole (pos 1) ∷ Whole (pos 3) ∷ Truth true ∷ []
   -- names
-  pub older_local : meant scope (codes "x") ≡ LocalName 0 IntType
+  pub older_local : meant scope (codes "x") ≡ LocalName 0 int_type
   pub newer_local : meant scope (codes "b") ≡ LocalName 1 BooleanType
   pub inherited_field : meant scope (codes "w") ≡ meant_by [] (field_named table 2 (codes "w")) []
   pub outer_constant : meant nested (codes "K") ≡ meant_by [] (field_named table 0 (codes "K")) []
@@ -242,7 +242,7 @@ pub record Meanings : Type 0 where
   pub outer_method : option_map (λ m. m.class) (method_meant nested (codes "t")) ≡ Some 0
   pub own_method : option_map (λ m. m.class) (method_meant nested (codes "m")) ≡ Some 1
   -- types
-  pub of_local : type_of scope (variable (codes "x")) ≡ Some IntType
+  pub of_local : type_of scope (variable (codes "x")) ≡ Some int_type
   pub of_field : type_of scope (variable (codes "w")) ≡ Some (ClassType 0)
   pub of_path : type_of scope (field (field (variable (codes "w")) (codes "w")) (codes "w")) ≡ None
   pub of_constant : type_of scope (field (variable (codes "C")) (codes "D")) ≡ Some BooleanType
@@ -256,13 +256,13 @@ pub record Meanings : Type 0 where
   pub up : is_assignable table (ClassType 3) (ClassType 0) ≡ true
   pub arrays : is_assignable table (ArrayType (ClassType 3)) (ArrayType (ClassType 0)) ≡ false
   pub inferred : are_related table (SetType (ClassType 0)) (SetType InferredType) ≡ true
-  pub null : is_assignable table NullType (ArrayType IntType) ≡ true
-  pub null_to_int : is_assignable table NullType IntType ≡ false
+  pub null : is_assignable table NullType (ArrayType int_type) ≡ true
+  pub null_to_int : is_assignable table NullType int_type ≡ false
   -- array types, numbered in their order
-  pub numbered : array_types_of with_arrays ≡ ArrayType IntType ∷ ArrayType (ArrayType IntType) ∷ ArrayType BooleanType ∷ ArrayType (ClassType 0) ∷ ArrayType (ClassType 1) ∷ []
+  pub numbered : array_types_of with_arrays ≡ ArrayType int_type ∷ ArrayType (ArrayType int_type) ∷ ArrayType BooleanType ∷ ArrayType (ClassType 0) ∷ ArrayType (ClassType 1) ∷ []
   pub number_of_type : array_number (array_types_of with_arrays) (ArrayType (ClassType 0)) ≡ Some 3
   pub unnamed : array_number (array_types_of with_arrays) (ArrayType (ClassType 2)) ≡ None
-  pub elements_first : array_types_of arrays_of_collections ≡ ArrayType IntType ∷ ArrayType (SetType (ArrayType IntType)) ∷ ArrayType BooleanType ∷ ArrayType (ListType (ArrayType BooleanType)) ∷ []
+  pub elements_first : array_types_of arrays_of_collections ≡ ArrayType int_type ∷ ArrayType (SetType (ArrayType int_type)) ∷ ArrayType BooleanType ∷ ArrayType (ListType (ArrayType BooleanType)) ∷ []
   -- nodes, and a whole class
   pub parts_in_order : flat_map numbers_in (nodes every_kind) ≡ 0 ∷ 1 ∷ 2 ∷ 3 ∷ 4 ∷ 5 ∷ 6 ∷ 7 ∷ 8 ∷ 9 ∷ 10 ∷ 11 ∷ 12 ∷ 13 ∷ 14 ∷ 15 ∷ 16 ∷ 17 ∷ 18 ∷ 19 ∷ 20 ∷ 21 ∷ 22 ∷ 23 ∷ 24 ∷ 25 ∷ 26 ∷ 27 ∷ 28 ∷ 29 ∷ 30 ∷ 31 ∷ 32 ∷ 33 ∷ 34 ∷ 35 ∷ 36 ∷ 37 ∷ 38 ∷ 39 ∷ 40 ∷ 41 ∷ 42 ∷ 43 ∷ 44 ∷ 45 ∷ 46 ∷ 47 ∷ 48 ∷ 49 ∷ 50 ∷ 51 ∷ 52 ∷ 53 ∷ 54 ∷ 55 ∷ 56 ∷ 57 ∷ 58 ∷ 59 ∷ 60 ∷ 61 ∷ 62 ∷ 63 ∷ 64 ∷ 65 ∷ []
   pub all_nodes : length (nodes every_kind) ≡ 115

@@ -1,15 +1,16 @@
 -- To be believed: numeric promotion: the type to which operands are converted (Java Language Specification 5.6).
 use Rattle.std.specs.Prelude.{Bool, Option, Some, None, is_some}
-use Rattle.kr_classes_table.specs.Types.{JavaType, IntType}
+use Rattle.kr_classes_table.specs.Numbers.{Bits32}
+use Rattle.kr_classes_table.specs.Types.{JavaType, NumberType}
 
 -- the promoted type of one operand: of a sign, of each operand of a shift
 abbrev pub promoted_alone : JavaType → Option JavaType
-promoted_alone IntType = Some IntType
+promoted_alone (NumberType w) = Some (NumberType w)
 promoted_alone t = None
 
 -- the promoted type of two operands
 abbrev pub promoted : JavaType → JavaType → Option JavaType
-promoted IntType u = promoted_alone u
+promoted (NumberType Bits32) u = promoted_alone u
 promoted t u = None
 
 -- the types of numbers

@@ -6,7 +6,7 @@ use Rattle.kr_ast.specs.declared.node.UnaryOperator.{UnaryOperator}
 use Rattle.kr_ast.specs.declared.node.UnaryOperator.TheVariants.{Not}
 use Rattle.kr_ast.specs.declared.node.BinaryOperator.{BinaryOperator}
 use Rattle.kr_ast.specs.declared.node.BinaryOperator.TheVariants.{Multiply, Divide, Remainder, Add, Subtract, ShiftLeft, ShiftRight, ShiftRightUnsigned, Less, Greater, LessOrEqual, GreaterOrEqual, Equal, NotEqual, BitAnd, BitXor, BitOr, And, Or}
-use Rattle.kr_classes_table.specs.Types.{JavaType, IntType, BooleanType, ClassType, ArrayType, SetType, ListType, AppliedType, is_same, is_void, is_collection, is_element, is_reference, is_known}
+use Rattle.kr_classes_table.specs.Types.{JavaType, int_type, BooleanType, ClassType, ArrayType, SetType, ListType, AppliedType, is_same, is_void, is_collection, is_element, is_reference, is_known}
 use Rattle.kr_classes_table.specs.Table.{Field, Parameter, Method, field_named, method_named, constructor_parameters, is_assignable, are_related}
 use Rattle.kr_classes_table.specs.Constants.{value_at}
 use Rattle.kr_types_meaning.specs.declared.operators.OperatorKind.{OperatorKind}
@@ -52,7 +52,7 @@ abbrev pub takes : Scope → JavaType → JavaType → Bool
 takes s to from = not (is_known to) || is_assignable s.table from to
 
 abbrev pub is_int : JavaType → Bool
-is_int t = is_same t IntType
+is_int t = is_same t int_type
 
 abbrev pub is_boolean : JavaType → Bool
 is_boolean t = is_same t BooleanType
@@ -109,7 +109,7 @@ array_rule t = Fits (Value (ArrayType t))
 
 -- T6: 2147483648 occurs only under a unary minus
 abbrev pub number_rule : Scope → ℕ → Judgement
-number_rule s n = ask (nat_lt n 2147483648 || is_under_minus s.role) 6 (Fits (Value IntType))
+number_rule s n = ask (nat_lt n 2147483648 || is_under_minus s.role) 6 (Fits (Value int_type))
 
 -- T5: `this` isn't used in static code
 abbrev pub this_rule : Scope → Judgement
@@ -223,7 +223,7 @@ field_rule (Some f) = ask (not f.is_static) 22 (Fits (variable_of f.type))
 -- T22: an instance field of a class, or the length of an array
 abbrev pub access_rule : Scope → List ℕ → JavaType → Judgement
 access_rule s n (ClassType c) = field_rule (field_named s.table c n)
-access_rule s n (ArrayType t) = ask (bytes_eq n (codes "length")) 22 (Fits (Value IntType))
+access_rule s n (ArrayType t) = ask (bytes_eq n (codes "length")) 22 (Fits (Value int_type))
 access_rule s n t = Breaks 22
 
 -- T22: a constant of a class
@@ -267,7 +267,7 @@ super_rule s n ts = ask (not s.is_static) 5 (above_rule s (option_and_then (λ c
 -- T25: what a collection of a type has without arguments
 abbrev pub plain_call_rule : Bool → JavaType → List ℕ → Judgement
 plain_call_rule is_list t n =
-    if bytes_eq n (codes "size") then Fits (Value IntType)
+    if bytes_eq n (codes "size") then Fits (Value int_type)
     else if bytes_eq n (codes "isEmpty") then Fits (Value BooleanType)
     else ask (bytes_eq n (codes "removeFirst") && is_list && is_element t) 25 (Fits (Value t))
 

@@ -114,7 +114,7 @@ pub fn creation_meaning(types: &Types, created: TypeId) -> Meaning
         TypeForm::Class(class) => Meaning::New(class),
         TypeForm::Set(_) => Meaning::NewSet,
         TypeForm::List(_) => Meaning::NewList,
-        TypeForm::Int
+        TypeForm::Number(_)
         | TypeForm::Boolean
         | TypeForm::Null
         | TypeForm::Void

@@ -13,6 +13,7 @@ use kr_base::NoMemory;
 use std::alloc::Global;
 
 /// The name of a local or parameter that a node uses or declares.
+#[inline(always)]
 pub(crate) fn own_name(tree: &Tree, node: u32) -> Option<&[u8]>
     requires { node < length tree.now.entries }
     ensures { option_map (λ n. n.now) result ≡ own_name (tree_in tree.now node) }

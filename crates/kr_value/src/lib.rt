@@ -5,7 +5,9 @@
 mod object;
 mod place;
 mod value;
+mod width;
 
 pub use object::{Class, Spot};
 pub use place::SlotPlace;
 pub use value::{Obj, Value};
+pub use width::Width;

@@ -51,7 +51,7 @@ fn member_nodes_fit(program: &Program, nodes: &MemberNodes) -> bool
 }
 
 /// Whether a node is the literal of an int.
-fn is_literal(node: Option<&Node>, number: i32) -> bool {
+fn is_literal(node: Option<&Node>, number: i64) -> bool {
     match node {
         Some(Node::Expression(Expression::Literal(value))) => *value == Value::Int(number),
         _ => false,

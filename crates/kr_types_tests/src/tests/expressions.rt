@@ -59,7 +59,7 @@ fn one_int(alloc: Global, types: &Types) -> Result<NoteList, NoMemory>
     ensures count { IfOk result (λ notes. length notes ≡ 2) }
     ensures within { IfOk result (λ notes. AreNotesWithin types.now notes) }
 {
-    let mut notes = NoteList::with_room(alloc, 2)?;
+    let mut notes = NoteList::new(alloc);
     let end = absent_note();
     notes.push(end)?;
     let list = list_note(value_note(types.int()), 0, end);

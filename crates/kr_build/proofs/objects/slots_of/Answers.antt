@@ -1,13 +1,14 @@
 use Rattle.std.proofs.Common.{◌≡◌, ◌+◌, ◌^◌, ◌<◌, ℕ, List, ap, sym, subst, length, arith, rules, ◌∙◌}
 use Rattle.std.specs.List.{range_with_len}
 use Rattle.kr_value.specs.declared.object.Class.{Class}
-use Rattle.kr_mean.specs.Heaps.{value_at}
-use Rattle.kr_mean.specs.Problem.{Problem, slots}
+use Rattle.kr_mean.specs.Heaps.{length_in, value_at}
+use Rattle.kr_mean.specs.Problem.{Problem, domain_at, slots}
 use Rattle.kr_space_layout.specs.Bounds.{bare}
 use Rattle.kr_space_layout.specs.Layouts.{first_slot}
 use Rattle.kr_iso.specs.Objects.{object_of}
 use Rattle.kr_build.specs.Extents.{extent_of, is_array}
-use Rattle.kr_build.proofs.Rows.{row, narrow}
+use Rattle.kr_laws_slots.proofs.Numbering.{width_at}
+use Rattle.kr_build.proofs.Rows.{row, narrow, array_short}
 use Rattle.kr_build.proofs.objects.slots_of.Goals as goal
 
 extent_is : (problem : Problem) (v : List ℕ) (count width width' first first' : ℕ) (class class' : Class) → class ≡ class' → width ≡ width' → first ≡ first' → count ≡ extent_of class width (value_at problem v first) → count ≡ extent_of class' width' (value_at problem v first')
@@ -27,6 +28,15 @@ pub extent-count-requires-clause-array : goal.extent-count-requires-clause-array
 extent-count-requires-clause-array c = λ e.
     let r = row (bare c.args.layout.now) c.args.vector.now c.args.object.domain c.args.object.number c.requires.well c.requires.domain c.requires.number in
     subst (λ (n : ℕ). n < length (slots (bare c.args.layout.now))) (sym c.first_slot-first.ensures) (r.array (ap is_array (sym c.class-class.ensures) ∙ e))
+
+pub extent-count-requires-clause-short : goal.extent-count-requires-clause-short
+extent-count-requires-clause-short c = λ e.
+    let p = bare c.args.layout.now in
+    let r = row p c.args.vector.now c.args.object.domain c.args.object.number c.requires.well c.requires.domain c.requires.number in
+    let n = narrow p c.args.vector.now c.args.object.domain c.args.object.number r in
+    let narrower : width_at p c.args.object.domain < 2147483648 = omega (arith, n, c.requires.small) in
+    subst (λ (m : ℕ). length_in (value_at p c.args.vector.now m) < 2147483648) (sym c.first_slot-first.ensures)
+    (array_short (domain_at p c.args.object.domain).class (width_at p c.args.object.domain) _ (ap is_array (sym c.class-class.ensures) ∙ e) r.within narrower)
 
 pub returns-clause-are : goal.returns-clause-are
 returns-clause-are c =

@@ -7,5 +7,6 @@ abbrev pub invariant-loop-node : goal.invariant-loop-node
 invariant-loop-node l = record {
   long : length l.numbers.items ≡ l.node;
   numbers : AreNumbersOf l.trees l.types l.file l.node l.numbers.items;
+  usual : l.numbers.usual ≡ l.void;
   extends : Extends l.fn.types l.types;
 }

@@ -1,6 +1,6 @@
-use Rattle.std.proofs.Common.{◌≡◌, refl, ◌<◌, ◌≤◌, length, arith, Some}
+use Rattle.std.proofs.Common.{◌≡◌, ◌<◌, ◌≤◌, length, arith, Some}
 use Rattle.std.specs.Prelude.{slice_get}
-use Rattle.std.proofs.lemmas.Option.{slice_get_read, slice_get_within}
+use Rattle.std.proofs.lemmas.Option.{slice_get_within}
 use Rattle.kr_types.specs.Programs.{all_entries}
 use Rattle.kr_pure.proofs.Adding.{few}
 use Rattle.kr_pure.specs.Reach.{IsBelow, IsFollowed}
@@ -28,9 +28,8 @@ loop-next-preserved c =
     let old = c.loop-next.found.nodes.items in
     let new = c.follow.new.found.nodes.items in
     let next = c.loop-next.next in
-    let l : next < length old = omega arith in
-    let at = c.index-at.result.now in
-    let here : slice_get old next ≡ Some at = slice_get_read old (length old) next at refl l c.index-at.ensures in
+    let at = c.at-at.result in
+    let here : slice_get old next ≡ Some at = c.at-at.ensures in
     let step = c.in_ok-follow.ensures.step in
     record {
       found = c.in_ok-follow.ensures.found;

@@ -16,6 +16,6 @@ returns-in-Ok g c =
     let first = c.in-Some.first in
     let second = c.in-Some-look.second in
     let r = Some (record { value = c.in-Ok.value; fuel = second.fuel }) in
-    knows_then code w c.args.fuel first r (λ (d : Doing). d.value c.args.left) (λ (d : Doing) (v : Value). bind (d.value c.args.right) (λ u. say (operated c.args.operator v u))) c.in-Some.ensures
-    (knows_then code w first.fuel second r (λ (d : Doing). d.value c.args.right) (λ (d : Doing) (u : Value). say (operated c.args.operator first.value u)) c.in-Some-look.ensures
+    knows_then code w c.args.fuel first r (λ (d : Doing). d.value c.args.left) (λ (d : Doing) (v : Value). bind (d.value c.args.right) (λ u. say (operated c.args.operation v u))) c.in-Some.ensures
+    (knows_then code w first.fuel second r (λ (d : Doing). d.value c.args.right) (λ (d : Doing) (u : Value). say (operated c.args.operation first.value u)) c.in-Some-look.ensures
     (λ x a d i. ap (λ (q : Result Value Stop). record { said = q; after = fuelled w second.fuel x; reads = w.reads }) (sym c.in-Ok.ensures)))

@@ -13,5 +13,5 @@ pub returns-in-Ok : goal.returns-in-Ok
 returns-in-Ok g c =
     let w = c.args.world.now in
     let found = c.in-Some.found in
-    knows_then c.args.code.now w c.args.fuel found (Some (record { value = c.in-Ok.value; fuel = found.fuel })) (λ (d : Doing). d.value c.args.operand) (λ (d : Doing) (v : Value). say (operated_alone c.args.operator v)) c.in-Some.ensures
+    knows_then c.args.code.now w c.args.fuel found (Some (record { value = c.in-Ok.value; fuel = found.fuel })) (λ (d : Doing). d.value c.args.operand) (λ (d : Doing) (v : Value). say (operated_alone c.args.operation v)) c.in-Some.ensures
     (λ x a d i. ap (λ (r : Result Value Stop). record { said = r; after = fuelled w found.fuel x; reads = w.reads }) (sym c.in-Ok.ensures))

@@ -6,4 +6,4 @@ use Rattle.kr_run_known.proofs.Going.{knows_then}
 use Rattle.kr_run_lookahead.proofs.passing.with_right.Goals as goal
 
 pub returns-in-Some : goal.returns-in-Some
-returns-in-Some c = knows_then c.args.code.now c.args.world.now c.args.fuel c.in-Some.found c.operated.result (λ (d : Doing). d.value c.args.right) (λ (d : Doing) (w : Value). say (operated c.args.operator c.args.given w)) c.in-Some.ensures c.operated.ensures
+returns-in-Some c = knows_then c.args.code.now c.args.world.now c.args.fuel c.in-Some.found c.operated.result (λ (d : Doing). d.value c.args.right) (λ (d : Doing) (w : Value). say (operated c.args.operation c.args.given w)) c.in-Some.ensures c.operated.ensures

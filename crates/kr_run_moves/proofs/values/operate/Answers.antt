@@ -11,9 +11,9 @@ returns-in-Ok c =
     let code = c.args.code.now in
     let w = c.args.world.now in
     let fs = c.args.stack.now in
-    leads_same code (next_task c.feed_test.result c.feed_test.new.task) c.feed_test.new.stack w w w (λ d x. out_value code d fs (say (operated c.args.operator c.args.left c.args.right) (state_at w x))) (λ d x. out_value code d fs (give c.in-Ok.value (state_at w x)))
-    (λ x a. let r = c.in-Ok.ensures x a in (r.0, λ d m. gave_value code d fs w.reads w.reads (say (operated c.args.operator c.args.left c.args.right) (state_at w x)) c.in-Ok.value (state_at w x) r.1))
+    leads_same code (next_task c.feed_test.result c.feed_test.new.task) c.feed_test.new.stack w w w (λ d x. out_value code d fs (say (operated c.args.operation c.args.left c.args.right) (state_at w x))) (λ d x. out_value code d fs (give c.in-Ok.value (state_at w x)))
+    (λ x a. let r = c.in-Ok.ensures x a in (r.0, λ d m. gave_value code d fs w.reads w.reads (say (operated c.args.operation c.args.left c.args.right) (state_at w x)) c.in-Ok.value (state_at w x) r.1))
     c.feed_test.ensures
 
 pub returns-in-Err : goal.returns-in-Err
-returns-in-Err c = value_halts c.args.code.now c.in-Err.halt c.args.stack.now c.args.world.now c.args.world.now (λ x. say (operated c.args.operator c.args.left c.args.right) (state_at c.args.world.now x)) c.in-Err.ensures
+returns-in-Err c = value_halts c.args.code.now c.in-Err.halt c.args.stack.now c.args.world.now c.args.world.now (λ x. say (operated c.args.operation c.args.left c.args.right) (state_at c.args.world.now x)) c.in-Err.ensures

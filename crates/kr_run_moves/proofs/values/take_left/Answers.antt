@@ -15,7 +15,7 @@ returns-in-Some c =
     let code = c.args.code.now in
     let w = c.args.world.now in
     let then = c.at_once.new.world in
-    value_then code (next_task c.operate.result c.operate.new.task) c.args.stack.now c.operate.new.stack then then w (λ (d : Doing). d.value c.args.right) (λ (d : Doing) (u : Value). say (operated c.args.operator c.args.given u)) c.in-Some.value c.in-Some.ensures c.operate.ensures
+    value_then code (next_task c.operate.result c.operate.new.task) c.args.stack.now c.operate.new.stack then then w (λ (d : Doing). d.value c.args.right) (λ (d : Doing) (u : Value). say (operated c.args.operation c.args.given u)) c.in-Some.value c.in-Some.ensures c.operate.ensures
 
 pub returns-in-None : goal.returns-in-None
 returns-in-None c =
@@ -23,4 +23,4 @@ returns-in-None c =
     let w = c.args.world.now in
     let then = c.at_once.new.world in
     let same : then ≡ w = search rules in
-    leads_from code (next_task c.first.result c.first.new.task) c.first.new.stack then w (λ (u : World) (d : Doing) (x : Others). out_value code d c.args.stack.now (bind (d.value c.args.right) ((λ (d : Doing) (u : Value). say (operated c.args.operator c.args.given u)) d) (state_at u x))) same (c.first.ensures code then)
+    leads_from code (next_task c.first.result c.first.new.task) c.first.new.stack then w (λ (u : World) (d : Doing) (x : Others). out_value code d c.args.stack.now (bind (d.value c.args.right) ((λ (d : Doing) (u : Value). say (operated c.args.operation c.args.given u)) d) (state_at u x))) same (c.first.ensures code then)

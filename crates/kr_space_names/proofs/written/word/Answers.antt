@@ -1,9 +1,9 @@
 use Rattle.std.proofs.Common.{Some}
-use Rattle.kr_classes_table.specs.Types.{IntType, BooleanType, ClassType}
+use Rattle.kr_classes_table.specs.Types.{int_type, BooleanType, ClassType}
 use Rattle.kr_space_names.proofs.written.word.Goals as goal
 
 pub returns-then-eq-clause-some : goal.returns-then-eq-clause-some
-returns-then-eq-clause-some c = (Some IntType, c.int.ensures)
+returns-then-eq-clause-some c = (Some int_type, c.int.ensures)
 
 pub returns-then-eq-2-clause-some : goal.returns-then-eq-2-clause-some
 returns-then-eq-2-clause-some c = (Some BooleanType, c.boolean.ensures)

@@ -8,7 +8,7 @@ use Rattle.kr_space_rules.proofs.count.value_count.Goals as goal
 pub loop-item-preserved : goal.loop-item-preserved
 loop-item-preserved c = record {
   is = counted_more c.args.blocks.now c.args.items.now (length (all_choices (map (stretch_of c.args.blocks.now) c.args.items.now))) c.loop-item.item-index c.loop-item.count c.saturating_add-count.result _ c.of.result c.loop-item-test.true c.loop-item.invariant.is c.of.ensures
-      (c.saturating_add-count.ensures ∙ ap (λ (n : ℕ). min (c.loop-item.count + n) (2 ^ 64 - 1)) c.count.ensures);
+      (omega (arith, c.saturating_add-count.ensures, c.capped_count.ensures));
   small = c.saturating_add-count.type_inv;
 }
 

@@ -10,4 +10,4 @@ returns-clause-kept c =
     let spot = c.args.spot in
     kept_more s c.args.types.now c.bare_note.new.types k (record { notes = c.push.new.self; meanings = c.push-2.new.self; inside = k.inside }) c.in_ok-note.note Nothing spot c.requires.spot
     c.requires.forest c.requires.kept c.in_ok-note.ensures.extends c.in_ok-note.ensures.note (unmeant s (shown_notes c.args.types.now k.notes) spot.at spot.place spot.node c.requires.spot.tree c.args.kind c.requires.kind)
-    c.in_ok-push.ensures c.in_ok-push-2.ensures.items c.requires.kept.inside
+    c.in_ok-push.ensures c.in_ok-push-2.ensures c.requires.kept.inside

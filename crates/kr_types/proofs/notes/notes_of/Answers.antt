@@ -11,8 +11,8 @@ pub loop-at-init : goal.loop-at-init
 loop-at-init c = record {
   extends = extends_itself c.args.types.now;
   site = c.requires;
-  kept = none_kept c.args.site.now c.args.types.now c.in_ok-noted.noted c.in_ok-noted.ensures.notes c.in_ok-noted.ensures.meanings (c.in_ok-noted.ensures.inside (setting_in c.args.site.now.trees.now c.args.site.now.file));
-  count = ap length c.in_ok-noted.ensures.notes;
+  kept = none_kept c.args.site.now c.args.types.now c.new-noted.result c.new-noted.ensures.notes c.new-noted.ensures.meanings (c.new-noted.ensures.inside (setting_in c.args.site.now.trees.now c.args.site.now.file));
+  count = ap length c.new-noted.ensures.notes;
 }
 
 pub add_node-requires-clause-forest : goal.add_node-requires-clause-forest

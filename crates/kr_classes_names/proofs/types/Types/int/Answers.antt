@@ -1,6 +1,6 @@
 use Rattle.std.proofs.Common.{subst}
 use Rattle.kr_classes_names.specs.Types.{TypeList, IsTypeNumber}
-use Rattle.kr_classes_table.specs.Types.{IntType as the_type}
+use Rattle.kr_classes_table.specs.Types.{int_type as the_type}
 use Rattle.kr_classes_names.proofs.Made.{list_of}
 use Rattle.kr_classes_names.proofs.Growing.{number_at}
 use Rattle.kr_classes_names.proofs.types.Types.int.Goals as goal

@@ -30,7 +30,7 @@ invariant_of-self-in-Ok g c =
     record {
       calls = c.self.invariant.calls + 1;
       run = run-more n.all n.span n.cuts n.opening m.workers c.self.invariant.calls (c.self.invariant.calls + 1) old new (Drain (length c.in-Ok.rows)) Noted [] k event (c.in-Ok.ensures.stays n.all n.span n.cuts k.ascends k.inside k.board)
-          (drain-shared m.workers (length c.in-Ok.rows)) refl;
+          (drain-shared m.workers (length c.in-Ok.rows)) refl (λ s. tt);
       left = subst (λ (d : ℕ). IsWanted n.limit d c.after-self-inside.result) now (c.after-self-inside.ensures n.limit (drained old.log) c.self.invariant.left);
       begun = event_within n.limit old new (Drain (length c.in-Ok.rows)) Noted [] refl event c.self.invariant.begun;
       window_is = event.window ∙ c.self.invariant.window_is;
@@ -56,7 +56,7 @@ returns-in-Ok-clause-last g c q =
     let new = c.drain.new.self in
     let calls = c.self.invariant.calls + 1 in
     let run = run-more n.all n.span n.cuts n.opening m.workers c.self.invariant.calls calls old new (Drain (length c.in-Ok.rows)) Noted [] k c.in-Ok.ensures.event (c.in-Ok.ensures.stays n.all n.span n.cuts k.ascends k.inside k.board)
-    (drain-shared m.workers (length c.in-Ok.rows)) refl in
+    (drain-shared m.workers (length c.in-Ok.rows)) refl (λ s. tt) in
     all_drained n.all n.span n.cuts n.opening m.workers calls (length c.in-Ok.rows) old new Noted run c.in-Ok.ensures.event (sym c.is_finished-finished.ensures ∙ q)
 
 pub returns-in-Ok-clause-kept : goal.returns-in-Ok-clause-kept

@@ -8,6 +8,7 @@ use Rattle.kr_core.specs.Rows.{drained}
 use Rattle.kr_pool_desk.specs.Draining.{rows_kept}
 use Rattle.kr_pool_desk.proofs.Growing.{run-more, report-shared, report-drained, report-quiet}
 use Rattle.kr_pool_desk.proofs.Keeping.{report-kept}
+use Rattle.kr_pool_desk.proofs.Short.{report-short}
 use Rattle.kr_pool_desk.proofs.Limits.{event_keeps, quiet_kept, report_begins}
 use Rattle.kr_pool.specs.Owning.{IsOwn}
 use Rattle.kr_pool.proofs.Owned.{by_result}
@@ -32,7 +33,7 @@ invariant_of-self-2 g c =
     record {
       calls = i.calls + 1;
       run = run-more n.all n.span n.cuts n.opening m.workers i.calls (i.calls + 1) old new _ _ _ i.run event (stays n.all n.span n.cuts i.run.ascends i.run.inside c.requires.honest i.run.board)
-          (report-shared m.workers old c.args.lease c.args.part (subst (λ (s : ℕ). s < m.workers) (sym c.requires.lease) i.some)) refl;
+          (report-shared m.workers old c.args.lease c.args.part (subst (λ (s : ℕ). s < m.workers) (sym c.requires.lease) i.some)) refl (λ s. report-short old c.args.lease c.args.part (c.requires.short s));
       left = q.1;
       begun = q.2;
       window_is = event.window ∙ i.window_is;

@@ -22,7 +22,7 @@ pub returns-in-Ok-close_with_log-clause-log : goal.returns-in-Ok-close_with_log-
 returns-in-Ok-close_with_log-clause-log g c =
     let n = g.N.Run in
     let k = c.self.invariant.run in
-    stop_finishes n.all n.span n.cuts n.opening g.N.Crew.workers c.self.invariant.calls c.self.inside.board c.stop.new.self _ Noted [] _ k c.in-Ok.ensures.event (c.in-Ok.ensures.stays n.all n.span n.cuts k.ascends k.inside k.board)
+    stop_finishes n.all n.span n.cuts n.opening g.N.Crew.workers c.self.invariant.calls c.self.inside.board c.stop.new.self _ Noted [] _ k c.in-Ok.ensures.mark c.in-Ok.ensures.event (c.in-Ok.ensures.stays n.all n.span n.cuts k.ascends k.inside k.board)
     c.in-Ok-close_with_log.ensures.log
 
 pub returns-in-Ok-close_with_log-clause-own : goal.returns-in-Ok-close_with_log-clause-own

@@ -6,9 +6,11 @@ use Rattle.kr_core.specs.Rows.{drained}
 use Rattle.kr_survey.specs.Takings.{is_past}
 use Rattle.kr_pool_desk.specs.Draining.{rows_kept}
 use Rattle.kr_pool_desk.specs.Leasing.{Takes}
+use Rattle.kr_pool_desk.specs.Short.{IsShortRun}
 use Rattle.kr_pool_desk.proofs.Growing.{run-more, take-shared, take-drained, take-quiet}
 use Rattle.kr_pool_desk.proofs.Keeping.{take-kept}
 use Rattle.kr_pool_desk.proofs.Leased.{takes}
+use Rattle.kr_pool_desk.proofs.Short.{board-short, take-short}
 use Rattle.kr_pool_desk.proofs.Limits.{event_keeps, open_begins, quiet_kept}
 use Rattle.kr_pool.specs.Owning.{IsOwn}
 use Rattle.kr_pool.proofs.Owned.{by_ok, by_result}
@@ -26,7 +28,7 @@ invariant_of-self g c =
     let q = quiet_kept n.limit old new (take_event 0 old.core) _ _ (drained old.log) c.self.inside.wanted (take-quiet 0 old.core) (open_begins n.limit (drained old.log) (take_event 0 old.core) open') event refl i.left i.begun in
     record {
       calls = i.calls + 1;
-      run = run-more n.all n.span n.cuts n.opening m.workers i.calls (i.calls + 1) old new _ _ _ i.run event (stays n.all n.span n.cuts i.run.ascends i.run.inside i.run.board) (take-shared m.workers 0 old.core i.some) refl;
+      run = run-more n.all n.span n.cuts n.opening m.workers i.calls (i.calls + 1) old new _ _ _ i.run event (stays n.all n.span n.cuts i.run.ascends i.run.inside i.run.board) (take-shared m.workers 0 old.core i.some) refl (λ s. take-short 0 old.core (board-short n.all n.span n.cuts old i.run.board i.run.short s));
       left = q.1;
       begun = q.2;
       window_is = event.window ∙ i.window_is;
@@ -38,7 +40,7 @@ invariant_of-self g c =
 pub returns-clause-lease : goal.returns-clause-lease
 returns-clause-lease g c =
     let n = g.N.Run in
-    by_ok (Takes 0) _ c.take-taken.result c.take-taken.ensures.event (λ taken event. takes n.all n.span n.cuts n.opening g.N.Crew.workers c.self.invariant.calls 0 c.self.inside.board c.take-taken.new.self taken c.self.invariant.run event)
+    by_ok (Takes (IsShortRun n.all n.span n.cuts) 0) _ c.take-taken.result c.take-taken.ensures.event (λ taken event. takes n.all n.span n.cuts n.opening g.N.Crew.workers c.self.invariant.calls 0 c.self.inside.board c.take-taken.new.self taken c.self.invariant.run event)
 
 pub returns-clause-drained : goal.returns-clause-drained
 returns-clause-drained g c =

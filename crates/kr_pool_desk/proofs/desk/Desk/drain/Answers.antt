@@ -29,7 +29,7 @@ invariant_of-self-in-Ok g c =
     let now : drained old.log + c.last_rows-count.result ≡ drained new.log = omega (arith, more, count) in
     let total : drained new.log ≡ c.add-in-Ok.new.self.total = (let a = c.add-in-Ok.ensures.total in let b = c.audit.ensures.total in let d = c.self.invariant.2 in omega (arith, now, a, b, d)) in (
       run-more n.all n.span n.cuts n.opening m.workers c.self.inside.calls.total c.add.new.self.total old new (Drain (length c.in-Ok.rows)) Noted [] k event (c.in-Ok.ensures.stays n.all n.span n.cuts k.ascends k.inside k.board)
-          (drain-shared m.workers (length c.in-Ok.rows)) c.add.ensures.total,
+          (drain-shared m.workers (length c.in-Ok.rows)) c.add.ensures.total (λ s. tt),
       event.window ∙ c.self.invariant.1,
       total,
       subst (λ (d : ℕ). IsWanted n.limit d c.after-self-inside.result) now (c.after-self-inside.ensures n.limit (drained old.log) c.self.invariant.3),
@@ -59,7 +59,7 @@ returns-in-Ok-clause-last g c q =
     let new = c.drain.new.self in
     let event = c.in-Ok.ensures.event in
     let run = run-more n.all n.span n.cuts n.opening m.workers c.self.inside.calls.total c.add.new.self.total old new (Drain (length c.in-Ok.rows)) Noted [] k event (c.in-Ok.ensures.stays n.all n.span n.cuts k.ascends k.inside k.board)
-    (drain-shared m.workers (length c.in-Ok.rows)) c.add.ensures.total in
+    (drain-shared m.workers (length c.in-Ok.rows)) c.add.ensures.total (λ s. tt) in
     let all = all_drained n.all n.span n.cuts n.opening m.workers c.add.new.self.total (length c.in-Ok.rows) old new Noted run event (sym c.is_finished-finished.ensures ∙ q) in
     let more = drain-drained old new (length c.in-Ok.rows) Noted [] event in
     let given = returns-in-Ok-clause-counted g c in
@@ -71,3 +71,12 @@ pub returns-in-Ok-clause-kept : goal.returns-in-Ok-clause-kept
 returns-in-Ok-clause-kept g c =
     subst (λ (v : Held g.row.R.Denot × ℕ). rows_kept c.drain.new.self + length c.in-Ok.rows ≤ rows_kept v.0) c.self.view_is
     (drain-kept c.self.inside.board c.drain.new.self c.in-Ok.rows (length c.in-Ok.rows) Noted c.in-Ok.ensures.rows c.in-Ok.ensures.event)
+
+pub returns-in-Ok-clause-told : goal.returns-in-Ok-clause-told
+returns-in-Ok-clause-told g c =
+    let whole = invariant_of-self-in-Ok g c in
+    let more = drain-drained c.self.inside.board c.drain.new.self (length c.in-Ok.rows) Noted [] c.in-Ok.ensures.event in
+    let given = returns-in-Ok-clause-counted g c in
+    let at = c.audit.ensures.whole c.requires.whole in
+    let d = c.self.invariant.2 in
+    record { board = c.drain.new.self; calls = c.add.new.self.total; run = whole.0; given = omega (arith, more, given, at, d); told = c.is_finished-finished.ensures }

@@ -16,7 +16,7 @@ invariant_of-self-in-Released g c =
     let q = quiet_kept n.limit old c.give_up.new.self (GiveUp c.args.lease.now.seat c.args.lease.now.segment) Noted _ _ c.self.inside.wanted refl refl (c.in-Released.ensures.event refl) c.self.invariant.2 c.self.invariant.3 c.self.invariant.4 in (
       run-more n.all n.span n.cuts n.opening m.workers c.self.inside.calls.total c.add.new.self.total old c.give_up.new.self _ _ _ k (c.in-Released.ensures.event refl)
           (c.in-Released.ensures.stays n.all n.span n.cuts k.ascends k.inside k.board)
-          (give_up-shared m.workers c.args.lease.now.seat c.args.lease.now.segment (subst (λ (s : ℕ). s < m.workers) (sym c.requires.lease) c.requires.below)) c.add.ensures.total,
+          (give_up-shared m.workers c.args.lease.now.seat c.args.lease.now.segment (subst (λ (s : ℕ). s < m.workers) (sym c.requires.lease) c.requires.below)) c.add.ensures.total (λ s. tt),
       (c.in-Released.ensures.event refl).window ∙ c.self.invariant.1,
       q.0,
       q.1,

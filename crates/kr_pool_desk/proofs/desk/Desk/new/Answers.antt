@@ -5,6 +5,7 @@ use Rattle.kr_core.specs.Openings.{opening}
 use Rattle.kr_core.specs.Rows.{drained}
 use Rattle.kr_pool_desk.specs.Limits.{IsWanted, KeepsWindow}
 use Rattle.kr_pool_desk.specs.Runs.{are_shared}
+use Rattle.kr_pool_desk.specs.Short.{AreShortEvents}
 use Rattle.kr_pool_desk.proofs.Limits.{none_drained}
 use Rattle.kr_pool_desk.proofs.desk.Desk.new.Goals as goal
 
@@ -22,6 +23,7 @@ invariant_of-result g c =
           shared = ap (λ (l : List Event). are_shared g.N.Crew.workers l) c.requires.opening ∙ c.requires.shared;
           counted = sym c.requires.none.0;
         };
+        short = λ s. subst AreShortEvents (sym c.requires.opening) c.requires.short;
       },
       c.requires.window,
       none ∙ sym c.requires.none.1,

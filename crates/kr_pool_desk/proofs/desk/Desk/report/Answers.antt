@@ -7,6 +7,7 @@ use Rattle.kr_board.proofs.Windows.{few}
 use Rattle.kr_pool_desk.proofs.Growing.{run-more, report-shared, report-drained, report-quiet}
 use Rattle.kr_pool_desk.proofs.Limits.{event_keeps, quiet_kept, report_begins}
 use Rattle.kr_pool_desk.proofs.Leased.{reports}
+use Rattle.kr_pool_desk.proofs.Short.{report-short}
 use Rattle.std.specs.Prelude.{length}
 use Rattle.kr_pool_desk.specs.Draining.{rows_kept}
 use Rattle.kr_pool_desk.proofs.Keeping.{report-kept}
@@ -27,7 +28,7 @@ invariant_of-self-in-Ok g c =
     c.self.invariant.2 c.self.invariant.3 c.self.invariant.4 in (
       run-more n.all n.span n.cuts n.opening m.workers c.self.inside.calls.total c.add.new.self.total old c.report.new.self _ _ _ k c.in-Ok.ensures.event
           (c.in-Ok.ensures.stays n.all n.span n.cuts k.ascends k.inside c.requires.honest k.board)
-          (report-shared m.workers old c.args.lease c.args.part (subst (λ (s : ℕ). s < m.workers) (sym c.requires.lease) c.requires.below)) c.add.ensures.total,
+          (report-shared m.workers old c.args.lease c.args.part (subst (λ (s : ℕ). s < m.workers) (sym c.requires.lease) c.requires.below)) c.add.ensures.total (λ s. report-short old c.args.lease c.args.part (c.requires.short s)),
       c.in-Ok.ensures.event.window ∙ c.self.invariant.1,
       q.0,
       q.1,
@@ -38,7 +39,7 @@ invariant_of-self-in-Ok g c =
 pub returns-in-Ok-clause-lease : goal.returns-in-Ok-clause-lease
 returns-in-Ok-clause-lease g c =
     let n = g.N.Run in let m = g.N.Crew in
-    reports n.all n.span n.cuts n.opening m.workers c.self.inside.calls.total c.args.seat c.self.inside.board c.report.new.self c.args.lease c.args.part c.in-Ok.reported c.self.invariant.0 c.requires.lease
+    reports n.all n.span n.cuts n.opening m.workers c.self.inside.calls.total c.args.seat c.self.inside.board c.report.new.self c.args.lease c.args.part c.in-Ok.reported c.self.invariant.0 c.requires.short c.requires.lease
     c.in-Ok.ensures.refusal c.in-Ok.ensures.event
 
 pub returns-in-Ok-clause-drained : goal.returns-in-Ok-clause-drained

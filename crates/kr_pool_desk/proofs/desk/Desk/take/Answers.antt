@@ -8,6 +8,7 @@ use Rattle.kr_survey.specs.Takings.{is_past}
 use Rattle.kr_pool_desk.proofs.Growing.{run-more, take-shared, take-drained, take-quiet}
 use Rattle.kr_pool_desk.proofs.Keeping.{take-kept}
 use Rattle.kr_pool_desk.proofs.Leased.{takes}
+use Rattle.kr_pool_desk.proofs.Short.{board-short, take-short}
 use Rattle.kr_pool_desk.proofs.Limits.{event_keeps, open_begins, quiet_kept}
 use Rattle.kr_pool_desk.proofs.desk.Desk.take.Goals as goal
 
@@ -20,7 +21,7 @@ invariant_of-self-in-Ok g c =
     let q = quiet_kept n.limit old c.take.new.self (take_event c.args.seat old.core) _ _ _ c.self.inside.wanted (take-quiet c.args.seat old.core) (open_begins n.limit (drained old.log) (take_event c.args.seat old.core) open') c.in-Ok.ensures.event
     c.self.invariant.2 c.self.invariant.3 c.self.invariant.4 in (
       run-more n.all n.span n.cuts n.opening m.workers c.self.inside.calls.total c.add.new.self.total old c.take.new.self _ _ _ k c.in-Ok.ensures.event (c.in-Ok.ensures.stays n.all n.span n.cuts k.ascends k.inside k.board)
-          (take-shared m.workers c.args.seat old.core c.requires.below) c.add.ensures.total,
+          (take-shared m.workers c.args.seat old.core c.requires.below) c.add.ensures.total (λ s. take-short c.args.seat old.core (board-short n.all n.span n.cuts old k.board k.short s)),
       c.in-Ok.ensures.event.window ∙ c.self.invariant.1,
       q.0,
       q.1,

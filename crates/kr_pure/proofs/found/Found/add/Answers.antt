@@ -25,7 +25,7 @@ returns-clause-found c =
     let number = c.number_of-number.ensures.number in
     let l : c.number_of-number.result < length marks = let a = c.requires.found.long in let b = c.number_of-number.ensures.within in omega arith in
     let read = get_or_default marks c.number_of-number.result c.index.result.now false l in
-    let items = c.in_ok-push.ensures.items in
+    let items = c.in_ok-push.ensures in
     let one = mark_more marks c.number_of-number.result l (sym read ∙ (sym c.index.ensures ∙ c.if-index.false)) in
     let count = c.requires.found.count in
     record {
@@ -37,4 +37,4 @@ returns-clause-found c =
     }
 
 pub returns-clause-added : goal.returns-clause-added
-returns-clause-added c = subst (λ (xs : List NodeId). IsAdded c.args.self.now.nodes.items (c.args.at ∷ []) xs) (sym c.in_ok-push.ensures.items) (pushed c.args.self.now.nodes.items c.args.at)
+returns-clause-added c = subst (λ (xs : List NodeId). IsAdded c.args.self.now.nodes.items (c.args.at ∷ []) xs) (sym c.in_ok-push.ensures) (pushed c.args.self.now.nodes.items c.args.at)

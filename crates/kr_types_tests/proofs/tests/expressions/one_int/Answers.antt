@@ -13,7 +13,7 @@ returns-clause-within c =
     let first = c.absent_note-end.ensures in
     let more = c.list_note-list.ensures in
     let a : AreNotesWithin l (end ∷ []) = within_pushed l [] end (within_none l) (first.within l) (no_rest_below 0 end.known first.no_rest) (no_rest_linked (typed_in l []) end.known first.no_rest) in
-    let items : c.push-2.new.self ≡ (end ∷ []) ++ list ∷ [] = c.in_ok-push-2.ensures ∙ ap (λ ns. ns ++ list ∷ []) (c.in_ok-push.ensures ∙ ap (λ ns. ns ++ end ∷ []) c.in_ok-notes.ensures) in
+    let items : c.push-2.new.self ≡ (end ∷ []) ++ list ∷ [] = c.in_ok-push-2.ensures ∙ ap (λ ns. ns ++ list ∷ []) (c.in_ok-push.ensures ∙ ap (λ ns. ns ++ end ∷ []) c.new-notes.ensures) in
     let look = typed_in l (end ∷ []) in
     subst (λ (ns : List Note). AreNotesWithin l ns) (sym items)
     (within_pushed l (end ∷ []) list a (more.within l (c.value_note.ensures.within l c.int.ensures.within)) (more.below 1 (omega arith))

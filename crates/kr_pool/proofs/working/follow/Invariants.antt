@@ -1,7 +1,0 @@
-use Rattle.std.proofs.Common.{◌≡◌}
-use Rattle.kr_pool_desk.specs.Leasing.{IsLeaseOf}
-use Rattle.kr_pool.proofs.working.follow.Given as goal
-
-abbrev pub invariant-loop : goal.invariant-loop
-invariant-loop g l =
-    (goal.iterator-loop g).can_next l.iterator' × (goal.iterator-loop g).is_finite l.iterator' × IsLeaseOf l.hand.seat.number l.lease × g.S.Survey.made l.survey l.scratch × (l.hand.seat.number ≡ l.fn.hand.seat.number)
