@@ -10,3 +10,4 @@ pub mod RowLines
 pub mod Spent
 pub mod More
 pub mod Ends
+pub mod Examples

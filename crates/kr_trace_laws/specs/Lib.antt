@@ -7,3 +7,4 @@ pub mod RowLines
 pub mod Spent
 pub mod More
 pub mod Ends
+pub mod Worked

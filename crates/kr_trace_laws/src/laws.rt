@@ -8,6 +8,7 @@ ghost use Rattle.kr_trace_laws.specs.RowLines.{RowLaw};
 ghost use Rattle.kr_trace_laws.specs.Spent.{SpentLaw};
 ghost use Rattle.kr_trace_laws.specs.Traced.{TracedLaw};
 ghost use Rattle.kr_trace_laws.specs.Whole.{WholeLaw};
+ghost use Rattle.kr_trace_laws.specs.Worked.{WorkedListings};
 
 /// The line that is written of an event is read as that event.
 pub fn event_law()
@@ -58,4 +59,9 @@ pub fn more_law<R>()
 /// without a stop.
 pub fn ends_law<R>()
     ensures { EndsLaw R }
+{}
+
+/// Three listings, with what the laws ask of them.
+pub fn worked_listings()
+    ensures { WorkedListings }
 {}

@@ -5,5 +5,5 @@ mod laws;
 
 pub use laws::{
     ends_law, event_law, honest_law, listing_law, log_law, more_law, row_law, spent_law,
-    traced_law, whole_law,
+    traced_law, whole_law, worked_listings,
 };
