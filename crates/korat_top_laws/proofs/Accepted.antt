@@ -1,12 +1,13 @@
 -- What the steps of a command accept is accepted as the laws on programs ask.
-use Rattle.std.proofs.Common.{◌≡◌, ℕ, ◌+◌, List, [], ◌∷◌, Result, Ok, Err, refl, ap, subst}
+use Rattle.std.proofs.Common.{◌≡◌, ℕ, ◌+◌, ◌≤◌, List, [], ◌∷◌, length, Result, Ok, Err, refl, ap, subst}
+use Rattle.std.specs.List.{AllByRecursion}
 use Rattle.kr_ast.specs.Tree.{Tree}
 use Rattle.kr_mean.specs.Problem.{Problem}
 use Rattle.kr_mean.specs.declared.mode.Mode.{Mode}
 use Rattle.kr_laws_never_stuck.specs.Grown.{AreGrown}
 use Rattle.kr_laws_never_stuck.specs.NeverStuck.{IsAccepted}
 use Rattle.korat_top_files.specs.Refusals.{Inputs, Refusal}
-use Rattle.korat_top_files.specs.Steps.{AreTrees, Checks, Judges, accepted, impure, judged, long_finitization, long_source, unclassed, unlexed, unparsed, unposed, unstated, untyped}
+use Rattle.korat_top_files.specs.Steps.{AreRead, AreTrees, Checks, Judges, LIMIT, accepted, impure, judged, long_finitization, long_source, unclassed, unlexed, unparsed, unposed, unstated, untyped}
 use Rattle.kr_io.specs.Held.{Held}
 use Rattle.korat_top_laws.specs.Laws.{AcceptedLaw}
 
@@ -40,10 +41,17 @@ accepted_is mode fin sources problem h = of_steps mode fin sources problem (Ok p
 pub record AreOf (mode : Mode) (problem : Problem) : Type 0 where
   pub fin : List ℕ
   pub sources : List (List ℕ)
+  pub short : AllByRecursion (λ bytes. length bytes ≤ LIMIT) sources
   pub accepted_as : IsAccepted sources fin mode problem
 
+all_short : (held : Held) (names texts : List (List ℕ)) → AreRead held names texts → AllByRecursion (λ bytes. length bytes ≤ LIMIT) texts
+all_short held [] [] h = tt
+all_short held [] (bytes ∷ texts) h = absurd h
+all_short held (name ∷ names) [] h = absurd h
+all_short held (name ∷ names) (bytes ∷ texts) h = (h.0.1, all_short held names texts h.1)
+
 files_of : (held : Held) (mode : Mode) (inputs : Inputs) (problem : Problem) (result : Result Problem Refusal) → Checks held mode inputs result → result ≡ Ok problem → AreOf mode problem
-files_of held mode inputs problem _ (judged fin texts result a b steps) e = record { fin = fin; sources = texts; accepted_as = of_steps mode fin texts problem result steps e }
+files_of held mode inputs problem _ (judged fin texts result a b steps) e = record { fin = fin; sources = texts; short = all_short held inputs.sources texts b; accepted_as = of_steps mode fin texts problem result steps e }
 files_of held mode inputs problem _ (long_finitization a) e = absurd (cc (e))
 files_of held mode inputs problem _ (long_source fin front name rest texts a b c d) e = absurd (cc (e))
 

@@ -1,4 +1,4 @@
--- What the words of a listing ask for.
+-- What the words of a listing or a test ask for.
 use Rattle.std.proofs.Common.{◌≡◌, ◌≤◌, ℕ, Bool, true, false, List, Option, Some, None, refl, subst, arith}
 use Rattle.std.specs.Prelude.{IfSome, codes, decimal, if◌then◌else◌, nat_le, option_map, ◌&&◌}
 use Rattle.std.specs.Str.{bytes_eq}
@@ -166,3 +166,6 @@ asked words = by_fault (is_empty (fault_of korat_app words))
 
 pub asked_of : (words : List Text) (ask : Ask) → command_of words ≡ Some (commands.Search (searches.List ask)) → IsAsked ask
 asked_of words ask is = subst (λ (o : Option Command). IfSome o IsAskedOf) is (asked words)
+
+pub tested_of : (words : List Text) (method : List ℕ) (ask : Ask) → command_of words ≡ Some (commands.Search (searches.Test method ask)) → IsAsked ask
+tested_of words method ask is = subst (λ (o : Option Command). IfSome o IsAskedOf) is (asked words)

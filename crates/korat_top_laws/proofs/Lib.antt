@@ -9,4 +9,5 @@ pub mod Begun
 pub mod Rows
 pub mod Logged
 pub mod Asked
+pub mod Verdicts
 pub mod Traced

@@ -32,7 +32,7 @@ pub fn words_law()
     reading_law();
 }
 
-/// What a listing writes with a trace is accepted by `trace`, for the same span and number of workers.
+/// What a listing or a test writes with a trace is accepted by `trace`, for the same span and number of workers.
 pub fn traced_law()
     ensures { TracedLaw }
 {}

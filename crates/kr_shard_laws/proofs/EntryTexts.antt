@@ -1,8 +1,10 @@
--- All entries are those of a listing.
+-- All entries have lines, and those of a listing's problem are a listing's.
 use Rattle.std.proofs.Common.{◌≡◌, ℕ, zero, suc, ◌+◌, ◌<◌, List, [], ◌∷◌, ◌++◌, length, get_or, refl, sym, ap, ◌∙◌, subst, arith}
 use Rattle.std.specs.Prelude.{filter, flat_map, map, ◌&&◌}
 use Rattle.std.specs.List.{range_with_len}
 use Rattle.kr_base.specs.declared.entry.Entry.{Entry}
+use Rattle.kr_base.specs.declared.entry.Mark.{Mark}
+use Rattle.kr_base.specs.declared.entry.Mark.TheVariants.{Valid, Invalid, Spent}
 use Rattle.kr_base.specs.Entries.{Ascends, IsAmong}
 use Rattle.kr_value.specs.declared.value.Value.{Value}
 use Rattle.kr_value.specs.declared.value.Value.TheVariants.{Ref as Reference}
@@ -12,6 +14,7 @@ use Rattle.kr_mean.specs.Problem.{Problem, DomainObject, all_objects, heap_numbe
 use Rattle.kr_mean.specs.Runs as runs
 use Rattle.kr_mean.specs.Runs.{End, end_on, key_along, order_of}
 use Rattle.kr_mean.specs.Space.{IsVector, no_choice, space_of}
+use Rattle.kr_mean.specs.declared.mode.Mode.TheVariants.{List as Listing}
 use Rattle.kr_mean.specs.declared.row.Row.{Row}
 use Rattle.kr_laws_slots.proofs.Membership.{has_filter_from, has_map_from}
 use Rattle.kr_laws_pruning.proofs.Listed.{vectors_are}
@@ -19,7 +22,7 @@ use Rattle.kr_laws_pruning.proofs.Sorting.{among_sorted, ascends_sorted}
 use Rattle.kr_report.specs.Texts.{structure_text}
 use Rattle.kr_report.proofs.Texts.{no_verdict}
 use Rattle.kr_shard_laws.specs.Listings.{IsListable, IsRowAt}
-use Rattle.kr_shard_laws.specs.Entries.{EntriesLaw, MakesLines}
+use Rattle.kr_shard_laws.specs.Entries.{EntriesLaw, IsLineAt, IsLined, LinesLaw, MakesLines}
 use Rattle.kr_shard_laws.proofs.Keys.{key_cut, key_some}
 use Rattle.kr_shard_laws.proofs.Lines.{structure_line, structure_some}
 
@@ -84,21 +87,34 @@ module _ (problem : Problem) (makes : MakesLines problem) where
 
   -- ---- rows
 
-  row_listed : (v : List ℕ) (end : End) → IsVector (space_of problem) v → IsRowAt problem (key_along v (order_of problem v)) (mark_for end (row_of problem v))
-  row_listed v runs.True is = (refl, no_verdict problem v makes.mode, text_some v is, structure_line problem makes (structure_of problem v))
-  row_listed v runs.False is = tt
-  row_listed v (runs.Trap kind) is = tt
-  row_listed v runs.Spent is = tt
+  row_lined : (v : List ℕ) (end : End) → IsVector (space_of problem) v → IsLineAt problem (key_along v (order_of problem v)) (mark_for end (row_of problem v))
+  row_lined v runs.True is = record { key_is = refl; vector = v; verdict = refl; some = text_some v is; line = structure_line problem makes (structure_of problem v) }
+  row_lined v runs.False is = tt
+  row_lined v (runs.Trap kind) is = tt
+  row_lined v runs.Spent is = tt
 
-  mark_listed : (v : List ℕ) → IsVector (space_of problem) v → IsRowAt problem (key_along v (order_of problem v)) (mark_of problem v)
+  mark_lined : (v : List ℕ) → IsVector (space_of problem) v → IsLineAt problem (key_along v (order_of problem v)) (mark_of problem v)
   unfolding mark_of
-  mark_listed v is = row_listed v (end_on problem v) is
+  mark_lined v is = row_lined v (end_on problem v) is
 
-  pub listable : (e : Entry Row) → IsAmong e (all_entries problem) → IsListable problem e
-  listable e h =
+  pub lined : (e : Entry Row) → IsAmong e (all_entries problem) → IsLined problem e
+  lined e h =
       let from = entry_is_of problem e h in
-      subst (λ (x : Entry Row). IsListable problem x) from.is
-      (record { some = key_some problem makes from.vector; cut = key_cut problem makes from.vector from.within; row = mark_listed from.vector from.within })
+      subst (λ (x : Entry Row). IsLined problem x) from.is
+      (record { some = key_some problem makes from.vector; cut = key_cut problem makes from.vector from.within; row = mark_lined from.vector from.within })
+
+pub entries_lined : LinesLaw
+entries_lined problem makes e h = lined problem makes e h
+
+-- ---- of a listing
+
+row_listed : (problem : Problem) (key : List ℕ) (mark : Mark Row) → problem.mode ≡ Listing → IsLineAt problem key mark → IsRowAt problem key mark
+row_listed problem key (Valid row) mode h = (h.key_is, h.verdict ∙ no_verdict problem h.vector mode, h.some, h.line)
+row_listed problem key Invalid mode h = tt
+row_listed problem key Spent mode h = tt
+
+listable : (problem : Problem) → problem.mode ≡ Listing → (e : Entry Row) → IsLined problem e → IsListable problem e
+listable problem mode e h = record { some = h.some; cut = h.cut; row = row_listed problem e.key e.mark mode h.row }
 
 pub entries_listed : EntriesLaw
-entries_listed problem makes = record { mode = makes.mode; ascends = entries_ascend problem; listable = listable problem makes }
+entries_listed problem mode makes = record { mode = mode; ascends = entries_ascend problem; listable = λ e h. listable problem mode e (lined problem makes e h) }

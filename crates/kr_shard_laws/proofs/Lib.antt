@@ -11,9 +11,12 @@ pub mod EntryTexts
 pub mod ProblemNames
 pub mod Types
 pub mod Fields
+pub mod Methods
 pub mod Counts
 pub mod Sizes
 pub mod Accepted
+pub mod Tested
+pub mod Lengths
 pub mod Tokens
 pub mod Derived
 pub mod SourceNames

@@ -1,5 +1,5 @@
 -- The text of a structure is one line, and it isn't empty.
-use Rattle.std.proofs.Common.{ℕ, zero, suc, ◌<◌, Bool, true, false, List, [], ◌∷◌, ◌++◌, map, length, get_or, refl, sym, subst, arith, decimal, length-append}
+use Rattle.std.proofs.Common.{ℕ, zero, suc, ◌<◌, Bool, true, false, List, [], ◌∷◌, ◌++◌, map, length, get_or, refl, arith, decimal, length-append}
 use Rattle.std.specs.Prelude.{codes, flat_map, filter, not, if◌then◌else◌}
 use Rattle.std.specs.List.{AllByRecursion}
 use Rattle.kr_value.specs.declared.object.Class.{Class}
@@ -12,9 +12,7 @@ use Rattle.kr_classes_table.specs.Table.{Field as TableField, fields_of}
 use Rattle.kr_mean.specs.Heaps.{distinct, is_owner, is_same_object}
 use Rattle.kr_mean.specs.Places.{SlotPlace, This, Parameter, At}
 use Rattle.kr_mean.specs.Problem.{Problem, ClassDomain, DomainObject, all_objects, domain_at, no_objects, slot_at}
-use Rattle.kr_mean.specs.Runs.{tested_method}
-use Rattle.kr_mean.specs.declared.mode.Mode.{Mode}
-use Rattle.kr_report.specs.Texts.{behind, field_names, in_brackets, in_parentheses, joined_by, no_domain_object, object_name, object_text, objects_in, objects_named, parameter_names, parameter_text, part_text, parts_of, spot_text, structure_text, tested_parameters, value_text}
+use Rattle.kr_report.specs.Texts.{behind, field_names, in_brackets, in_parentheses, joined_by, no_domain_object, object_name, object_text, objects_in, objects_named, parameter_text, part_text, parts_of, spot_text, structure_text, tested_parameters, value_text}
 use Rattle.kr_shard_laws.proofs.Bytes.{without_append}
 use Rattle.kr_shard_laws.specs.Entries.{MakesLines}
 use Rattle.kr_shard_laws.proofs.Numbers.{IsLine, number_line, signed_line}
@@ -85,9 +83,8 @@ module _ (problem : Problem) (has : MakesLines problem) where
   named_line : (name : List ℕ) (v : Value) → IsLine name → IsLine (name ++ codes "=" ++ value_text problem v)
   named_line name v h = around_line name (codes "=") (value_text problem v) h (refl, tt) (value_line v)
 
-  -- a listing has no parameters
   parameters_line : (i : ℕ) → IsLine (get_or (tested_parameters problem) i [])
-  parameters_line i = subst (λ (m : Mode). IsLine (get_or (parameter_names (tested_method problem m)) i [])) (sym has.mode) tt
+  parameters_line i = line_at (tested_parameters problem) i has.parameters
 
   parameter_lines : (v : Value) (place : SlotPlace) → AreLines (parameter_text problem v place)
   parameter_lines v (Parameter i) = (named_line (get_or (tested_parameters problem) i []) v (parameters_line i), tt)

@@ -4,7 +4,7 @@ use Rattle.std.specs.Prelude.{codes, unwrap_or}
 use Rattle.std.specs.List.{AllByRecursion}
 use Rattle.std.proofs.lemmas.Bool.{ltb-false}
 use Rattle.kr_classes_table.specs.Types.{JavaType}
-use Rattle.kr_classes_table.specs.Table.{Field, Heading, fields_of, number_of}
+use Rattle.kr_classes_table.specs.Table.{Field, Heading, Parameter, fields_of, number_of}
 use Rattle.kr_fin.specs.declared.document.ArrayBound.{ArrayBound}
 use Rattle.kr_fin.specs.declared.document.Count.{Count}
 use Rattle.kr_fin.specs.declared.document.NamedDomain.{NamedDomain}
@@ -12,14 +12,14 @@ use Rattle.kr_fin.specs.declared.document.Item.{Item as FinItem}
 use Rattle.kr_mean.specs.declared.mode.Mode.{Mode}
 use Rattle.kr_mean.specs.Problem.{Problem, Choice, ClassDomain, Domain, Objects, Slot, Spotted, choices_at, choices_in, domain_at, item_choices, no_objects, slots}
 use Rattle.kr_space_meaning.specs.declared.refusal.SpaceRule.TheVariants.{EmptyDomain, TooMany, ValueTwice}
-use Rattle.kr_space_meaning.specs.Bounds.{Setting, array_class_domain, bounded, declared, domains_of, element_spots, elements_key, field_key, field_spots, field_values, given, greatest, lengths_of, object_domain, root_of, typed_bound, values_of}
+use Rattle.kr_space_meaning.specs.Bounds.{Setting, array_class_domain, bounded, declared, domains_of, element_spots, elements_key, field_key, field_spots, field_values, given, greatest, lengths_of, object_domain, parameter_key, parameter_values, root_of, typed_bound, values_of}
 use Rattle.kr_space_meaning.specs.Keys.{field_type, parameter_type}
 use Rattle.kr_space_meaning.specs.Faults.{S1, S2, S3_S5_S6, S4, S7, S8, S9, faults_in, has_twice, number_faults, numbers_of, numbers_of_lengths, of_arrays}
 use Rattle.kr_space_meaning.specs.Names.{array_type}
 use Rattle.kr_space_meaning.specs.Order.{break_if}
 use Rattle.kr_space_meaning.proofs.Given.{given_holds}
 use Rattle.kr_space_meaning.proofs.Each.{each_at, each_mapped, each_of_both, each_weaker, none_each, unbroken}
-use Rattle.kr_laws_slots.proofs.Numbering.{no_spot, object_slot, spotted_at, SlotCase, is_this, is_parameter, is_spot, slot_case}
+use Rattle.kr_laws_slots.proofs.Numbering.{no_spot, object_slot, parameter_slot, spotted_at, SlotCase, is_this, is_parameter, is_spot, slot_case}
 use Rattle.kr_laws_slots.proofs.Spaces.{objects_long}
 use Rattle.kr_shard_laws.proofs.Counts.{HasFew, IsNamed, of_declared}
 use Rattle.kr_shard_laws.proofs.Numbers.{IsLine}
@@ -31,6 +31,7 @@ use Rattle.kr_base.proofs.ListLemmas.{append_is_nil}
 
 pub record AreNumbered (problem : Problem) (setting : Setting) : Type 0 where
   pub fields : numbers_of problem setting (field_type setting.table) (codes "fields.") setting.document.fields ≡ []
+  pub params : numbers_of problem setting (parameter_type setting.table (root_of setting)) (codes "params.") setting.document.params ≡ []
   pub lengths : numbers_of_lengths problem setting setting.document.arrays ≡ []
   pub few : length (slots problem) ≤ 4096
 
@@ -47,11 +48,12 @@ numbered problem setting mode e =
     let behind_domains = (append_is_nil (S2 setting mode) (S3_S5_S6 problem setting ++ last) behind_names).1 in
     let numbers = (append_is_nil (S3_S5_S6 problem setting) last behind_domains).0 in
     let first = append_is_nil fields (params ++ (lengths ++ (this ++ many))) numbers in
-    let behind_params = (append_is_nil params (lengths ++ (this ++ many)) first.1).1 in
-    let third = append_is_nil lengths (this ++ many) behind_params in
+    let second = append_is_nil params (lengths ++ (this ++ many)) first.1 in
+    let third = append_is_nil lengths (this ++ many) second.1 in
     let behind_root = (append_is_nil this many third.1).1 in
     record {
       fields = first.0;
+      params = second.0;
       lengths = third.0;
       few = ltb-false 4096 (length (slots problem)) (unbroken (nat_lt 4096 (length (slots problem))) TooMany (codes "slots") behind_root);
     }
@@ -105,6 +107,26 @@ module _ (problem : Problem) (setting : Setting) (is : AreNumbered problem setti
       go : (o : Option (List FinItem)) → given setting.document.fields key ≡ o → IsFieldSmall key (unwrap_or o [])
       go None e = omega arith
       go (Some items) e = given_holds IsFieldSmall setting.document.fields key items fields_small e
+
+  -- what is given for a key of `params`
+  abbrev IsParameterSmall : List ℕ → List FinItem → Type 0
+  IsParameterSmall key items = IsSmall problem (values_of setting (parameter_type setting.table (root_of setting) key) items)
+
+  params_small : AllByRecursion (λ d. IsParameterSmall d.key d.domain) setting.document.params
+  params_small =
+      each_weaker _ (λ (d : NamedDomain). IsParameterSmall d.key d.domain) setting.document.params
+      (λ d none. few_choices (codes "params." ++ d.key) (choices_in problem (values_of setting (parameter_type setting.table (root_of setting) d.key) d.domain)) none) (none_each _ setting.document.params is.params)
+
+  parameter_small : (key : List ℕ) → IsSmall problem (parameter_values setting key)
+  parameter_small key = go (given setting.document.params key) refl
+    where
+      go : (o : Option (List FinItem)) → given setting.document.params key ≡ o → IsParameterSmall key (unwrap_or o [])
+      go None e = omega arith
+      go (Some items) e = given_holds IsParameterSmall setting.document.params key items params_small e
+
+  pub parameters_small : (mode : Mode) (ps : List Parameter) → AllByRecursion (IsSmall problem) (map (λ p. parameter_values setting (parameter_key mode p)) ps)
+  parameters_small mode [] = tt
+  parameters_small mode (p ∷ ps) = (parameter_small (parameter_key mode p), parameters_small mode ps)
 
   -- ---- domains
 
@@ -160,14 +182,19 @@ good_at problem [] d h = record { name = tt; count = omega arith; spots = tt }
 good_at problem (x ∷ xs) zero h = h.0
 good_at problem (x ∷ xs) (suc d) h = good_at problem xs d h.1
 
-pub slot_small : (problem : Problem) → problem.parameters ≡ [] → AllByRecursion (IsGood problem) problem.domains → (s : ℕ) → s < length (slots problem) → length (choices_at problem s) < 2 ^ 32
-slot_small problem none good s h = go (slot_case problem s h)
+pub slot_small : (problem : Problem) → AllByRecursion (IsSmall problem) problem.parameters → AllByRecursion (IsGood problem) problem.domains → (s : ℕ) → s < length (slots problem) → length (choices_at problem s) < 2 ^ 32
+slot_small problem parameters good s h = go (slot_case problem s h)
   where
     go : SlotCase problem s → length (choices_at problem s) < 2 ^ 32
     go (is_this e) =
         let own = good_at problem problem.domains problem.root good in
         subst (λ (n : ℕ). length (choices_at problem n) < 2 ^ 32) (sym e) (omega (arith, own.count, objects_long problem problem.root, length-append (item_choices problem (Objects problem.root)) []))
-    go (is_parameter i below e) = absurd (omega (arith, below, ap length none))
+    go (is_parameter i below e) =
+        let slot = (parameter_slot problem i below).1 in
+        let small : IsSmall problem (get_or problem.parameters i []) = each_at (IsSmall problem) problem.parameters i [] parameters below in
+        let same : length (choices_at problem s) ≡ length (choices_in problem (get_or problem.parameters i [])) =
+        ap (λ (n : ℕ). length (choices_at problem n)) e ∙ ap (λ (x : Slot). length (choices_in problem x.domain)) slot in
+        omega (arith, small, same)
     go (is_spot d k j a b c e) =
         let own = good_at problem problem.domains d good in
         let slot = (object_slot problem d k j a b c).1 in

@@ -7,8 +7,8 @@ mod names;
 mod problems;
 mod reading;
 
-pub use entries::entries_law;
+pub use entries::{entries_law, lines_law};
 pub use joining::shard_law;
-pub use names::names_law;
-pub use problems::{accepted_shards_law, listing_law};
+pub use names::{contract_lines_law, names_law};
+pub use problems::{accepted_lines_law, accepted_shards_law, listing_law};
 pub use reading::back_law;
