@@ -106,18 +106,55 @@ printf 'root = "Cell"\nfuel = 100\n[objects]\nCell = 1\n[fields]\n"Cell.v" = [{ 
 for v in 0 1 2 3 4; do echo "0.$v Cell#0{v=$v}"; done >listing
 echo 'valid 5 tried 5' >>listing
 rows 1 'differs 0.0 Cell#0{v=0}: repOk throws java.lang.IllegalStateException
-differs 0.1 Cell#0{v=1}: repOk takes more than 1000 steps
-differs 0.2 Cell#0{v=2}: repOk takes more than 1000 steps
+differs 0.1 Cell#0{v=1}: repOk takes more than 1000 steps, in the loop at Cell.java:5
+differs 0.2 Cell#0{v=2}: repOk takes more than 1000 steps, in repOk, which calls itself at Cell.java:6
 differs 0.3 Cell#0{v=3}: repOk throws java.lang.AssertionError
 agree 1 differ 4' cell.toml Cell.java <listing
 sed -i 's/fuel = 100/fuel = 1000000000/' cell.toml
-rows 1 'differs 0.2 Cell#0{v=2}: repOk takes more than 1000000 steps
+rows 1 'differs 0.2 Cell#0{v=2}: repOk takes more than 1000000 steps, in repOk, which calls itself at Cell.java:6
 agree 0 differ 1' cell.toml Cell.java <<<$'0.2 Cell#0{v=2}\nvalid 1 tried 1'
 sed -i 's/fuel = 1000000000/fuel = 100/' cell.toml
 printf '0.4 Cell#0{v=4}\nvalid 1 tried 5\n' >listing
-rows 1 'undecided Cell#0{v=1}: repOk takes more than 1000 steps
-undecided Cell#0{v=2}: repOk takes more than 1000 steps
+rows 1 'undecided Cell#0{v=1}: repOk takes more than 1000 steps, in the loop at Cell.java:5
+undecided Cell#0{v=2}: repOk takes more than 1000 steps, in repOk, which calls itself at Cell.java:6
 agree 1 differ 2' --all cell.toml Cell.java <listing
+# Of a listing that was spent the rows, and the first such structure.
+printf 'spent 0.1\n' >listing
+rows 1 'undecided Cell#0{v=1}: repOk takes more than 1000 steps, in the loop at Cell.java:5
+agree 0 differ 1' --all cell.toml Cell.java <listing
+# Of loops in each other, with calls in them: the one that doesn't end.
+cat >Cell.java <<'END'
+class Cell {
+    int v;
+    boolean repOk() {
+        for (int i = 0; i < 3; i++) {
+            int j = 0;
+            while (v > 1 || i > v + 3) {
+                for (int k = 0; k < 5; k++) {
+                    j = more(j);
+                }
+            }
+        }
+        return v == 0 || down(9) == 1;
+    }
+    int more(int j) {
+        int n = 0;
+        while (n < 4) n++;
+        return n + j;
+    }
+    int down(int n) {
+        return n == 0 ? up(0) : down(n - 1);
+    }
+    int up(int n) {
+        return n < 0 ? 1 : more(up(n + 1));
+    }
+}
+END
+rows 1 'undecided Cell#0{v=1}: repOk takes more than 1000 steps, in up, which calls itself at Cell.java:23
+undecided Cell#0{v=2}: repOk takes more than 1000 steps, in the loop at Cell.java:6
+undecided Cell#0{v=3}: repOk takes more than 1000 steps, in the loop at Cell.java:6
+undecided Cell#0{v=4}: repOk takes more than 1000 steps, in the loop at Cell.java:6
+agree 1 differ 4' --all cell.toml Cell.java <<<$'0.0 Cell#0{v=0}\nvalid 1 tried 5'
 
 # ---- what adapt writes for null among numbers, for outer objects, and records
 

@@ -14,7 +14,7 @@ refuse 2 "try with a method that is no name" "$tools/try" --method a-b A.java
 refuse 2 "try with a source that isn't there" "$tools/try" none.java
 
 if [ ! -x "$KORAT" ] || ! command -v javac >/dev/null; then
-    echo "16 not tried: there is no program, or no JDK"
+    echo "20 not tried: there is no program, or no JDK"
     finish
     exit
 fi
@@ -78,6 +78,10 @@ count $? "bounds: $(cat differences)"
 run 0 "bounds of a method" "$tools/bounds" --method grow Tree.java
 [ "$(sed -n '/^\[params\]/,$p' out)" = $'[params]\n"grow.by" = [{ from = 0, to = 2 }]' ]
 count $? "bounds of a method: $(tail -n 3 out)"
+printf 'class Cell {\n    Integer v;\n    boolean repOk() { return v == null || v > 1; }\n}\n' >Cell.java
+run 0 "bounds of what may be null" "$tools/bounds" Cell.java
+grep -qx '"Cell.v" = \["null", { from = 1, to = 3 }\]' out
+count $? "bounds of what may be null: $(tail -n 1 out)"
 refuse 1 "bounds of a method that isn't there" "$tools/bounds" --method none Tree.java
 refuse 1 "bounds of a root that isn't there" "$tools/bounds" --root None Tree.java
 echo 'class Plain { int x; }' >Plain.java
@@ -102,6 +106,8 @@ tried 1 "a class of the subset" '20 calls of insertBehind, 5 fail (trap NullPoin
 tried 0 "a limit" 'the first 3 structures, valid on this JVM too; more follow: --limit, or smaller bounds' '0.0.0 SortedList#0' --limit 3 "$example/fin.toml" "$example/SortedList.java"
 printf 'class Wide {\n    long x;\n    boolean repOk() { return x > 0; }\n}\n' >Wide.java
 tried 1 "a class that isn't adapted" 'not adapted: 1 line above: what has to be written otherwise' 'bounds: ' Wide.java
+printf 'class Ring {\n    Ring next;\n    boolean repOk() {\n        for (Ring r = next; r != null; r = r.next) { }\n        return true;\n    }\n}\n' >Ring.java
+tried 1 "a predicate that doesn't end on a cycle" "1 structure below 0.1, valid on this JVM too; the class's own repOk doesn't end on the next candidate, with ten times the fuel either, in the loop at Ring.java:4, as on Ring#0{next=Ring#0}: let it remember or count what it meets" 'adapt: nothing to do' Ring.java
 tried 1 "a class without a predicate" 'no finitization could be made: no class of the sources has a `boolean repOk()`: write one, which says whether an object is valid' '' Plain.java
 
 finish

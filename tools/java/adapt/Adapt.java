@@ -9,6 +9,8 @@
 package adapt;
 
 import java.io.IOException;
+import java.io.OutputStream;
+import java.io.PrintStream;
 import java.nio.file.Files;
 import java.nio.file.Path;
 import java.util.ArrayList;
@@ -18,6 +20,7 @@ import java.util.LinkedHashMap;
 import java.util.List;
 import java.util.Map;
 import java.util.Set;
+import replay.Endless;
 
 public final class Adapt {
     private static final String USAGE = "usage: tools/adapt [--method M] FIN SOURCE.. -o FOLDER";
@@ -46,7 +49,27 @@ public final class Adapt {
         adapted.sources().forEach((name, text) -> made.put(words.folder().resolve(Path.of(name).getFileName()), text));
         made.put(words.folder().resolve(words.fin().getFileName()), adapted.finitization());
         write(words.folder(), made);
-        return checked(List.copyOf(made.keySet()));
+        int status = checked(List.copyOf(made.keySet()));
+        if (status == 0) warnOfEndless(words, texts);
+        return status;
+    }
+
+    /** Runs the predicate on some structures, and warns of one on which it doesn't end. What the class prints goes nowhere. */
+    private static void warnOfEndless(Words words, Map<String, String> texts) {
+        PrintStream out = System.out;
+        PrintStream nowhere = new PrintStream(OutputStream.nullOutputStream());
+        System.setOut(nowhere);
+        System.setErr(nowhere);
+        Endless.Found found = Endless.of(words.folder().resolve(words.fin().getFileName()), words.sources());
+        if (found != null) out.println(warning(found, texts));
+    }
+
+    static String warning(Endless.Found found, Map<String, String> texts) {
+        String name = found.file();
+        for (String path : texts.keySet()) if (Path.of(path).getFileName().toString().equals(found.file())) name = path;
+        String line = texts.getOrDefault(name, "").lines().skip(found.line() - 1).findFirst().orElse("");
+        return name + ":" + found.line() + ":" + (line.length() - line.stripLeading().length() + 1) + ": warning: " + found.what() + " doesn't end on "
+                + found.structure() + "; let it remember or count what it meets, else the listing ends there, with `spent`";
     }
 
     /** Lets the program check what was written, where it is built: 1 where it isn't accepted. */

@@ -139,6 +139,11 @@ final class Aliases {
                 + "|Collections.emptyList|Collections.emptySet|Collections.emptyMap", false);
     }
 
+    /** Whether a collection may be one that can't be asked for null. */
+    boolean refusesNull(ExpressionTree tree) {
+        return isCollection(tree) && madeBy(tree, "List.of|Set.of", false);
+    }
+
     /** Whether something that flows into an expression is made by one of these, or (other) by anything else. */
     private boolean madeBy(ExpressionTree tree, String makers, boolean other) {
         return madeBy(tree, makers, other, new HashSet<>());

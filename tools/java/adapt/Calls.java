@@ -136,7 +136,7 @@ final class Calls {
             case "hashCode": return kind.equals("int") ? value : null;
             case "equals":
                 ExpressionTree other = tree.getArguments().get(0);
-                if (!Program.isNull(other) && !isSameBox(tree, receiver, other)) return differing(tree, receiver, other);
+                if (!Program.isNull(other) && !isSameBox(receiver, other)) return differing(tree, receiver, other);
                 if (!Program.isNull(other) && !Kinds.isBox(kinds.of(other)))
                         return "(" + value + " == " + expressions.operand(other) + ")";
                 library.box(Kinds.boxOf(kind));
@@ -150,13 +150,14 @@ final class Calls {
 
     /** How two numbers are compared: a Character, a Byte and a Short by their difference. */
     private String compared(MethodInvocationTree tree, ExpressionTree receiver) {
-        String box = box(receiver);
-        if (box.matches("Character|Byte|Short")) return "difference";
+        if (box(receiver).equals("Boolean")) return "compare";
+        java.util.Set<String> found = kinds.boxes.of(receiver);
         boolean sign = program.parent(tree) instanceof com.sun.source.tree.BinaryTree test
                 && (test.getRightOperand().toString().equals("0") || test.getLeftOperand().toString().equals("0"));
-        if (box.isEmpty() && kinds.hasSmallBoxes() && !sign)
-                return rewriter.refused(tree, "`compareTo` of a type that stands for numbers of two types", "compare its result with 0 at once") == null ? "" : "compare";
-        return "compare";
+        boolean same = kinds.boxes.areOne(receiver, tree.getArguments().get(0));
+        if (!same || box(receiver).isEmpty() && kinds.hasSmallBoxes() && !sign)
+                return rewriter.refused(tree, "`compareTo` of a type that stands for numbers of two types", "compare numbers of one, and the result with 0 at once") == null ? "" : "compare";
+        return found.size() == 1 && !found.contains("Integer") ? "difference" : "compare";
     }
 
     /** The class of a number's box, or nothing where the type doesn't say it. */
@@ -178,17 +179,26 @@ final class Calls {
     }
 
     /** Whether two expressions are numbers of one class, so that their boxes can be equal. */
-    private boolean isSameBox(MethodInvocationTree tree, ExpressionTree left, ExpressionTree right) {
-        return isSameBox(box(left), right);
+    private boolean isSameBox(ExpressionTree left, ExpressionTree right) {
+        return isOfKind(box(left), right) && (isTruth(right) || kinds.boxes.areOne(left, right));
     }
 
+    /** As `isSameBox`, with members of a collection, whose box has no name where their type doesn't say it. */
     private boolean isSameBox(String box, ExpressionTree right) {
+        if (!isOfKind(box, right)) return false;
+        java.util.Set<String> both = kinds.boxes.of(right);
+        both.addAll(box.isEmpty() ? kinds.boxes.all() : List.of(box));
+        return isTruth(right) || both.size() <= 1;
+    }
+
+    private boolean isTruth(ExpressionTree tree) {
+        return Kinds.unboxOf(kinds.of(tree)).equals("boolean");
+    }
+
+    /** Whether both are numbers, or both truth values. */
+    private boolean isOfKind(String box, ExpressionTree right) {
         String kind = Kinds.unboxOf(kinds.of(right));
-        if (!Kinds.isBoxable(kind) || kind.equals("boolean") != box.equals("Boolean") && !box.isEmpty()) return false;
-        String other = box(right);
-        if (box.equals(other)) return true;
-        String known = box.isEmpty() ? other : box;
-        return (box.isEmpty() || other.isEmpty()) && known.equals("Integer") && !kinds.hasSmallBoxes() || kind.equals("boolean");
+        return Kinds.isBoxable(kind) && (box.isEmpty() || isTruth(right) == box.equals("Boolean"));
     }
 
     private String differing(MethodInvocationTree tree, ExpressionTree left, ExpressionTree right) {
@@ -243,7 +253,8 @@ final class Calls {
                 ? Map.of("pop/0", "popOfStack", "peek/0", "topOfStack", "push/1", "add").get(call) : onList(call, byIndex);
         if (name == null) return null;
         boolean all = name.matches("addAll|containsAll");
-        if (name.matches("contains|indexOf|lastIndexOf|search|remove") && isForeign(tree, element)) return foreign(tree);
+        boolean adds = name.equals("add") && Kinds.isBoxable(Kinds.unboxOf(element)) && program.types.erasure(program.type(Program.bare(kinds.receiver(tree)))).toString().endsWith("Set");
+        if ((adds || name.matches("contains|indexOf|lastIndexOf|search|remove")) && isForeign(tree, element)) return foreign(tree);
         if (name.matches("contains|indexOf|lastIndexOf|search|remove|containsAll") && (kinds.isList(element) || kinds.isMap(element)))
                 return rewriter.refused(tree, "`" + name + "` of members that are collections", "write a loop");
         if (!kind.endsWith(">")) library.need(kinds, kind, expressions);
@@ -306,7 +317,7 @@ final class Calls {
         if (name.matches("firstKey|lastKey") && kind.startsWith("Sorted")) return receiver + "." + name + "()";
         if (!name.matches("get|getOrDefault|containsKey|put|putIfAbsent|remove|size|isEmpty|clear") || name.equals("remove")
                 && tree.getArguments().size() > 1) return null;
-        if (name.matches("get|getOrDefault|containsKey|remove") && isForeign(tree, sides[0])) return foreign(tree);
+        if ((name.matches("get|getOrDefault|containsKey|remove") || name.startsWith("put") && Kinds.isBoxable(Kinds.unboxOf(sides[0]))) && isForeign(tree, sides[0])) return foreign(tree);
         List<String> texts = new ArrayList<>();
         for (int i = 0; i < tree.getArguments().size(); i++) texts.add(argument(tree, i, sides[i]));
         return receiver + "." + name + "(" + String.join(", ", texts) + ")";
@@ -440,7 +451,7 @@ final class Calls {
         ExpressionTree right = tree.getArguments().get(1);
         String kind = first.equals("null") ? kinds.of(right) : first;
         if (Kinds.isBoxable(Kinds.unboxOf(kind))) {
-            if (!Program.isNull(left) && !Program.isNull(right) && !isSameBox(tree, left, right)) return differing(tree, left, right);
+            if (!Program.isNull(left) && !Program.isNull(right) && !isSameBox(left, right)) return differing(tree, left, right);
             return expressions.areEqual(left, right, Kinds.boxOf(Kinds.unboxOf(kind)));
         }
         if (Kinds.isEnum(kind) && !Program.isNull(right) && !Program.isNull(left) && !kinds.of(right).equals(kind)) return differing(tree, left, right);

@@ -72,6 +72,19 @@ final class Checks {
         if (reach.tested != null) new Exceptions(program, kinds, reach, notes).warn();
     }
 
+    private boolean mayBeNull(ExpressionTree tree) {
+        ExpressionTree bare = Program.bare(tree);
+        boolean constant = program.element(bare) != null && program.element(bare).getKind() == javax.lang.model.element.ElementKind.ENUM_CONSTANT;
+        return !program.type(bare).getKind().isPrimitive() && !constant && !(bare instanceof NewClassTree) && !bare.toString().equals("this");
+    }
+
+    private void warnOfLength(Tree creation, ExpressionTree length) {
+        long most = lengths.most(length, method);
+        if (most < 0 || most > 64) {
+            notes.warn(program.place(creation), "an array longer than 64 traps in korat, and nothing says that `" + program.text(length) + "` is at most 64");
+        }
+    }
+
     private void refuse(Tree tree, String what, String rewrite) {
         notes.refuse(program.place(tree), what, rewrite);
     }
@@ -105,7 +118,11 @@ final class Checks {
                     if (collection != null) refuseLaterChange(tree, collection);
                 }
                 if (called.getSimpleName().contentEquals("addAll")) warnOfOrder(tree, aliases.collection(tree.getArguments().get(0)));
+                if (Collected.isCopy(called) && tree.getArguments().size() > 1 && !kinds.isAdded(kinds.of(tree)))
+                        warnOfLength(tree, tree.getArguments().get(tree.getArguments().size() - 1));
                 if (Collected.makes(called)) checkMembers(tree, program.type(tree), Collected.qualified(called).equals("java.util.Set.of") ? "HashSet" : "");
+                if (receiver != null && called.getSimpleName().toString().matches("contains|indexOf|lastIndexOf") && mayBeNull(tree.getArguments().get(0)) && aliases.refusesNull(receiver))
+                        refuse(tree, "`" + called.getSimpleName() + "` of what `List.of` or `Set.of` made, which ends by an exception where null is looked for", "make it by `new`");
                 if (receiver != null && isChange(called) && aliases.isFixed(receiver))
                         refuse(tree, "a change of a collection that can't be changed", "make it by `new`");
             }
@@ -114,13 +131,7 @@ final class Checks {
 
         @Override
         public Void visitNewArray(NewArrayTree tree, Void nothing) {
-            for (ExpressionTree length : tree.getDimensions()) {
-                long most = lengths.most(length, method);
-                if ((most < 0 || most > 64) && !kinds.flow.isScratch(tree)) {
-                    notes.warn(program.place(tree), "an array longer than 64 traps in korat, and nothing says that `"
-                            + program.text(length) + "` is at most 64");
-                }
-            }
+            if (!kinds.flow.isScratch(tree)) tree.getDimensions().forEach(length -> warnOfLength(tree, length));
             return super.visitNewArray(tree, nothing);
         }
 

@@ -511,9 +511,22 @@ final class Expressions extends SimpleTreeVisitor<String, Void> {
     @Override
     public String visitConditionalExpression(ConditionalExpressionTree tree, Void nothing) {
         String kind = kinds.of(tree);
+        List<String> both = List.of(Kinds.unboxOf(kinds.of(tree.getTrueExpression())), Kinds.unboxOf(kinds.of(tree.getFalseExpression())));
+        if (both.containsAll(List.of("int", "boolean"))) return rewriter.refused(tree, "a choice between a number and a truth value", "use variables of one type");
         return rewriter.composed(tree,
-                Map.of(tree.getCondition(), value(tree.getCondition(), "boolean"), tree.getTrueExpression(), value(tree.getTrueExpression(), kind), tree.getFalseExpression(),
+                Map.of(tree.getCondition(), value(tree.getCondition(), "boolean"), tree.getTrueExpression(), common(tree) + value(tree.getTrueExpression(), kind), tree.getFalseExpression(),
                 value(tree.getFalseExpression(), kind)));
+    }
+
+    /** A cast of the first of two to a class above both, where neither is above the other. */
+    private String common(ConditionalExpressionTree tree) {
+        TypeElement first = program.classes.get(kinds.of(tree.getTrueExpression()));
+        TypeElement second = program.classes.get(kinds.of(tree.getFalseExpression()));
+        if (first == null || second == null || program.isBelow(first, second) || program.isBelow(second, first)) return "";
+        TypeElement wanted = program.classes.get(kinds.kind(program.type(tree)));
+        for (TypeElement type : program.classes.values())
+            if (wanted == null && rewriter.reach.kept.contains(type) && program.isBelow(first, type) && program.isBelow(second, type)) wanted = type;
+        return wanted == null ? "" : "(" + rewriter.type(tree, wanted.getSimpleName().toString()) + ") ";
     }
 
     @Override
@@ -523,6 +536,8 @@ final class Expressions extends SimpleTreeVisitor<String, Void> {
         String from = kinds.of(tree.getExpression());
         if (type.getKind().isPrimitive() && (kind.startsWith("?") || from.startsWith("?")))
                 return rewriter.type(tree, kind.startsWith("?") ? kind : from);
+        if (Boxes.isAny(program.type(Program.bare(tree.getExpression()))) && Kinds.unboxOf(from).equals("int") && !isOfBox(tree.getExpression(), type))
+                return rewriter.refused(tree, "a cast to " + type + " of numbers of two types", "use variables of one");
         String range = narrow(type);
         if (range != null) {
             notes.changed(program.place(tree), "the cast to " + type + " became arithmetic");
@@ -543,6 +558,8 @@ final class Expressions extends SimpleTreeVisitor<String, Void> {
         String kind = kinds.kind(program.type(tree.getType()));
         String from = kinds.of(tree.getExpression());
         if (kinds.isList(kind) || kinds.isMap(kind)) return rewriter.refused(tree, "`instanceof` of a collection", "leave it out");
+        if (Kinds.isBoxable(kind) && !isOfBox(tree.getExpression(), program.type(tree.getType())))
+                return rewriter.refused(tree, "`instanceof` of numbers of two types", "use variables of one");
         if (Kinds.isBoxable(kind) && kind.equals(from)) return "!" + absent(tree.getExpression(), from);
         if (Kinds.isBoxable(kind) && Kinds.boxOf(kind).equals(from) || Kinds.isEnum(kind) && kind.equals(from))
                 return "(" + rewriter.of(tree.getExpression()) + (Kinds.isEnum(kind) ? " >= 0)" : " != null)");
@@ -553,6 +570,12 @@ final class Expressions extends SimpleTreeVisitor<String, Void> {
             return "(" + rewriter.of(tree.getExpression()) + " != null)";
         }
         return operand(tree.getExpression()) + " instanceof " + rewriter.type(tree.getType(), kind);
+    }
+
+    /** Whether an expression's number is of this class, or of none where it isn't a number. */
+    private boolean isOfBox(ExpressionTree tree, TypeMirror type) {
+        String box = Boxes.of(type);
+        return box.isEmpty() || List.of(box).containsAll(kinds.boxes.of(tree));
     }
 
     /** `instanceof` with a variable, which is declared at the method's beginning and assigned here. */

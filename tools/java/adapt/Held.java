@@ -93,6 +93,11 @@ final class Held {
         return names;
     }
 
+    /** Whether members are numbers, and their type doesn't say of which class. */
+    boolean hasNumbersOfAny() {
+        return names.keySet().stream().anyMatch(field -> argumentsOf(field).stream().anyMatch(argument -> Boxes.isAny(argument) && kinds.kind(argument).equals("int")));
+    }
+
     /** The collections whose members are known. */
     List<One> all() {
         names.forEach((field, name) -> of(name));

@@ -61,6 +61,7 @@ final class Kinds {
     final Finitization fin;
     final Flow flow;
     final Held held;
+    final Boxes boxes;
     private final Notes notes;
     /** What the finitization says of fields whose declared types don't tell. */
     private final Map<Element, String> given = new HashMap<>();
@@ -84,6 +85,7 @@ final class Kinds {
         this.notes = notes;
         flow = new Flow(program);
         held = new Held(program, this, fin);
+        boxes = new Boxes(program, this);
         fin.fields().forEach(this::learnField);
         held.all();
     }

@@ -304,13 +304,23 @@ final class Program {
         return null;
     }
 
-    /** A method of the sources by which a class overrides one, or which it inherits. */
+    /** A method of the sources by which a class overrides one, or which it inherits: of its interfaces' methods the lowest. */
     ExecutableElement overriding(TypeElement type, ExecutableElement above) {
         for (Element member : elements.getAllMembers(type)) {
-            if (member instanceof ExecutableElement method && method.getKind() == ElementKind.METHOD && isOwn(member)
-                    && elements.overrides(method, above, type)) return method;
+            if (overrides(member, above, type) && classOf(member).getKind() != ElementKind.INTERFACE) return (ExecutableElement) member;
         }
-        return null;
+        ExecutableElement lowest = null;
+        for (TypeElement face : classes.values()) {
+            if (face.getKind() != ElementKind.INTERFACE || !isBelow(type, face)) continue;
+            for (Element member : face.getEnclosedElements()) {
+                if (overrides(member, above, type) && (lowest == null || isBelow(face, classOf(lowest)))) lowest = (ExecutableElement) member;
+            }
+        }
+        return lowest;
+    }
+
+    private boolean overrides(Element member, ExecutableElement above, TypeElement type) {
+        return member instanceof ExecutableElement method && method.getKind() == ElementKind.METHOD && isOwn(member) && elements.overrides(method, above, type);
     }
 
     /** A class's own `equals` of objects. */

@@ -288,8 +288,9 @@ final class Reach {
         scanner.scan(tree.getBody(), null);
     }
 
-    /** In kept classes, what overrides a kept method is kept. */
+    /** In kept classes, and interfaces between kept ones, what overrides a kept method is kept. */
     private void overriding() {
+        program.classes.values().stream().filter(this::isBetween).forEach(this::keepClass);
         for (TypeElement type : program.classes.values()) {
             if (!kept.contains(type)) continue;
             for (Element member : type.getEnclosedElements()) {
@@ -297,6 +298,13 @@ final class Reach {
                         reach(method);
             }
         }
+    }
+
+    /** Whether an interface is one by which a kept class has another, kept one. */
+    private boolean isBetween(TypeElement face) {
+        return face.getKind() == ElementKind.INTERFACE && !kept.contains(face)
+                && program.classes.values().stream().anyMatch(type -> type != face && kept.contains(type) && program.isBelow(type, face))
+                && program.classes.values().stream().anyMatch(type -> type != face && kept.contains(type) && program.isBelow(face, type));
     }
 
     private boolean overridesKept(ExecutableElement method) {

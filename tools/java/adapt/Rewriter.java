@@ -36,7 +36,7 @@ import javax.lang.model.type.TypeMirror;
 final class Rewriter {
     private final Program program;
     private final Kinds kinds;
-    private final Reach reach;
+    final Reach reach;
     private final Library library;
     private final Notes notes;
     private final Outers outers;
@@ -412,7 +412,8 @@ final class Rewriter {
         List<TypeElement> interfaces = type.getInterfaces().stream().map(t -> (TypeElement) program.types.asElement(t))
                 .filter(reach.kept::contains).filter(this::isUsed).toList();
         boolean own = above != null && program.isOwn(above);
-        List<TypeElement> missing = interfaces.stream().filter(face -> !own || !program.isBelow(above, face)).toList();
+        List<TypeElement> missing = interfaces.stream().filter(face -> !own || !program.isBelow(above, face))
+                .filter(face -> interfaces.stream().noneMatch(other -> other != face && program.isBelow(other, face))).toList();
         if (missing.size() > 1 || own && !missing.isEmpty()) {
             refused(tree.getImplementsClause().isEmpty() ? tree : tree.getImplementsClause().get(0),
                     type.getSimpleName() + " would need two superclasses, " + (own ? above.getSimpleName() + ", " : "")
@@ -426,7 +427,8 @@ final class Rewriter {
     private boolean isUsed(TypeElement face) {
         return reach.kept.stream().anyMatch(e -> e instanceof ExecutableElement && Program.classOf(e).equals(face)
                 || e instanceof VariableElement && program.types.asElement(e.asType()) == face)
-                        || kinds.fin.objects().containsKey(face.getSimpleName().toString());
+                        || kinds.fin.objects().containsKey(face.getSimpleName().toString())
+                        || face.getInterfaces().stream().map(above -> (TypeElement) program.types.asElement(above)).anyMatch(above -> reach.kept.contains(above) && isUsed(above));
     }
 
     /** Whether the members of one class are those of another by their simple names. */

@@ -93,9 +93,21 @@ final class First {
                 more = true;
                 String name = field.getSimpleName().toString();
                 String collection = collectionOf(field);
-                fields.put(declaring.getSimpleName() + "." + name, collection != null ? "[\"" + collection + "\"]  # `\"null\"` too, where it may be null" : domain(field.asType(), name));
+                fields.put(declaring.getSimpleName() + "." + name, collection != null ? "[\"" + collection + "\"]  # `\"null\"` too, where it may be null"
+                        : isTestedForNull(field) ? withNull(domain(field.asType(), name)) : domain(field.asType(), name));
             }
         }
+    }
+
+    /** Whether the source looks whether a field of a box's type, or of any, is null. */
+    private boolean isTestedForNull(VariableElement field) {
+        String text = program.sourceOf(program.trees.getPath(field).getCompilationUnit()).text();
+        boolean any = field.asType().getKind() == TypeKind.TYPEVAR || field.asType().toString().matches("java\\.lang\\.(Integer|Boolean|Object)");
+        return any && Pattern.compile("\\b" + field.getSimpleName() + "\\s*[!=]=\\s*null\\b").matcher(text).find();
+    }
+
+    private static String withNull(String domain) {
+        return domain.startsWith("[\"null\"") ? domain : domain.replaceFirst("\\[", "[\"null\", ").replaceFirst("  # `\"null\"` too, where it may be null", "");
     }
 
     /** The domain of a field or parameter, with a comment. */

@@ -29,10 +29,11 @@ final class Comparison {
         Map<String, Row> seen = new HashMap<>();
         for (Row row : rows) {
             String text = row.structure().canonical(model);
-            String why = judge.why(builder.built(row.structure()), row.text());
+            Object root = builder.built(row.structure());
+            String why = judge.why(root, row.text());
             Row twin = seen.putIfAbsent(text, row);
             if (why != null) {
-                differs("differs " + row.text() + ": " + why);
+                differs("differs " + row.text() + ": " + judge.placed(why, root));
             } else if (twin != null) {
                 differs("too many " + row.text() + ": isomorphic to " + twin.key());
             } else {
@@ -47,21 +48,33 @@ final class Comparison {
         differing++;
     }
 
-    /** A structure within the bounds, with what the predicate says of it. */
-    void candidate(Object root, Space space) throws Fault {
+    /** A structure within the bounds, with what the predicate says of it; true. */
+    boolean candidate(Object root, Space space) throws Fault {
         String why = judge.why(root, space);
         space.decideReachable(why == null);
-        if ((why == null || why.endsWith("steps")) && !space.isListed()) {
-            return;
-        }
-        if (why == null) {
+        if (why == null && space.isListed()) {
             String text = space.structure().canonical(model);
             if (found.add(text) && unmet.remove(text) == null) {
                 differs("missing " + text);
             }
-        } else if (why.endsWith("steps")) {
-            differs("undecided " + space.structure().canonical(model) + ": " + why);
         }
+        isUndecided(why, root, space);
+        return true;
+    }
+
+    /** A structure within the bounds, of which those alone are named on which the predicate doesn't end; false at the first. */
+    boolean endless(Object root, Space space) throws Fault {
+        String why = judge.why(root, space);
+        space.decideReachable(why == null);
+        return !isUndecided(why, root, space);
+    }
+
+    private boolean isUndecided(String why, Object root, Space space) throws Fault {
+        boolean undecided = Judge.isEndless(why) && space.isListed();
+        if (undecided) {
+            differs("undecided " + space.structure().canonical(model) + ": " + judge.placed(why, root));
+        }
+        return undecided;
     }
 
     /** The rows that no structure within the bounds is. */

@@ -2,9 +2,12 @@ package replay;
 
 import java.util.ArrayList;
 import java.util.Collection;
+import java.util.HashSet;
 import java.util.LinkedHashMap;
 import java.util.List;
 import java.util.Map;
+import java.util.Objects;
+import java.util.Set;
 import java.util.regex.Matcher;
 import java.util.regex.Pattern;
 
@@ -122,19 +125,52 @@ record Held(String name, Class<?> type, List<String> members) {
         }
     }
 
+    private boolean isAscending() {
+        return type.getSimpleName().matches("(Tree|Hash)(Set|Map)");
+    }
+
+    private boolean isDistinct() {
+        return isMap() || Set.class.isAssignableFrom(type);
+    }
+
     /** Whether members stand in the order in which a collection's are listed, each once where it has each once. */
     boolean isListed(List<Object> told) {
-        boolean ascending = type.getSimpleName().matches("(Tree|Hash)(Set|Map)");
-        boolean distinct = isMap() || java.util.Set.class.isAssignableFrom(type);
         int step = slots().size();
-        for (int at = 0; distinct && at < told.size(); at += step) {
-            for (int before = ascending ? Math.max(at - step, 0) : 0; before < at; before += step) {
-                if (ascending ? order(told.get(before)) >= order(told.get(at)) : java.util.Objects.equals(told.get(before), told.get(at))) {
+        for (int at = 0; isDistinct() && at < told.size(); at += step) {
+            for (int before = isAscending() ? Math.max(at - step, 0) : 0; before < at; before += step) {
+                if (isAscending() ? order(told.get(before)) >= order(told.get(at)) : Objects.equals(told.get(before), told.get(at))) {
                     return false;
                 }
             }
         }
         return true;
+    }
+
+    /** The sizes for which there are members enough; all where there are for none. */
+    List<Integer> possible(List<Integer> sizes, List<Choice> choices) {
+        boolean unbounded = !isDistinct() || choices.stream().anyMatch(choice -> choice.type() != null);
+        List<Integer> possible = sizes.stream().filter(size -> unbounded || size <= choices.size()).toList();
+        return possible.isEmpty() ? sizes : possible;
+    }
+
+    /** Of the values that a slot may have, those with which the members before it are listed, and with which those after it can be. */
+    List<Value> listed(List<Value> values, List<Object> told, int slot) {
+        int step = slots().size();
+        if (!isDistinct() || slot % step != 0) {
+            return values;
+        }
+        if (!isAscending()) {
+            Set<Object> before = new HashSet<>();
+            for (int at = 0; at < slot; at += step) {
+                before.add(told.get(at));
+            }
+            return values.stream().filter(value -> !before.contains(value.told())).toList();
+        }
+        long least = slot == 0 ? Long.MIN_VALUE : order(told.get(slot - step)) + 1;
+        long[] orders = values.stream().mapToLong(value -> order(value.told())).distinct().sorted().toArray();
+        int after = (told.size() - slot) / step - 1;
+        long most = after < orders.length ? orders[orders.length - 1 - after] : Long.MIN_VALUE;
+        return values.stream().filter(value -> order(value.told()) >= least && order(value.told()) <= most).toList();
     }
 
     private static long order(Object told) {

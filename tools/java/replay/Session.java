@@ -50,15 +50,18 @@ public final class Session implements Runnable {
             out.print(new Tests(model, order.call).text(listing.rows()));
             return 0;
         }
-        if (order.all && !listing.whole()) {
+        boolean spent = listing.end().startsWith("spent");
+        if (order.all && !listing.whole() && !spent) {
             throw new Fault("standard input is no whole listing, which --all needs: it ends with '" + listing.end() + "'");
         }
         judge = new Judge(model, bounds.fuel);
         Comparison comparison = new Comparison(model, judge, out);
-        Space space = order.all ? new Space(model, bounds, order, comparison) : null;
+        Space space = order.all ? new Space(model, bounds, order.most, order.plain) : null;
         comparison.rows(listing.rows());
-        if (order.all) {
-            space.run();
+        if (order.all && spent) {
+            space.run(comparison::endless);
+        } else if (order.all) {
+            space.run(comparison::candidate);
             comparison.surplus();
         }
         return comparison.end();

@@ -11,6 +11,7 @@ import java.util.Map;
 import java.util.TreeMap;
 import java.util.function.Consumer;
 import java.util.function.IntConsumer;
+import java.util.function.IntSupplier;
 import java.util.function.ObjIntConsumer;
 import javax.tools.Diagnostic;
 import javax.tools.DiagnosticCollector;
@@ -24,7 +25,7 @@ final class Sources extends ClassLoader {
     static final String STEPS_SOURCE = """
             package replayed;
             import java.util.function.*;
-            public final class Steps implements IntConsumer, Consumer<ObjIntConsumer<Object>> {
+            public final class Steps implements IntConsumer, IntSupplier, Consumer<ObjIntConsumer<Object>> {
                 private static int left;
                 private static ObjIntConsumer<Object> reader;
                 public static final class Spent extends Error { }
@@ -44,6 +45,7 @@ final class Sources extends ClassLoader {
                 public static float get(float[] array, int index) { return read(array, -2 - index)[index]; }
                 public static double get(double[] array, int index) { return read(array, -2 - index)[index]; }
                 public void accept(int steps) { left = steps; }
+                public int getAsInt() { return left; }
                 public void accept(ObjIntConsumer<Object> next) { reader = next; }
             }
             """;
@@ -145,6 +147,16 @@ final class Sources extends ClassLoader {
     /** Gives a run so many steps. */
     void steps(int most) {
         ((IntConsumer) steps).accept(most);
+    }
+
+    /** How many steps the last run left. */
+    int stepsLeft() {
+        return ((IntSupplier) steps).getAsInt();
+    }
+
+    /** Whether the sources have the class of a stack's frame. */
+    boolean isOwn(StackTraceElement frame) {
+        return compiled.containsKey(frame.getClassName()) && !frame.getClassName().startsWith("replayed.");
     }
 
     /** Hands the reads of fields to a reader from now on. */

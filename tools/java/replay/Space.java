@@ -25,7 +25,6 @@ final class Space implements ObjIntConsumer<Object> {
     private final Finitization bounds;
     private final long most;
     private final boolean plain;
-    private final Comparison comparison;
     private final Map<Field, List<Item>> domains = new HashMap<>();
     /** For each domain or array type and number the objects that may have it: of an array type one for each length. */
     private final Map<String, List<List<Cell>>> pools = new HashMap<>();
@@ -35,12 +34,16 @@ final class Space implements ObjIntConsumer<Object> {
     private Cell root;
     private long tried;
 
-    Space(Model model, Finitization bounds, Order order, Comparison comparison) throws Fault {
+    /** What is done with a structure: whether there is to be a next one. */
+    interface Taker {
+        boolean take(Object root, Space space) throws Fault;
+    }
+
+    Space(Model model, Finitization bounds, long most, boolean plain) throws Fault {
         this.model = model;
         this.bounds = bounds;
-        this.most = order.most;
-        this.plain = order.plain || model.sources.noted.isEmpty();
-        this.comparison = comparison;
+        this.most = most;
+        this.plain = plain || model.sources.noted.isEmpty();
         resolveFields();
         makeObjects();
     }
@@ -114,7 +117,7 @@ final class Space implements ObjIntConsumer<Object> {
             choices.add(choices(model.member(one, choices.size()), bounds.fields.get(key), key));
         }
         List<Cell> variants = new ArrayList<>();
-        for (int size : bounds.sizes.get(name.type())) {
+        for (int size : one.possible(bounds.sizes.get(name.type()), choices.get(0))) {
             List<Slot> slots = new ArrayList<>();
             while (slots.size() < size * choices.size()) {
                 slots.add(new Slot(String.valueOf(slots.size()), null, -1, choices.get(slots.size() % choices.size())));
@@ -166,8 +169,8 @@ final class Space implements ObjIntConsumer<Object> {
         return cell;
     }
 
-    /** Hands each structure to the comparison. */
-    void run() throws Fault {
+    /** Hands over each structure, until one is the last. */
+    void run(Taker taker) throws Fault {
         List<List<Cell>> roots = pools.getOrDefault(bounds.root, List.of());
         if (roots.isEmpty()) {
             return;
@@ -190,8 +193,7 @@ final class Space implements ObjIntConsumer<Object> {
             for (Cell cell : cells.values()) {
                 fillUndecided(cell, true);
             }
-            comparison.candidate(root.real, this);
-        } while (advanced());
+        } while (taker.take(root.real, this) && advanced());
     }
 
     /** Gives the slots that aren't decided the first of their values. It changes alone where it is an array, of another length. */
@@ -199,12 +201,21 @@ final class Space implements ObjIntConsumer<Object> {
         for (int slot = 0; slot < cell.told.length; slot++) {
             boolean array = cell.held[slot] != null && cell.held[slot].name.isIndexed();
             if (!cell.decided[slot] && (array || !arraysAlone)) {
-                put(cell, slot, values(cell.slots.get(slot)).get(0));
+                put(cell, slot, values(cell, slot).get(0));
             }
         }
     }
 
-    /** The values that a slot may have now. */
+    /** The values that a slot may have now: of a collection's member those with which it is listed, where there are any. */
+    private List<Value> values(Cell cell, int slot) throws Fault {
+        List<Value> values = values(cell.slots.get(slot));
+        if (!cell.name.isCollection()) {
+            return values;
+        }
+        List<Value> listed = model.collection(cell.name.type()).listed(values, Arrays.asList(cell.told), slot);
+        return listed.isEmpty() ? values : listed;
+    }
+
     private List<Value> values(Slot slot) throws Fault {
         List<Value> values = new ArrayList<>();
         for (Choice choice : slot.choices()) {
@@ -269,11 +280,15 @@ final class Space implements ObjIntConsumer<Object> {
         }
     }
 
-    /** Decides a slot for what it holds, which is its first value. */
+    /** Decides a slot for its first value, which it holds but for a collection's: what runs before it is decided don't read that. */
     private void decide(Cell cell, int slot) {
         if (!cell.decided[slot]) {
             try {
-                use(new Decision(cell, slot, values(cell.slots.get(slot))));
+                Decision decision = new Decision(cell, slot, values(cell, slot));
+                if (cell.name.isCollection()) {
+                    put(cell, slot, decision.values.get(0));
+                }
+                use(decision);
             } catch (Fault never) {
                 throw new IllegalStateException(never);
             }
@@ -306,9 +321,10 @@ final class Space implements ObjIntConsumer<Object> {
         model.collection(cell.name.type()).fill(cell.real, Arrays.asList(cell.members));
     }
 
-    /** Whether the members of all collections that are reachable stand in the order in which they are listed. */
+    /** Whether the members of all collections that are reachable, and were read, stand in the order in which they are listed. */
     boolean isListed() {
-        return reachable(false).stream().allMatch(cell -> !cell.name.isCollection() || model.collection(cell.name.type()).isListed(Arrays.asList(cell.told)));
+        return reachable(false).stream().allMatch(cell -> !cell.name.isCollection() || cell.slots.isEmpty() || !cell.decided[0]
+                || model.collection(cell.name.type()).isListed(Arrays.asList(cell.told)));
     }
 
     /** How much of all choices, in percent, is before the present ones, as if the choices at each slot had equal shares. */

@@ -1,6 +1,7 @@
 package replay;
 
 import java.net.URI;
+import java.net.URISyntaxException;
 import javax.tools.SimpleJavaFileObject;
 
 /** A source in memory. Its file need not have the name of its public class. */
@@ -9,9 +10,18 @@ final class Text extends SimpleJavaFileObject {
     private final String text;
 
     Text(String name, String text) {
-        super(URI.create("memory:///" + Math.abs((long) name.hashCode()) + ".java"), Kind.SOURCE);
+        super(place(name), Kind.SOURCE);
         this.name = name;
         this.text = text;
+    }
+
+    /** The last part is what a frame of a stack says of its file. */
+    private static URI place(String name) {
+        try {
+            return new URI("memory", null, "/" + Math.abs((long) name.hashCode()) + "/" + name.substring(name.lastIndexOf('/') + 1), null);
+        } catch (URISyntaxException odd) {
+            return URI.create("memory:///" + Math.abs((long) name.hashCode()) + ".java");
+        }
     }
 
     @Override

@@ -25,6 +25,7 @@ import java.util.Map;
 import java.util.TreeMap;
 import java.util.stream.Stream;
 import replay.After;
+import replay.Endless;
 import replay.Session;
 
 public final class Meaning {
@@ -127,13 +128,19 @@ public final class Meaning {
         Path listing = work.resolve("listing");
         int status = called(listing, "list", folder.resolve("fin.toml").toString(), folder.resolve(one.file()).toString());
         String rows = Files.readString(listing);
-        if (status == 5) return new String[] {"spent", rows.lines().reduce((a, b) -> b).orElse("")};
+        if (status == 5) return new String[] {"spent", endless(folder.resolve("fin.toml"), original.resolve(one.file()))};
         if (status != 0) return new String[] {"no check", status + " " + rows.lines().reduce((a, b) -> b).orElse("")};
         String difference = replayed(folder.resolve("fin.toml"), original.resolve(one.file()), rows);
         if (difference == null && one.method() != null) difference = tested(one, folder.resolve(one.file()), original.resolve(one.file()), folder.resolve("fin.toml"));
         if (difference != null) return new String[] {"differ", difference + " " + adapted.notes().warnings()};
         return adapted.notes().warnings().isEmpty() ? new String[] {"agree", ""}
                 : new String[] {"warned", String.join(" ~ ", adapted.notes().warnings())};
+    }
+
+    /** Where the class's own predicate doesn't end. */
+    private static String endless(Path finitization, Path source) {
+        Endless.Found found = Endless.of(finitization, List.of(source));
+        return found == null ? "" : found.file() + ":" + found.line() + ": " + found.what() + " doesn't end on " + found.structure();
     }
 
     private int called(Path report, String... words) throws IOException, InterruptedException {
