@@ -1,14 +1,14 @@
 -- The values of the expressions, as the checker computes them.
 use Rattle.std.proofs.Common.{refl}
 use Rattle.kr_classes_table.specs.Table.{table_of}
-use Rattle.kr_classes_table.specs.Constants.{values_of, is_constant, evaluated}
+use Rattle.kr_classes_table.specs.Constants.{values_of, is_constant, evaluated, constant_width}
 use Rattle.kr_types_meaning.specs.Typing.{judged}
 use Rattle.kr_mean.specs.Steps.{bind}
 use Rattle.kr_mean.specs.Meaning.{eval, exec, value}
 use Rattle.korat_rows.specs.Constructs.{Constructs}
 
 pub constructs : Constructs
-unfolding table_of values_of is_constant evaluated judged bind eval exec value
+unfolding table_of values_of is_constant evaluated constant_width judged bind eval exec value
 constructs = record {
   add_shown = refl;
   subtract_shown = refl;
@@ -20,6 +20,20 @@ constructs = record {
   shift_shown = refl;
   shift_right_shown = refl;
   shift_zeros_shown = refl;
+  long_add_shown = refl;
+  long_multiply_shown = refl;
+  long_shift_shown = refl;
+  shift_by_long_shown = refl;
+  least_long_shown = refl;
+  cast_to_int_shown = refl;
+  cast_to_long_shown = refl;
+  long_of_both_shown = refl;
+  int_shifted_shown = refl;
+  long_of_arms_shown = refl;
+  long_added_to_int_shown = refl;
+  long_local_shown = refl;
+  narrowed_constant_shown = refl;
+  long_constants_shown = refl;
   bits_shown = refl;
   complement_shown = refl;
   plus_shown = refl;

@@ -1,7 +1,7 @@
 -- The rows on tests, as the checker computes them.
 use Rattle.std.proofs.Common.{refl}
 use Rattle.kr_classes_table.specs.Table.{table_of}
-use Rattle.kr_classes_table.specs.Constants.{values_of, is_constant, evaluated}
+use Rattle.kr_classes_table.specs.Constants.{values_of, is_constant, evaluated, constant_width}
 use Rattle.kr_types_meaning.specs.Typing.{judged}
 use Rattle.kr_mean.specs.Steps.{bind}
 use Rattle.kr_mean.specs.Meaning.{eval, exec, value, body_of}
@@ -14,7 +14,7 @@ use Rattle.kr_mean.specs.Entries.{mark_of, all_of, all_entries}
 use Rattle.korat_rows.specs.Tests.{Tests}
 
 pub tests : Tests
-unfolding less space_of heap_of walk table_of values_of is_constant evaluated judged bind eval exec value body_of verdict_of end_on read_slots order_of mark_of all_of all_entries
+unfolding less space_of heap_of walk table_of values_of is_constant evaluated constant_width judged bind eval exec value body_of verdict_of end_on read_slots order_of mark_of all_of all_entries
 tests = record {
   passes = refl;
   without_contract = refl;

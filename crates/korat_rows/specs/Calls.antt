@@ -35,10 +35,11 @@ pub record IsSeen (env : Env) : Type 0 where
 pub record Calls : Type 0 where
   -- plus(1) on the cell
   pub plus_called : OfTested (λ m. IsCall plus.program m (Reference 0 ∷ Int (pos 1) ∷ []) cell) (tested_method plus plus.mode)
-  -- no receiver, no argument, and a boolean for an argument
+  -- no receiver, no argument, and a boolean or a number that is no int for an argument
   pub plus_on_null : OfTested (λ m. IsCall plus.program m (values.Null ∷ Int (pos 1) ∷ []) cell → ⊥) (tested_method plus plus.mode)
   pub plus_of_nothing : OfTested (λ m. IsCall plus.program m (Reference 0 ∷ []) cell → ⊥) (tested_method plus plus.mode)
   pub plus_of_truth : OfTested (λ m. IsCall plus.program m (Reference 0 ∷ values.Bool true ∷ []) cell → ⊥) (tested_method plus plus.mode)
+  pub plus_of_long : OfTested (λ m. IsCall plus.program m (Reference 0 ∷ Int (pos 2147483648) ∷ []) cell → ⊥) (tested_method plus plus.mode)
   -- x > 0, and \result == v + x
   pub required : (env : Env) → IsSeen env → OfTested (λ m. OfOne (λ e. IsEvaluation plus.program m e env cell) (requires_of plus.program m)) (tested_method plus plus.mode)
   pub ensured : (env : Env) → IsSeen env → OfTested (λ m. OfOne (λ e. IsEvaluation plus.program m e env cell) (ensures_of plus.program m)) (tested_method plus plus.mode)

@@ -1,9 +1,11 @@
 -- Between crates: expressions in the code of a class, with what they give, the fuel that is left (of 100), and the places
 -- that they read.
 use Rattle.std.specs.Prelude.{◌≡◌, ℕ, pos, negsuc, List, [], ◌∷◌, true, false, None, Result, Ok, Err}
+use Rattle.kr_base.specs.Places.{nowhere}
 use Rattle.kr_ast.specs.declared.node.BinaryOperator.TheVariants.{Add, Subtract, Remainder, ShiftLeft, ShiftRight, ShiftRightUnsigned, BitAnd, BitOr, BitXor, LessOrEqual, GreaterOrEqual}
 use Rattle.kr_ast.specs.declared.node.UnaryOperator.TheVariants.{Minus, Plus, Not, Complement}
 use Rattle.kr_ast.specs.declared.node.StepOperator.TheVariants.{IncrementBehind, DecrementBefore}
+use Rattle.kr_ast.specs.Tree as trees
 use Rattle.kr_ast.specs.Tree.{Tree}
 use Rattle.kr_value.specs.declared.value.Value.{Value}
 use Rattle.kr_value.specs.declared.value.Value.TheVariants.{Int, Bool as Truth, Null, Ref as Reference}
@@ -17,7 +19,7 @@ use Rattle.kr_mean.specs.Program.{Program, program_of, class_scope}
 use Rattle.kr_mean.specs.Places.{SlotPlace, At}
 use Rattle.kr_mean.specs.Steps.{State, Outcome}
 use Rattle.kr_mean.specs.Meaning.{value}
-use Rattle.korat_rows.specs.Words.{absent, int, boolean, void, named, hash_set, linked_list, number, yes, no, null, this, name, ◌dot◌, ◌at◌, call, call_on, super_call, new, new_array, unary, step, binary, ◌*'◌, ◌/'◌, ◌+'◌, ◌-'◌, ◌<'◌, ◌>'◌, ◌instance_of◌, ◌=='◌, ◌!='◌, ◌&&'◌, ◌||'◌, ◌becomes◌, compound, conditional, cast, empty, block, declared, local, locals, evaluate, assign, increment, return, break, continue, if_then, if_else, while, do_while, for, field_with, field, constant, parameter, method, static_method, constructor, constructor_after, class, class_below}
+use Rattle.korat_rows.specs.Words.{absent, int, long, boolean, void, named, hash_set, linked_list, number, long_number, yes, no, null, this, name, ◌dot◌, ◌at◌, call, call_on, super_call, new, new_array, unary, step, binary, ◌*'◌, ◌/'◌, ◌+'◌, ◌-'◌, ◌<'◌, ◌>'◌, ◌instance_of◌, ◌=='◌, ◌!='◌, ◌&&'◌, ◌||'◌, ◌becomes◌, compound, conditional, cast, empty, block, declared, local, locals, evaluate, assign, increment, return, break, continue, if_then, if_else, while, do_while, for, field_with, field, constant, parameter, method, static_method, constructor, constructor_after, class, class_below}
 use Rattle.kr_space_meaning.specs.Examples.{array_of}
 use Rattle.kr_types_meaning.specs.Texts.{list_of}
 
@@ -137,6 +139,15 @@ two_c = local (array_of int) "c" (new_array int (number 2))
 abbrev pub first : List Tree
 first = method int "first" (parameter int "x" ∷ parameter (named "R") "y" ∷ []) (return x ∷ return (number 0) ∷ []) ∷ []
 
+-- constants are known by their places, and evaluated in order of these
+abbrev pub on_line : ℕ → Tree → Tree
+on_line n (trees.Declarator place k e) = trees.Declarator (record { file = 0; line = n; col = 0 }) k e
+on_line n e = e
+
+-- `static final long FIRST, SECOND;`
+abbrev pub long_constants : Tree → Tree → Tree
+long_constants e f = trees.Field nowhere true true long (list_of (on_line 1 e ∷ on_line 2 f ∷ []))
+
 pub record Constructs : Type 0 where
   pub add_shown : run_of (number 2147483647 +' number 1) ≡ (Ok (Int (negsuc 2147483647)), 97, [])
   pub subtract_shown : run_of (number 0 -' number 7 -' number 3) ≡ (Ok (Int (negsuc 9)), 95, [])
@@ -152,6 +163,35 @@ pub record Constructs : Type 0 where
   pub shift_right_shown : run_of (binary ShiftRight (unary Minus (number 8)) (number 1)) ≡ (Ok (Int (negsuc 3)), 96, [])
   pub shift_zeros_shown :
       run_of (binary ShiftRightUnsigned (unary Minus (number 1)) (number 28)) ≡ (Ok (Int (pos 15)), 96, [])
+  pub long_add_shown : run_of (long_number 9223372036854775807 +' number 1) ≡ (Ok (Int (negsuc 9223372036854775807)), 97, [])
+  pub long_multiply_shown : run_of (long_number 65536 *' number 65537) ≡ (Ok (Int (pos 4295032832)), 97, [])
+  pub long_shift_shown : run_of (binary ShiftLeft (long_number 1) (number 33)) ≡ (Ok (Int (pos 8589934592)), 97, [])
+  pub shift_by_long_shown : run_of (binary ShiftLeft (number 1) (long_number 33)) ≡ (Ok (Int (pos 2)), 97, [])
+  pub least_long_shown : run_of (unary Minus (long_number 9223372036854775808)) ≡ (Ok (Int (negsuc 9223372036854775807)), 98, [])
+  pub cast_to_int_shown : run_of (cast int (long_number 4294967297)) ≡ (Ok (Int (pos 1)), 98, [])
+  pub cast_to_long_shown : run_of (cast long (number 2147483647) +' number 1) ≡ (Ok (Int (pos 2147483648)), 96, [])
+  -- an int and a long together are a long; an int that is shifted by a long is an int
+  pub long_of_both_shown : run_of (number 2147483647 +' long_number 0 +' number 1) ≡ (Ok (Int (pos 2147483648)), 95, [])
+  pub int_shifted_shown :
+      run_of (binary ShiftLeft (number 1) (long_number 30) +' binary ShiftLeft (number 1) (long_number 30))
+      ≡ (Ok (Int (negsuc 2147483647)), 93, [])
+  pub long_of_arms_shown :
+      run_of (conditional yes (number 2147483647) (long_number 0) +' number 1) ≡ (Ok (Int (pos 2147483648)), 95, [])
+  -- { int x = 1; x += 4294967297L; return x; }
+  pub long_added_to_int_shown :
+      run_body (local int "x" (number 1) ∷ evaluate (compound Add x (long_number 4294967297)) ∷ return x ∷ [])
+      ≡ (Ok (Int (pos 2)), 92, [])
+  -- m() with long m() { long x = 2147483647; x += 1; x++; return x; }
+  pub long_local_shown :
+      run_with (method long "m" [] (local long "x" (number 2147483647) ∷ evaluate (compound Add x (number 1))
+      ∷ increment x ∷ return x ∷ []) ∷ []) (call "m" []) ≡ (Ok (Int (pos 2147483649)), 90, [])
+  -- J with static final int J = (int) 4294967297L;
+  pub narrowed_constant_shown :
+      run_with (constant int "J" (cast int (long_number 4294967297)) ∷ []) (name "J") ≡ (Ok (Int (pos 1)), 99, [])
+  -- L with static final long K = (long) 2147483647 + 1, L = K + 1;
+  pub long_constants_shown :
+      run_with (long_constants (declared "K" (cast long (number 2147483647) +' number 1)) (declared "L" (name "K" +' number 1)) ∷ [])
+      (name "L") ≡ (Ok (Int (pos 2147483649)), 99, [])
   pub bits_shown :
       run_of (binary BitAnd (number 12) (number 10) +' binary BitOr (number 12) (number 10)
       +' binary BitXor (number 12) (number 10)) ≡ (Ok (Int (pos 28)), 89, [])

@@ -1,5 +1,5 @@
 -- Between crates: problems that meet the premises of the laws on listings, and problems that don't, worked by hand.
-use Rattle.std.specs.Prelude.{pos, true, List, [], ◌∷◌, ◌++◌}
+use Rattle.std.specs.Prelude.{ℕ, pos, true, List, [], ◌∷◌, ◌++◌}
 use Rattle.kr_ast.specs.declared.node.BinaryOperator.TheVariants.{Add}
 use Rattle.kr_ast.specs.Tree.{Tree}
 use Rattle.kr_value.specs.declared.value.Value.TheVariants.{Int, Bool as Truth, Null}
@@ -7,7 +7,7 @@ use Rattle.kr_value.specs.declared.object.Spot.TheVariants.{Length, Element}
 use Rattle.kr_mean.specs.Problem.{Problem, Plain, Objects}
 use Rattle.kr_mean.specs.WellFormed.{IsWellFormed}
 use Rattle.kr_mean.specs.Purity.{IsPure}
-use Rattle.korat_rows.specs.Words.{int, boolean, named, number, yes, this, name, ◌dot◌, ◌at◌, new, new_array, compound, local, evaluate, assign, increment, return, field, rep_ok, class, ints, objects, arrays_named, listed}
+use Rattle.korat_rows.specs.Words.{int, long, boolean, named, number, yes, this, name, ◌dot◌, ◌at◌, new, new_array, compound, local, evaluate, assign, increment, return, field, rep_ok, class, ints, objects, arrays_named, listed}
 use Rattle.kr_space_meaning.specs.Examples.{array_of, at as at_field}
 use Rattle.korat_rows.specs.Listings.{sorted_array, plus, tree}
 use Rattle.korat_rows.specs.Examples.{nodes_with, two_nodes, two_subclasses}
@@ -18,6 +18,11 @@ pub record Meets (problem : Problem) : Type 0 where
   pub well_formed : IsWellFormed problem
   pub pure : IsPure problem
   pub types : HaveDomainsTypes problem
+
+-- class R { TYPE v; boolean repOk() { return true; } }, an object whose `v` is this number
+abbrev pub numbers_of : Tree → ℕ → Problem
+numbers_of type n =
+    listed (class "R" (field type "v" ∷ rep_ok (return yes ∷ []) ∷ []) ∷ []) (objects "R" 0 1 (at_field 0 (ints (n ∷ [])) ∷ []) ∷ []) 100
 
 -- ---- code that touches
 
@@ -58,6 +63,10 @@ pub record Premises : Type 0 where
   pub number_for_node : HaveDomainsTypes (nodes_with (Plain (Int (pos 0)) ∷ [])) → ⊥
   pub boolean_for_node : HaveDomainsTypes (nodes_with (Plain Null ∷ Plain (Truth true) ∷ [])) → ⊥
   pub null_for_node : HaveDomainsTypes (nodes_with (Plain Null ∷ []))
+  -- the numbers of int and long
+  pub long_in_long : HaveDomainsTypes (numbers_of long 2147483648)
+  pub long_in_int : HaveDomainsTypes (numbers_of int 2147483648) → ⊥
+  pub beyond_long : HaveDomainsTypes (numbers_of long 9223372036854775808) → ⊥
   -- writes of a candidate's field
   pub own_field_assigned : IsPure (running (assign v (number 1) ∷ [])) → ⊥
   pub field_assigned : IsPure (running (assign (this dot "v") (number 1) ∷ [])) → ⊥

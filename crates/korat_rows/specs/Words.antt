@@ -4,7 +4,7 @@ use Prim.Native.String.{String as Text}
 use Rattle.std.specs.Prelude.{ℕ, pos, Bool, true, false, List, [], ◌∷◌, map, codes}
 use Rattle.kr_base.specs.declared.entry.Entry.{Entry}
 use Rattle.kr_base.specs.Entries.{is_valid, is_spent}
-use Rattle.kr_ast.specs.declared.node.Primitive.TheVariants.{Int as IntWord, Boolean, Void}
+use Rattle.kr_ast.specs.declared.node.Primitive.TheVariants.{Int as IntWord, Long as LongWord, Boolean, Void}
 use Rattle.kr_ast.specs.declared.node.BinaryOperator.{BinaryOperator}
 use Rattle.kr_ast.specs.declared.node.BinaryOperator.TheVariants.{Add, Subtract, Multiply, Divide, Less, Greater, Equal, NotEqual, And, Or}
 use Rattle.kr_ast.specs.declared.node.UnaryOperator.{UnaryOperator}
@@ -31,6 +31,9 @@ absent = Nil
 abbrev pub int : Tree
 int = trees.PrimitiveType nowhere IntWord
 
+abbrev pub long : Tree
+long = trees.PrimitiveType nowhere LongWord
+
 abbrev pub boolean : Tree
 boolean = trees.PrimitiveType nowhere Boolean
 
@@ -50,6 +53,9 @@ linked_list t = trees.GenericType nowhere (named "LinkedList") t
 
 abbrev pub number : ℕ → Tree
 number n = trees.Number nowhere n
+
+abbrev pub long_number : ℕ → Tree
+long_number n = trees.LongNumber nowhere n
 
 abbrev pub yes : Tree
 yes = trees.Truth nowhere true

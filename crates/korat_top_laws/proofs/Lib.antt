@@ -11,3 +11,16 @@ pub mod Logged
 pub mod Asked
 pub mod Verdicts
 pub mod Traced
+pub mod Pieces
+pub mod Lines
+pub mod Logs
+pub mod Texts
+pub mod Counted
+pub mod Honest
+pub mod Whole
+pub mod Listings
+pub mod RowLines
+pub mod Spent
+pub mod More
+pub mod Ends
+pub mod Examples

@@ -36,16 +36,16 @@ use Rattle.kr_trace.specs.declared.ending.Last.{Last}
 use Rattle.kr_trace.specs.declared.ending.Last.TheVariants.{Listed, Tested, More, Spent}
 use Rattle.kr_trace.specs.declared.row.Row.{Row as ReadRow}
 use Rattle.kr_trace.specs.Checked.{agrees, checked, is_test}
-use Rattle.kr_trace_laws.specs.Ends.{HasNoStop, SaysWhole}
-use Rattle.kr_trace_laws.specs.Honest.{AreShown, valid_keys}
-use Rattle.kr_trace_laws.specs.Listings.{AreLinesOf, IsLogged, IsShownLast, last_line, read_of, written_to}
-use Rattle.kr_trace_laws.specs.More.{SaysMore, last_of}
-use Rattle.kr_trace_laws.specs.Spent.{SaysSpent}
-use Rattle.kr_trace_laws.specs.Traced.{text_of}
-use Rattle.kr_trace_laws.proofs.Ends.{ends}
-use Rattle.kr_trace_laws.proofs.Listings.{logged}
-use Rattle.kr_trace_laws.proofs.More.{more}
-use Rattle.kr_trace_laws.proofs.Spent.{spent}
+use Rattle.korat_top_laws.specs.Ends.{HasNoStop, SaysWhole}
+use Rattle.korat_top_laws.specs.Honest.{AreShown, valid_keys}
+use Rattle.korat_top_laws.specs.Listings.{AreLinesOf, IsLogged, IsShownLast, last_line, read_of, written_to}
+use Rattle.korat_top_laws.specs.More.{SaysMore, last_of}
+use Rattle.korat_top_laws.specs.Spent.{SaysSpent}
+use Rattle.korat_top_laws.specs.Texts.{text_of}
+use Rattle.korat_top_laws.proofs.Ends.{ends}
+use Rattle.korat_top_laws.proofs.Listings.{logged}
+use Rattle.korat_top_laws.proofs.More.{more}
+use Rattle.korat_top_laws.proofs.Spent.{spent}
 use Rattle.korat_top_laws.specs.Readable.{AreReadable, IsModeOf}
 use Rattle.korat_top_laws.proofs.Shown.{are_shown}
 use Rattle.korat_top_laws.proofs.Begun.{opening_numbered, opening_short}

@@ -18,12 +18,12 @@ use Rattle.kr_text.specs.Splitting.{IsWithout, ended, is_empty, is_space}
 use Rattle.kr_pool_desk.specs.Short.{AreShortKeys}
 use Rattle.kr_trace.specs.declared.row.Row.{Row as ReadRow}
 use Rattle.kr_trace.specs.Words.{rest_passes}
-use Rattle.kr_trace_laws.specs.Honest.{valid_keys}
-use Rattle.kr_trace_laws.specs.Listings.{AreLinesOf, IsLineOf, read_of}
-use Rattle.kr_trace_laws.specs.Printed.{IsShown}
-use Rattle.kr_trace_laws.specs.More.{last_of}
-use Rattle.kr_trace_laws.specs.RowLines.{IsNumbered, row_line}
-use Rattle.kr_trace_laws.proofs.RowLines.{rows_back}
+use Rattle.korat_top_laws.specs.Honest.{valid_keys}
+use Rattle.korat_top_laws.specs.Listings.{AreLinesOf, IsLineOf, read_of}
+use Rattle.korat_top_laws.specs.Printed.{IsShown}
+use Rattle.korat_top_laws.specs.More.{last_of}
+use Rattle.korat_top_laws.specs.RowLines.{IsNumbered, row_line}
+use Rattle.korat_top_laws.proofs.RowLines.{rows_back}
 use Rattle.korat_top_laws.specs.Readable.{AreReadable, IsReadableRow}
 use Rattle.korat_top_laws.proofs.Shown.{shown}
 

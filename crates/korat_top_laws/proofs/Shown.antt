@@ -23,8 +23,8 @@ use Rattle.kr_pool_desk.specs.Runs.{is_shared}
 use Rattle.kr_pool_desk.specs.Short.{AreShortEvents, IsShort, IsShortBound, IsShortEvent}
 use Rattle.kr_pool_desk.specs.Traces.{are_by, is_last_stop}
 use Rattle.kr_trace.specs.Checked.{is_by}
-use Rattle.kr_trace_laws.specs.Honest.{AreShown}
-use Rattle.kr_trace_laws.specs.Printed.{IsPrintable, IsShown, IsShownBound, IsShownMark}
+use Rattle.korat_top_laws.specs.Honest.{AreShown}
+use Rattle.korat_top_laws.specs.Printed.{IsPrintable, IsShown, IsShownBound, IsShownMark}
 
 -- ---- cuts
 

@@ -21,7 +21,7 @@ use Rattle.kr_mean.specs.declared.kind.Verdict.{Verdict}
 use Rattle.kr_mean.specs.declared.kind.Verdict.TheVariants.{Ensures, RepOk, Trap, CheckTrap}
 use Rattle.kr_mean.specs.declared.mode.Mode.TheVariants.{List as Listing}
 use Rattle.kr_report.proofs.Texts.{no_verdict}
-use Rattle.kr_trace_laws.specs.RowLines.{IsNumbered}
+use Rattle.korat_top_laws.specs.RowLines.{IsNumbered}
 use Rattle.kr_types_meaning.specs.Scopes.{Ensuring, in_contract}
 
 abbrev IsGood : Verdict → Type 0

@@ -2,3 +2,13 @@ pub mod Laws
 pub mod Words
 pub mod Readable
 pub mod Traced
+pub mod Printed
+pub mod Texts
+pub mod Honest
+pub mod Whole
+pub mod Listings
+pub mod RowLines
+pub mod Spent
+pub mod More
+pub mod Ends
+pub mod Worked

@@ -10,7 +10,7 @@ use Rattle.kr_mean.specs.declared.row.Row.{Row}
 use Rattle.kr_report.specs.Texts.{structure_text}
 use Rattle.kr_text.specs.Splitting.{IsWithout}
 use Rattle.kr_pool_desk.specs.Short.{IsShort}
-use Rattle.kr_trace_laws.specs.RowLines.{IsNumbered}
+use Rattle.korat_top_laws.specs.RowLines.{IsNumbered}
 
 -- whether the mode is a test
 abbrev pub IsModeOf : Bool → Mode → Type 0

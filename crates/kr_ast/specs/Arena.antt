@@ -5,7 +5,7 @@ use Rattle.kr_ast.specs.declared.node.Name.{Name}
 use Rattle.kr_ast.specs.declared.node.Node.{Node}
 use Rattle.kr_ast.specs.declared.node.Node.TheVariants as nodes
 use Rattle.kr_ast.specs.declared.node.Entry.{Entry}
-use Rattle.kr_ast.specs.Tree.{Tree, Nil, Cons, PrimitiveType, NamedType, QualifiedType, GenericType, DiamondType, ArrayType, Number, Truth, Null, This, Variable, FieldAccess, ArrayAccess, Call, MethodCall, SuperCall, ObjectCreation, ArrayCreation, Unary, Step, Binary, InstanceOf, Conditional, Cast, Assignment, CompoundAssignment, Result, Old, Empty, Block, Local, Declarator, ExpressionStatement, Return, Break, Continue, IfThen, IfElse, While, Do, For, ConstructorCall, Class, Field, Method, Signature, Parameter, Constructor, Requires, Ensures}
+use Rattle.kr_ast.specs.Tree.{Tree, Nil, Cons, PrimitiveType, NamedType, QualifiedType, GenericType, DiamondType, ArrayType, Number, LongNumber, Truth, Null, This, Variable, FieldAccess, ArrayAccess, Call, MethodCall, SuperCall, ObjectCreation, ArrayCreation, Unary, Step, Binary, InstanceOf, Conditional, Cast, Assignment, CompoundAssignment, Result, Old, Empty, Block, Local, Declarator, ExpressionStatement, Return, Break, Continue, IfThen, IfElse, While, Do, For, ConstructorCall, Class, Field, Method, Signature, Parameter, Constructor, Requires, Ensures}
 use Rattle.kr_ast.specs.Grow.{grow}
 
 -- the bytes of a name in a text
@@ -23,6 +23,7 @@ tree_of text look p (nodes.GenericType a b) = GenericType p (look a) (look b)
 tree_of text look p (nodes.DiamondType a) = DiamondType p (look a)
 tree_of text look p (nodes.ArrayType a) = ArrayType p (look a)
 tree_of text look p (nodes.Number v) = Number p v
+tree_of text look p (nodes.LongNumber v) = LongNumber p v
 tree_of text look p (nodes.Truth v) = Truth p v
 tree_of text look p nodes.Null = Null p
 tree_of text look p nodes.This = This p

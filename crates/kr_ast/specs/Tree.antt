@@ -24,6 +24,8 @@ pub data Tree : Type 0 where
   ArrayType : Place → Tree → Tree
   -- expressions (15)
   Number : Place → ℕ → Tree
+  -- one of a `long`
+  LongNumber : Place → ℕ → Tree
   Truth : Place → Bool → Tree
   Null : Place → Tree
   This : Place → Tree
@@ -102,6 +104,7 @@ fold_tree rule (GenericType p a b) = rule (GenericType p a b) (fold_tree rule a 
 fold_tree rule (DiamondType p a) = rule (DiamondType p a) (fold_tree rule a ∷ [])
 fold_tree rule (ArrayType p a) = rule (ArrayType p a) (fold_tree rule a ∷ [])
 fold_tree rule (Number p v) = rule (Number p v) []
+fold_tree rule (LongNumber p v) = rule (LongNumber p v) []
 fold_tree rule (Truth p v) = rule (Truth p v) []
 fold_tree rule (Null p) = rule (Null p) []
 fold_tree rule (This p) = rule (This p) []

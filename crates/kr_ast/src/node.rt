@@ -13,6 +13,7 @@ pub struct Name {
 #[derive(Clone, Copy, PartialEq, Eq)]
 pub enum Primitive {
     Int,
+    Long,
     Boolean,
     Void,
 }
@@ -97,6 +98,10 @@ pub enum Node {
     // expressions
     Number {
         value: u32,
+    },
+    /// A number of a `long`, which ends in `l` or `L`.
+    LongNumber {
+        value: u64,
     },
     Truth {
         value: bool,

@@ -90,6 +90,7 @@ pub(crate) fn parts_of(node: &Node) -> Parts
         | Node::NamedType { .. }
         | Node::QualifiedType { .. }
         | Node::Number { .. }
+        | Node::LongNumber { .. }
         | Node::Truth { .. }
         | Node::Null
         | Node::This

@@ -3,3 +3,4 @@ pub mod Rules
 pub mod Sorting
 pub mod Orders
 pub mod Listed
+pub mod Written

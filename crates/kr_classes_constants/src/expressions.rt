@@ -1,6 +1,6 @@
 // The outcome of a constant's initial value: a walk over its nodes with an explicit stack.
 ghost use Rattle.std.specs.Prelude.{◌≡◌, ◌+◌, ◌<◌, List, length, pos, IfOk};
-ghost use Rattle.kr_classes_table.specs.Numbers.{Bits32, wrap};
+ghost use Rattle.kr_classes_table.specs.Numbers.{Bits32, Bits64, wrap};
 ghost use Rattle.kr_base.specs.declared.place.Place.{Place};
 ghost use Rattle.kr_ast.specs.Arena.{AreNamesIn, names, parts, tree_in};
 ghost use Rattle.kr_classes_table.specs.Constants.{Known, is_primitive};
@@ -12,17 +12,18 @@ ghost use Rattle.kr_classes_constants.specs.declared.frames.Task.TheVariants.{Lo
 ghost use Rattle.kr_ast.specs.Arena.{AreBelow};
 ghost use Rattle.kr_classes_constants.specs.Frames.{AreWithin, IsWithin, frame_weights, node_outcome, outcome_at, resumed, setting, tree_weight, weights, whole};
 ghost use Rattle.kr_classes_constants.specs.Kept.{AreValues};
-ghost use Rattle.kr_classes_constants.specs.Outcomes.{note_shown};
+ghost use Rattle.kr_classes_constants.specs.Outcomes.{found_shown};
 
 use crate::frames::{Frame, Frames, Task, resume};
 use crate::known::Values;
 use crate::names::{Site, access_note, name_note};
-use crate::note::Note;
+use crate::note::Found;
+use crate::widths::number_width;
 use kr_ast::{Node, Tree, tree_of};
 use kr_base::NoMemory;
 use kr_classes_members::Members;
 use kr_classes_names::Heads;
-use kr_value::Value;
+use kr_value::{Value, Width};
 use std::alloc::Global;
 
 /// Whether a type's node is a primitive type.
@@ -41,6 +42,14 @@ fn int_value(value: u32) -> Value
     ensures { result ≡ Value.Int (wrap Bits32 (pos value)) }
 {
     Value::Int(i64::from(value.cast_signed()))
+}
+
+/// The value of a long's literal, likewise.
+#[tactic(auto, using(crate::proofs::Rules::whole_of_64))]
+fn long_value(value: u64) -> Value
+    ensures { result ≡ Value.Int (wrap Bits64 (pos value)) }
+{
+    Value::Int(value.cast_signed())
 }
 
 /// Looks at a node: gives its outcome, or continues with its first part.
@@ -66,12 +75,19 @@ fn look_at(
     match node {
         Node::Number { value } => {
             let number = int_value(value);
-            Ok(Task::Give(Note::Value(number)))
+            Ok(Task::Give(Found::value(Width::Bits32, number)))
         }
-        Node::Truth { value } => Ok(Task::Give(Note::Value(Value::Bool(value)))),
-        Node::Null => Ok(Task::Give(Note::Value(Value::Null))),
+        Node::LongNumber { value } => {
+            let number = long_value(value);
+            Ok(Task::Give(Found::value(Width::Bits64, number)))
+        }
+        Node::Truth { value } => {
+            let truth = Found::value(Width::Bits32, Value::Bool(value));
+            Ok(Task::Give(truth))
+        }
+        Node::Null => Ok(Task::Give(Found::value(Width::Bits32, Value::Null))),
         Node::Variable { name } => {
-            let note = name_note(members, values, site.class, tree.name(name));
+            let note = name_note(trees, members, values, site.class, tree.name(name));
             Ok(Task::Give(note))
         }
         Node::FieldAccess { object, name } => {
@@ -101,12 +117,13 @@ fn look_at(
         }
         Node::Cast { target, operand } => {
             if is_primitive_type(tree, target) {
+                frames.push(Frame::Cast(number_width(tree, target)))?;
                 Ok(Task::Look(operand))
             } else {
-                Ok(Task::Give(Note::NotConstant))
+                Ok(Task::Give(Found::none()))
             }
         }
-        _ => Ok(Task::Give(Note::NotConstant)),
+        _ => Ok(Task::Give(Found::none())),
     }
 }
 
@@ -141,12 +158,12 @@ pub(crate) fn note_of(
     values: &Values,
     site: Site,
     node: u32,
-) -> Result<Note, NoMemory>
+) -> Result<Found, NoMemory>
     requires heads { AreHeads trees.now heads.now }
     requires members { AreMembers trees.now members.now }
     requires file { site.file < length trees.now }
     requires node { node < length (file_at trees.now site.file).entries }
-    ensures { IfOk result (λ note. (known : List Known) → AreValues known values.now → note_shown note ≡ outcome_at (setting (table_in trees.now) known site.class (file_at trees.now site.file)) node) }
+    ensures { IfOk result (λ note. (known : List Known) → AreValues known values.now → found_shown note ≡ outcome_at (setting (table_in trees.now) known site.class (file_at trees.now site.file)) node) }
 {
     let mut frames = Frames::new(alloc);
     let mut task = Task::Look(node);

@@ -4,14 +4,15 @@ ghost use Rattle.kr_ast.specs.Arena.{Arena};
 ghost use Rattle.kr_classes_constants.specs.declared.frames.Task.TheVariants.{Give};
 ghost use Rattle.kr_classes_constants.specs.Frames.{AreWithin, IsWithin, Setting, weights, whole};
 
-use crate::note::{Note, binary_note, conditional_note, unary_note};
+use crate::note::{Found, binary_found, cast_found, conditional_found, unary_found};
 use kr_ast::{BinaryOperator, UnaryOperator};
 use kr_base::NoMemory;
+use kr_value::Width;
 use std::alloc::Global;
 use std::marker::Model;
 
 /// A pending step, with the outcomes found before: it waits for the operand of a unary operator, the left operand, the
-/// right one, the condition, or one of the two arms.
+/// right one, the condition, one of the two arms, or the operand of a cast.
 #[derive(Clone, Copy)]
 pub(crate) enum Frame {
     Operand(UnaryOperator),
@@ -21,27 +22,29 @@ pub(crate) enum Frame {
     },
     Right {
         operator: BinaryOperator,
-        left: Note,
+        left: Found,
     },
     Condition {
         holds: u32,
         fails: u32,
     },
     Holds {
-        condition: Note,
+        condition: Found,
         fails: u32,
     },
     Fails {
-        condition: Note,
-        holds: Note,
+        condition: Found,
+        holds: Found,
     },
+    /// To a type of numbers of a width, or to another primitive one.
+    Cast(Option<Width>),
 }
 
 /// A node to be looked at, or what was found of one.
 #[derive(Clone, Copy)]
 pub(crate) enum Task {
     Look(u32),
-    Give(Note),
+    Give(Found),
 }
 
 /// Frames, the innermost on top. Contracts see the list of them, the innermost first.
@@ -84,13 +87,13 @@ impl Frames {
 }
 
 /// Continues a frame with the outcome that it waited for.
-pub(crate) fn resume(frames: &mut Frames, frame: Frame, note: Note) -> Result<Task, NoMemory>
+pub(crate) fn resume(frames: &mut Frames, frame: Frame, note: Found) -> Result<Task, NoMemory>
     ensures within { IfOk result (λ task. (n : ℕ) → AreWithin n (frame ∷ frames.old) → IsWithin n task × AreWithin n frames.new) }
     ensures light { IfOk result (λ task. (a : Arena) → weights a task frames.new < weights a (Give note) (frame ∷ frames.old)) }
     ensures same { IfOk result (λ task. (s : Setting) → whole s task frames.new ≡ whole s (Give note) (frame ∷ frames.old)) }
 {
     match frame {
-        Frame::Operand(operator) => Ok(Task::Give(unary_note(operator, note))),
+        Frame::Operand(operator) => Ok(Task::Give(unary_found(operator, note))),
         Frame::Left { operator, right } => {
             frames.push(Frame::Right {
                 operator,
@@ -98,7 +101,7 @@ pub(crate) fn resume(frames: &mut Frames, frame: Frame, note: Note) -> Result<Ta
             })?;
             Ok(Task::Look(right))
         }
-        Frame::Right { operator, left } => Ok(Task::Give(binary_note(operator, left, note))),
+        Frame::Right { operator, left } => Ok(Task::Give(binary_found(operator, left, note))),
         Frame::Condition { holds, fails } => {
             frames.push(Frame::Holds {
                 condition: note,
@@ -114,7 +117,8 @@ pub(crate) fn resume(frames: &mut Frames, frame: Frame, note: Note) -> Result<Ta
             Ok(Task::Look(fails))
         }
         Frame::Fails { condition, holds } => {
-            Ok(Task::Give(conditional_note(condition, holds, note)))
+            Ok(Task::Give(conditional_found(condition, holds, note)))
         }
+        Frame::Cast(width) => Ok(Task::Give(cast_found(width, note))),
     }
 }

@@ -9,5 +9,6 @@ mod names;
 mod note;
 mod order;
 mod values;
+mod widths;
 
 pub use known::Values;

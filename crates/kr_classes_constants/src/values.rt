@@ -34,8 +34,8 @@ fn add_constant(
         file: constant.file,
         class: constant.class,
     };
-    let note = note_of(alloc, trees, heads, members, values, site, constant.initial)?;
-    values.note(constant.place, note)
+    let found = note_of(alloc, trees, heads, members, values, site, constant.initial)?;
+    values.note(constant.place, found.note)
 }
 
 impl Values {

@@ -3,7 +3,7 @@ use Rattle.std.proofs.Common.{◌≡◌, refl, sym, ap, ◌∙◌, subst, ℕ, z
 use Rattle.std.specs.Prelude.{slice_get}
 use Rattle.std.proofs.lemmas.List.{get_or_append_left, map-append, length-map}
 use Rattle.kr_classes_table.specs.Types.{JavaType, VoidType, ArrayType, SetType, ListType, AppliedType, is_known}
-use Rattle.kr_classes_table.specs.Numbers.{Bits32}
+use Rattle.kr_classes_table.specs.Numbers.{Bits32, Bits64}
 use Rattle.kr_classes_names.specs.declared.form.TypeForm.{TypeForm}
 use Rattle.kr_classes_names.specs.declared.form.TypeForm.TheVariants as forms
 use Rattle.kr_classes_names.specs.ListedTypes.{AreApart, IsGrown}
@@ -46,6 +46,7 @@ based_more fs more b = record {
   null = got_left fs more 2 forms.Null b.null;
   void = got_left fs more 3 forms.Void b.void;
   inferred = got_left fs more 4 forms.Inferred b.inferred;
+  long = got_left fs more 5 (forms.Number Bits64) b.long;
 }
 
 pub types_added : (names : List (List ℕ)) (fs : List TypeForm) (known : List Bool) (f : TypeForm) → AreTypes (list_of names fs) known → IsMadeOf (list_of names fs) f → AreApart (fs ++ f ∷ []) → (k : Bool) → k ≡ is_known (type_of_form (list_of names fs) f)

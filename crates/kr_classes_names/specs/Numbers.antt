@@ -2,8 +2,8 @@
 use Rattle.std.specs.Prelude.{◌≡◌, ℕ, ◌<◌, List, [], length, map, slice_index_or}
 use Rattle.kr_ast.specs.Arena.{Arena, root, tree_in}
 use Rattle.kr_ast.specs.declared.node.Primitive.{Primitive}
-use Rattle.kr_ast.specs.declared.node.Primitive.TheVariants.{Int, Boolean, Void}
-use Rattle.kr_classes_table.specs.Types.{JavaType, int_type, BooleanType, VoidType}
+use Rattle.kr_ast.specs.declared.node.Primitive.TheVariants.{Int, Long, Boolean, Void}
+use Rattle.kr_classes_table.specs.Types.{JavaType, int_type, long_type, BooleanType, VoidType}
 use Rattle.kr_classes_table.specs.Table.{headings_of, type_named}
 use Rattle.kr_ast.specs.Files.{file_at}
 use Rattle.kr_classes_names.specs.Types.{TypeList, IsTypeNumber}
@@ -35,5 +35,6 @@ AreNodeTypes files l ns = (f n : ℕ) → IsTypeNumber l (number_in ns f n) (nam
 
 abbrev pub primitive_named : Primitive → JavaType
 primitive_named Int = int_type
+primitive_named Long = long_type
 primitive_named Boolean = BooleanType
 primitive_named Void = VoidType

@@ -1,7 +1,7 @@
 -- Between crates: the types of type numbers.
 use Rattle.std.specs.Prelude.{◌≡◌, ℕ, ◌<◌, ◌≤◌, ◌==◌, Bool, List, [], length, map, Some, slice_get, slice_index_or}
 use Rattle.kr_ast.specs.Grow.{grow}
-use Rattle.kr_classes_table.specs.Numbers.{Bits32}
+use Rattle.kr_classes_table.specs.Numbers.{Bits32, Bits64}
 use Rattle.kr_classes_table.specs.Types.{JavaType, NumberType, BooleanType, NullType, VoidType, ClassType, ArrayType, SetType, ListType, InferredType, UnknownType, AppliedType, is_known, is_same}
 use Rattle.kr_classes_names.specs.declared.form.TypeForm.{TypeForm}
 use Rattle.kr_classes_names.specs.declared.form.TypeForm.TheVariants as forms
@@ -66,6 +66,7 @@ pub record IsBased (fs : List TypeForm) : Type 0 where
   pub null : slice_get fs 2 ≡ Some forms.Null
   pub void : slice_get fs 3 ≡ Some forms.Void
   pub inferred : slice_get fs 4 ≡ Some forms.Inferred
+  pub long : slice_get fs 5 ≡ Some (forms.Number Bits64)
 
 -- each form refers to earlier types only
 abbrev pub AreOrdered : TypeList → Type 0

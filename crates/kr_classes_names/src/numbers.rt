@@ -36,6 +36,7 @@ fn primitive_type(types: &Types, primitive: Primitive) -> TypeId
 {
     match primitive {
         Primitive::Int => types.int(),
+        Primitive::Long => types.long(),
         Primitive::Boolean => types.boolean(),
         Primitive::Void => types.void(),
     }

@@ -1,8 +1,8 @@
 // All types by their numbers.
 ghost use Rattle.std.specs.Prelude.{◌≡◌, ◌<◌, ◌≤◌, ◌⊎◌, ◌∷◌, ◌++◌, [], Some, slice_get, slice_index_or, length, IfOk, OnErr};
-ghost use Rattle.kr_classes_table.specs.Types.{int_type, BooleanType, NullType, VoidType, InferredType, UnknownType, is_same, is_known, is_element, is_collection, is_reference};
+ghost use Rattle.kr_classes_table.specs.Types.{int_type, long_type, BooleanType, NullType, VoidType, InferredType, UnknownType, is_same, is_known, is_element, is_collection, is_reference};
 ghost use Rattle.kr_classes_table.specs.Table.{applied};
-ghost use Rattle.kr_classes_table.specs.Numbers.{Bits32};
+ghost use Rattle.kr_classes_table.specs.Numbers.{Bits32, Bits64};
 ghost use Rattle.kr_classes_names.specs.declared.form.TypeForm.TheVariants.{Number, Boolean, Null, Void, Inferred, Unknown, Applied};
 ghost use Rattle.kr_classes_names.specs.ListedTypes.{AreApart, IsGrown};
 ghost use Rattle.kr_classes_names.specs.Types.{AreDistinct, Extends, IsMadeOf, IsTypeNumber, count, type_at, type_of_form};
@@ -34,10 +34,9 @@ impl Model for Types {
     ghost invariant = { λ t. AreTypes (record { names = t.names; forms = t.forms }) t.known.items };
 }
 
-/// The forms of the types that are always there.
-fn base_forms(alloc: Global) -> Result<Forms, NoMemory>
-    ensures forms { IfOk result (λ forms. forms ≡ Number Bits32 ∷ Boolean ∷ Null ∷ Void ∷ Inferred ∷ []) }
-    ensures apart { IfOk result (λ forms. AreApart forms) }
+/// The forms of the types that are always there, without `long`.
+fn first_forms(alloc: Global) -> Result<Forms, NoMemory>
+    ensures { IfOk result (λ forms. forms ≡ Number Bits32 ∷ Boolean ∷ Null ∷ Void ∷ Inferred ∷ []) }
 {
     let mut forms = Forms::new(alloc);
     forms.number(TypeForm::Number(Width::Bits32))?;
@@ -45,6 +44,16 @@ fn base_forms(alloc: Global) -> Result<Forms, NoMemory>
     forms.number(TypeForm::Null)?;
     forms.number(TypeForm::Void)?;
     forms.number(TypeForm::Inferred)?;
+    Ok(forms)
+}
+
+/// The forms of the types that are always there.
+fn base_forms(alloc: Global) -> Result<Forms, NoMemory>
+    ensures forms { IfOk result (λ forms. forms ≡ Number Bits32 ∷ Boolean ∷ Null ∷ Void ∷ Inferred ∷ Number Bits64 ∷ []) }
+    ensures apart { IfOk result (λ forms. AreApart forms) }
+{
+    let mut forms = first_forms(alloc)?;
+    forms.number(TypeForm::Number(Width::Bits64))?;
     Ok(forms)
 }
 
@@ -69,10 +78,10 @@ fn add_form(
 impl Types {
     /// The types that are always there.
     pub fn new(alloc: Global) -> Result<Types, NoMemory>
-        ensures { IfOk result (λ types. count types ≡ 5) }
+        ensures { IfOk result (λ types. count types ≡ 6) }
     {
         let forms = base_forms(alloc)?;
-        let known = Vec::from_slice(alloc, &[true, true, true, true, true])?;
+        let known = Vec::from_slice(alloc, &[true, true, true, true, true, true])?;
         Ok(Types {
             names: Spellings::new(alloc),
             forms,
@@ -151,6 +160,14 @@ impl Types {
     {
         prove!(4 < self.forms.len());
         4
+    }
+
+    /// `long`
+    pub fn long(&self) -> TypeId
+        ensures { IsTypeNumber self.now result long_type }
+    {
+        prove!(5 < self.forms.len());
+        5
     }
 
     /// Whether two types are equal.

@@ -1,13 +1,13 @@
 -- Between crates: results of operators, worked by hand from the Java Language Specification 15.15 to 15.24, mostly at
--- the limits of `int`.
+-- the limits of `int` and `long`.
 use Rattle.std.specs.Prelude.{◌≡◌, ℤ, pos, negsuc, true, false, List, [], ◌∷◌, Some, None, Ok, Err}
 use Rattle.kr_ast.specs.declared.node.UnaryOperator.TheVariants.{Plus, Minus, Complement, Not}
 use Rattle.kr_ast.specs.declared.node.BinaryOperator.{BinaryOperator}
 use Rattle.kr_ast.specs.declared.node.BinaryOperator.TheVariants.{Multiply, Divide, Remainder, Add, Subtract, ShiftLeft, ShiftRight, ShiftRightUnsigned, Less, Greater, LessOrEqual, GreaterOrEqual, Equal, NotEqual, BitAnd, BitXor, BitOr, And, Or}
 use Rattle.kr_value.specs.declared.value.Value.TheVariants.{Int, Bool as Truth, Null, Ref as Reference}
 use Rattle.kr_classes_table.specs.declared.errors.OperatorError.TheVariants.{ZeroDivisor, NotDefined}
-use Rattle.kr_classes_table.specs.Numbers.{Bits32}
-use Rattle.kr_classes_table.specs.Operators.{Applied, apply, apply_alone}
+use Rattle.kr_classes_table.specs.Numbers.{Bits32, Bits64}
+use Rattle.kr_classes_table.specs.Operators.{Applied, apply, apply_alone, converted}
 use Rattle.kr_classes_table.specs.Constants.{binary_value, chosen}
 
 -- -n
@@ -19,6 +19,15 @@ least = negsuc 2147483647
 
 abbrev pub greatest : ℤ
 greatest = pos 2147483647
+
+abbrev pub least_long : ℤ
+least_long = negsuc 9223372036854775807
+
+abbrev pub greatest_long : ℤ
+greatest_long = pos 9223372036854775807
+
+abbrev pub on_longs : BinaryOperator → ℤ → ℤ → Applied
+on_longs o a b = apply Bits64 o (Int a) (Int b)
 
 abbrev pub on_ints : BinaryOperator → ℤ → ℤ → Applied
 on_ints o a b = apply Bits32 o (Int a) (Int b)
@@ -129,6 +138,48 @@ pub record WorkedOperators : Type 0 where
   pub differing_negative : on_ints BitXor minus_one greatest ≡ int least
   pub and_of_ints : on_ints And (pos 1) (pos 1) ≡ undefined
   pub or_of_ints : on_ints Or (pos 1) (pos 1) ≡ undefined
+  -- longs wrap in 64 bits
+  pub long_plus : apply_alone Bits64 Plus (Int least_long) ≡ int least_long
+  pub long_minus : apply_alone Bits64 Minus (Int least) ≡ int (pos 2147483648)
+  pub long_minus_least : apply_alone Bits64 Minus (Int least_long) ≡ int least_long
+  pub long_complement : apply_alone Bits64 Complement (Int greatest_long) ≡ int least_long
+  pub long_sum : on_longs Add greatest (pos 1) ≡ int (pos 2147483648)
+  pub long_over : on_longs Add greatest_long (pos 1) ≡ int least_long
+  pub long_under : on_longs Subtract least_long (pos 1) ≡ int greatest_long
+  pub long_squared : on_longs Multiply (pos 65536) (pos 65536) ≡ int (pos 4294967296)
+  pub long_squared_over : on_longs Multiply (pos 4294967296) (pos 4294967296) ≡ int (pos 0)
+  pub long_opposite : on_longs Multiply least_long minus_one ≡ int least_long
+  pub long_divided : on_longs Divide least_long minus_one ≡ int least_long
+  pub long_left_over : on_longs Remainder least_long minus_one ≡ int (pos 0)
+  pub long_by_zero : on_longs Divide least_long (pos 0) ≡ traps
+  pub long_left_over_by_zero : on_longs Remainder (pos 1) (pos 0) ≡ traps
+  -- shifts of longs go by the low six bits of the distance, which of an int and of a long are the same
+  pub long_left_33 : on_longs ShiftLeft (pos 1) (pos 33) ≡ int (pos 8589934592)
+  pub long_left_63 : on_longs ShiftLeft (pos 1) (pos 63) ≡ int least_long
+  pub long_left_64 : on_longs ShiftLeft (pos 1) (pos 64) ≡ int (pos 1)
+  pub long_left_by_negative : on_longs ShiftLeft (pos 3) minus_one ≡ int least_long
+  pub long_right_63 : on_longs ShiftRight least_long (pos 63) ≡ int minus_one
+  pub long_right_64 : on_longs ShiftRight least_long (pos 64) ≡ int least_long
+  pub long_unsigned : on_longs ShiftRightUnsigned minus_one (pos 1) ≡ int greatest_long
+  pub long_unsigned_63 : on_longs ShiftRightUnsigned least_long (pos 63) ≡ int (pos 1)
+  pub long_unsigned_by_negative : on_longs ShiftRightUnsigned minus_one minus_one ≡ int (pos 1)
+  pub int_left_far : on_ints ShiftLeft (pos 1) (pos 4294967296) ≡ int (pos 1)
+  pub int_right_far : on_ints ShiftRight least least_long ≡ int least
+  -- comparisons and bits of longs
+  pub long_edges : on_longs Less least_long greatest_long ≡ holds
+  pub long_beyond : on_longs Greater (pos 2147483648) least ≡ holds
+  pub long_unlike : on_longs Equal (pos 4294967296) (pos 0) ≡ fails
+  pub long_both : on_longs BitAnd minus_one (pos 4294967296) ≡ int (pos 4294967296)
+  pub long_either : on_longs BitOr (pos 4294967296) (pos 1) ≡ int (pos 4294967297)
+  pub long_either_negative : on_longs BitOr least_long greatest_long ≡ int minus_one
+  pub long_differing : on_longs BitXor minus_one greatest_long ≡ int least_long
+  -- a number that is converted to an int keeps its low 32 bits
+  pub narrowed : converted Bits32 (Int (pos 8589934592)) ≡ Int (pos 0)
+  pub narrowed_over : converted Bits32 (Int (pos 2147483648)) ≡ Int least
+  pub narrowed_negative : converted Bits32 (Int least_long) ≡ Int (pos 0)
+  pub narrowed_least : converted Bits32 (Int (negsuc 2147483648)) ≡ Int greatest
+  pub kept : converted Bits64 (Int least_long) ≡ Int least_long
+  pub truth_kept : converted Bits32 (Truth true) ≡ Truth true
   -- booleans
   pub truths_equal : on_truths Equal ≡ holds ∷ fails ∷ fails ∷ holds ∷ []
   pub truths_unequal : on_truths NotEqual ≡ fails ∷ holds ∷ holds ∷ fails ∷ []
@@ -148,14 +199,14 @@ pub record WorkedOperators : Type 0 where
   pub unlike_reference : apply Bits32 Equal (Int (pos 0)) (Reference 0) ≡ undefined
   pub divided_truth : apply Bits32 Divide (Truth true) (Int (pos 0)) ≡ undefined
   -- `&&` and `||` need their right operand only where the left one doesn't settle them; `&` needs both
-  pub and_settled : binary_value And (Some (Truth false)) None ≡ Some (Truth false)
-  pub or_settled : binary_value Or (Some (Truth true)) None ≡ Some (Truth true)
-  pub and_needed : binary_value And (Some (Truth true)) None ≡ None
-  pub or_needed : binary_value Or (Some (Truth false)) (Some (Truth true)) ≡ Some (Truth true)
-  pub and_right : binary_value And (Some (Truth true)) (Some (Truth false)) ≡ Some (Truth false)
-  pub none_divided : binary_value Divide (Some (Int (pos 1))) (Some (Int (pos 0))) ≡ None
-  pub both_needed : binary_value BitAnd (Some (Truth false)) None ≡ None
-  pub left_needed : binary_value Or None (Some (Truth true)) ≡ None
+  pub and_settled : binary_value Bits32 And (Some (Truth false)) None ≡ Some (Truth false)
+  pub or_settled : binary_value Bits32 Or (Some (Truth true)) None ≡ Some (Truth true)
+  pub and_needed : binary_value Bits32 And (Some (Truth true)) None ≡ None
+  pub or_needed : binary_value Bits32 Or (Some (Truth false)) (Some (Truth true)) ≡ Some (Truth true)
+  pub and_right : binary_value Bits32 And (Some (Truth true)) (Some (Truth false)) ≡ Some (Truth false)
+  pub none_divided : binary_value Bits32 Divide (Some (Int (pos 1))) (Some (Int (pos 0))) ≡ None
+  pub both_needed : binary_value Bits32 BitAnd (Some (Truth false)) None ≡ None
+  pub left_needed : binary_value Bits32 Or None (Some (Truth true)) ≡ None
   -- only the chosen arm of `?:` matters
   pub chosen_first : chosen (Some (Truth true)) (Some (Int (pos 1))) None ≡ Some (Int (pos 1))
   pub chosen_second : chosen (Some (Truth false)) None (Some (Int (pos 2))) ≡ Some (Int (pos 2))

@@ -1,17 +1,19 @@
 -- To be believed: the values of constants (Java Language Specification 15.28), evaluated in file and source order.
-use Rattle.std.specs.Prelude.{ℕ, Bool, true, false, ◌&&◌, List, [], ◌∷◌, ◌++◌, flat_map, fold, nat_eq, pos, if◌then◌else◌, Option, Some, None, option_and_then, option_to_list, is_some, is_none, Ok, Err}
+use Rattle.std.specs.Prelude.{ℕ, Bool, true, false, ◌&&◌, List, [], ◌∷◌, ◌++◌, flat_map, fold, nat_eq, pos, if◌then◌else◌, Option, Some, None, option_and_then, option_map, option_to_list, is_some, is_none, unwrap_or, Ok, Err}
 use Rattle.kr_base.specs.declared.place.Place.{Place}
 use Rattle.kr_ast.specs.declared.node.UnaryOperator.{UnaryOperator}
 use Rattle.kr_ast.specs.declared.node.BinaryOperator.{BinaryOperator}
 use Rattle.kr_ast.specs.declared.node.BinaryOperator.TheVariants.{And, Or}
+use Rattle.kr_ast.specs.declared.node.Primitive.TheVariants.{Int as IntWord, Long as LongWord}
 use Rattle.kr_ast.specs.Tree as trees
 use Rattle.kr_ast.specs.Tree.{Tree}
 use Rattle.kr_value.specs.declared.value.Value.{Value}
 use Rattle.kr_value.specs.declared.value.Value.TheVariants.{Int, Bool as Truth, Null, Ref as Reference}
 use Rattle.kr_classes_table.specs.Table.{Table, Class, Field, class_at, field_named, number_of}
 use Rattle.kr_classes_table.specs.Rules.{is_earlier}
-use Rattle.kr_classes_table.specs.Numbers.{Bits32, wrap}
-use Rattle.kr_classes_table.specs.Operators.{Applied, apply, apply_alone}
+use Rattle.kr_classes_table.specs.Types.{width_in}
+use Rattle.kr_classes_table.specs.Numbers.{Width, Bits32, Bits64, wider, wrap}
+use Rattle.kr_classes_table.specs.Operators.{Applied, apply, apply_alone, converted, operator_width}
 
 -- ---- values
 
@@ -19,15 +21,20 @@ abbrev pub value_in : Applied → Option Value
 value_in (Ok v) = Some v
 value_in (Err e) = None
 
-abbrev pub unary_value : UnaryOperator → Value → Option Value
-unary_value o v = value_in (apply_alone Bits32 o v)
+abbrev pub unary_value : Width → UnaryOperator → Value → Option Value
+unary_value w o v = value_in (apply_alone w o v)
 
 -- the right operand counts only where it is needed
-abbrev pub binary_value : BinaryOperator → Option Value → Option Value → Option Value
-binary_value And (Some (Truth false)) b = Some (Truth false)
-binary_value Or (Some (Truth true)) b = Some (Truth true)
-binary_value o (Some a) (Some b) = value_in (apply Bits32 o a b)
-binary_value o a b = None
+abbrev pub binary_value : Width → BinaryOperator → Option Value → Option Value → Option Value
+binary_value w And (Some (Truth false)) b = Some (Truth false)
+binary_value w Or (Some (Truth true)) b = Some (Truth true)
+binary_value w o (Some a) (Some b) = value_in (apply w o a b)
+binary_value w o a b = None
+
+-- a cast to a number's type converts
+abbrev pub cast_value : Option Width → Value → Value
+cast_value (Some w) v = converted w v
+cast_value None v = v
 
 abbrev pub chosen : Option Value → Option Value → Option Value → Option Value
 chosen (Some (Truth true)) a b = a
@@ -87,9 +94,32 @@ abbrev pub is_primitive : Tree → Bool
 is_primitive (trees.PrimitiveType p k) = true
 is_primitive _ = false
 
+-- the width of the numbers of a written type
+abbrev pub number_width : Tree → Option Width
+number_width (trees.PrimitiveType p IntWord) = Some Bits32
+number_width (trees.PrimitiveType p LongWord) = Some Bits64
+number_width _ = None
+
+-- the width of a constant's numbers, by its declared type
+abbrev pub field_width : Option Field → Width
+field_width (Some f) = width_in f.type
+field_width None = Bits32
+
+-- the width of an expression's numbers, by its type: a name's is declared, a cast's is written
+unfoldable pub constant_width : Table → ℕ → Tree → Width
+constant_width t c (trees.LongNumber p n) = Bits64
+constant_width t c (trees.Variable p n) = field_width (field_meant t c n)
+constant_width t c (trees.FieldAccess p e n) = field_width (constant_of t (class_meant t c e) n)
+constant_width t c (trees.Unary p o e) = constant_width t c e
+constant_width t c (trees.Binary p o a b) = operator_width o (constant_width t c a) (constant_width t c b)
+constant_width t c (trees.Conditional p e a b) = wider (constant_width t c a) (constant_width t c b)
+constant_width t c (trees.Cast p k e) = unwrap_or (number_width k) Bits32
+constant_width t c _ = Bits32
+
 -- it is made of literals, operators and the known constants
 unfoldable pub is_constant : Table → List Known → ℕ → Tree → Bool
 is_constant t known c (trees.Number p n) = true
+is_constant t known c (trees.LongNumber p n) = true
 is_constant t known c (trees.Truth p b) = true
 is_constant t known c (trees.Null p) = true
 is_constant t known c (trees.Variable p n) = is_some (known_value known (field_meant t c n))
@@ -103,14 +133,15 @@ is_constant t known c _ = false
 -- its value; none where a zero divisor is met
 unfoldable pub evaluated : Table → List Known → ℕ → Tree → Option Value
 evaluated t known c (trees.Number p n) = Some (Int (wrap Bits32 (pos n)))
+evaluated t known c (trees.LongNumber p n) = Some (Int (wrap Bits64 (pos n)))
 evaluated t known c (trees.Truth p b) = Some (Truth b)
 evaluated t known c (trees.Null p) = Some Null
 evaluated t known c (trees.Variable p n) = known_value known (field_meant t c n)
 evaluated t known c (trees.FieldAccess p e n) = known_value known (constant_of t (class_meant t c e) n)
-evaluated t known c (trees.Unary p o e) = option_and_then (unary_value o) (evaluated t known c e)
-evaluated t known c (trees.Binary p o a b) = binary_value o (evaluated t known c a) (evaluated t known c b)
+evaluated t known c (trees.Unary p o e) = option_and_then (unary_value (constant_width t c e) o) (evaluated t known c e)
+evaluated t known c (trees.Binary p o a b) = binary_value (operator_width o (constant_width t c a) (constant_width t c b)) o (evaluated t known c a) (evaluated t known c b)
 evaluated t known c (trees.Conditional p e a b) = chosen (evaluated t known c e) (evaluated t known c a) (evaluated t known c b)
-evaluated t known c (trees.Cast p k e) = evaluated t known c e
+evaluated t known c (trees.Cast p k e) = option_map (cast_value (number_width k)) (evaluated t known c e)
 evaluated t known c _ = None
 
 abbrev pub known_as : Place → Option Value → List Known

@@ -9,7 +9,7 @@ use Rattle.kr_value.specs.declared.value.Value.{Value}
 use Rattle.kr_value.specs.declared.value.Value.TheVariants.{Int, Bool as Truth, Null, Ref as Reference}
 use Rattle.kr_classes_table.specs.declared.errors.OperatorError.{OperatorError}
 use Rattle.kr_classes_table.specs.declared.errors.OperatorError.TheVariants.{ZeroDivisor, NotDefined}
-use Rattle.kr_classes_table.specs.Numbers.{Width, span, bits, whole_of, wrap, complement, shifted_right, distance}
+use Rattle.kr_classes_table.specs.Numbers.{Width, wider, span, bits, whole_of, wrap, complement, shifted_right, distance}
 
 -- its value, or why there is none
 abbrev pub Applied : Type 0
@@ -100,3 +100,16 @@ apply_alone w Minus (Int a) = whole w (neg_ℤ a)
 apply_alone w Complement (Int a) = whole w (complement a)
 apply_alone w Not (Truth a) = truth (not a)
 apply_alone w o v = Err NotDefined
+
+-- the number of a width that a number leaves (5.1.3); other values stay
+abbrev pub converted : Width → Value → Value
+converted w (Int z) = number w (wrap w z)
+converted w v = v
+
+-- the width of the numbers of an operator, from those of its operands: of a shift the left one's (15.19), else that to which both
+-- are promoted (5.6.2)
+abbrev pub operator_width : BinaryOperator → Width → Width → Width
+operator_width ShiftLeft v w = v
+operator_width ShiftRight v w = v
+operator_width ShiftRightUnsigned v w = v
+operator_width o v w = wider v w

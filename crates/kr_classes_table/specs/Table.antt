@@ -1,10 +1,11 @@
 -- To be believed: the class table of the files of a program (Java Language Specification 8).
 use Rattle.std.specs.Prelude.{ℕ, zero, suc, ◌+◌, Bool, true, false, ◌||◌, List, [], ◌∷◌, ◌++◌, length, reverse, flat_map, find, nat_eq, bytes_eq, if◌then◌else◌, Option, Some, None, option_and_then, option_to_list, codes}
 use Rattle.kr_base.specs.declared.place.Place.{Place}
-use Rattle.kr_ast.specs.declared.node.Primitive.TheVariants.{Int, Boolean, Void}
+use Rattle.kr_ast.specs.declared.node.Primitive.TheVariants.{Int, Long, Boolean, Void}
 use Rattle.kr_ast.specs.Tree as trees
 use Rattle.kr_ast.specs.Tree.{Tree, Cons}
-use Rattle.kr_classes_table.specs.Types.{JavaType, int_type, BooleanType, NullType, VoidType, ClassType, ArrayType, SetType, ListType, InferredType, UnknownType, AppliedType, is_same, is_reference}
+use Rattle.kr_classes_table.specs.Numbers.{Width, Bits32, Bits64}
+use Rattle.kr_classes_table.specs.Types.{JavaType, NumberType, int_type, long_type, BooleanType, NullType, VoidType, ClassType, ArrayType, SetType, ListType, InferredType, UnknownType, AppliedType, is_same, is_reference}
 
 -- ---- names of classes
 
@@ -84,6 +85,7 @@ applied h t = AppliedType h t
 -- the type that a type's tree means; what is absent is no value's type
 abbrev pub type_named : List Heading → Tree → JavaType
 type_named hs (trees.PrimitiveType p Int) = int_type
+type_named hs (trees.PrimitiveType p Long) = long_type
 type_named hs (trees.PrimitiveType p Boolean) = BooleanType
 type_named hs (trees.PrimitiveType p Void) = VoidType
 type_named hs (trees.NamedType p n) = class_or (class_named hs (trees.NamedType p n)) (UnknownType [] n)
@@ -275,8 +277,14 @@ is_subtype t (SetType InferredType) (SetType u) = true
 is_subtype t (ListType InferredType) (ListType u) = true
 is_subtype t s u = is_same s u
 
--- a number of the one type goes into the other by another number's form (5.1.2): there is one type of numbers
+-- each number of the one width is of the other, which is another one
+abbrev pub widens : Width → Width → Bool
+widens Bits32 Bits64 = true
+widens v w = false
+
+-- each number of the one type is of the other (5.1.2): an int goes into a long
 abbrev pub is_widened : JavaType → JavaType → Bool
+is_widened (NumberType v) (NumberType w) = widens v w
 is_widened s u = false
 
 abbrev pub is_assignable : Table → JavaType → JavaType → Bool

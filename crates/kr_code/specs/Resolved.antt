@@ -3,6 +3,7 @@
 use Rattle.std.specs.Prelude.{◌≡◌, ℕ, Bool, true, false, List, [], ◌∷◌, length, map, codes, bytes_eq, nat_eq, Option, Some, None, option_and_then, pos, All, IsSome, flat_map}
 use Rattle.kr_base.specs.declared.place.Place.{Place}
 use Rattle.kr_ast.specs.declared.node.UnaryOperator.{UnaryOperator}
+use Rattle.kr_ast.specs.declared.node.UnaryOperator.TheVariants.{Plus}
 use Rattle.kr_ast.specs.declared.node.StepOperator.{StepOperator}
 use Rattle.kr_ast.specs.declared.node.BinaryOperator.{BinaryOperator}
 use Rattle.kr_ast.specs.declared.node.BinaryOperator.TheVariants as operators
@@ -11,16 +12,17 @@ use Rattle.kr_ast.specs.Tree.{Tree}
 use Rattle.kr_value.specs.declared.value.Value.{Value}
 use Rattle.kr_value.specs.declared.value.Value.TheVariants.{Int, Bool as Truth, Null}
 use Rattle.kr_value.specs.declared.object.Class.{Class}
-use Rattle.kr_classes_table.specs.Types.{JavaType, ClassType, ArrayType, SetType, ListType, is_void}
+use Rattle.kr_classes_table.specs.Types.{JavaType, NumberType, ClassType, ArrayType, SetType, ListType, is_void}
 use Rattle.kr_classes_table.specs.Table as tables
 use Rattle.kr_classes_table.specs.Table.{Field, Method, items, fields_of, line_of, method_named}
 use Rattle.kr_classes_table.specs.Arrays.{array_number}
 use Rattle.kr_classes_table.specs.Constants.{constant_of, known_value as constant_value}
-use Rattle.kr_classes_table.specs.Numbers.{Bits32, wrap}
+use Rattle.kr_classes_table.specs.Numbers.{Width, Bits32, Bits64, wrap}
 use Rattle.kr_types_meaning.specs.Scopes.{Scope, LocalName, FieldName, NoName, written, bind_local, after, meant, class_before, static_only, method_meant}
+use Rattle.kr_types_meaning.specs.Promotion.{is_number}
 use Rattle.kr_mean.specs.Program.{Program, default_of, is_of_type, overriding, class_scope, method_scope, constructor_scope, constructor_of, declared_fields, field_position, spot_of_field}
-use Rattle.kr_mean.specs.Meaning.{Target, LocalTarget, OwnField, FieldOf, ElementOf, NoTarget, target_of, typed_method, super_method, is_primitive, declaring_locals, width_at, width_of}
-use Rattle.kr_mean.specs.Operators.{binary_operation, unary_operation, step_operation}
+use Rattle.kr_mean.specs.Meaning.{Target, LocalTarget, OwnField, FieldOf, ElementOf, NoTarget, target_of, typed_method, super_method, is_primitive, declaring_locals, width_at, width_of, operand_width}
+use Rattle.kr_mean.specs.Operators.{binary_operation, compound_operation, unary_operation, step_operation}
 use Rattle.kr_mean.specs.Code as meaning
 use Rattle.kr_code.specs.declared.code.Code.{Code}
 use Rattle.kr_code.specs.declared.code.MethodCode.{MethodCode}
@@ -90,6 +92,7 @@ is_uncreatable t = true
 -- nodes that are no expressions
 abbrev pub is_no_expression : Tree → Bool
 is_no_expression (trees.Number p k) = false
+is_no_expression (trees.LongNumber p k) = false
 is_no_expression (trees.Truth p b) = false
 is_no_expression (trees.Null p) = false
 is_no_expression (trees.This p) = false
@@ -125,6 +128,7 @@ pub record IsMethod (code : Code) (n : Numbering) (m : Method) (k : ℕ) : Type 
 -- the resolved form of an expression
 pub data IsExpression (program : Program) (code : Code) (n : Numbering) (s : Scope) : Tree → Expression → Type 0 where
   number : (p : Place) (k : ℕ) → IsExpression program code n s (trees.Number p k) (expressions.Literal (Int (wrap Bits32 (pos k))))
+  long_number : (p : Place) (k : ℕ) → IsExpression program code n s (trees.LongNumber p k) (expressions.Literal (Int (wrap Bits64 (pos k))))
   truth : (p : Place) (b : Bool) → IsExpression program code n s (trees.Truth p b) (expressions.Literal (Truth b))
   null : (p : Place) → IsExpression program code n s (trees.Null p) (expressions.Literal Null)
   this : (p : Place) → IsExpression program code n s (trees.This p) expressions.This
@@ -183,7 +187,7 @@ pub data IsExpression (program : Program) (code : Code) (n : Numbering) (s : Sco
   array : (p : Place) (t e : Tree) (i : ℕ) → IsPart n s e i
       → IsExpression program code n s (trees.ArrayCreation p t e) (expressions.NewArray (array_number program.arrays (ArrayType (written s t))) (default_of (written s t)) i)
   -- operators
-  unary : (p : Place) (o : UnaryOperator) (e : Tree) (i : ℕ) → IsPart n s e i → IsExpression program code n s (trees.Unary p o e) (expressions.Unary (unary_operation (width_at s e) o) i)
+  unary : (p : Place) (o : UnaryOperator) (e : Tree) (i : ℕ) → IsPart n s e i → IsExpression program code n s (trees.Unary p o e) (expressions.Unary (unary_operation (operand_width s o e) o) i)
   conjunction : (p : Place) (a b : Tree) (i j : ℕ) → IsPart n s a i → IsPart n s b j
       → IsExpression program code n s (trees.Binary p operators.And a b) (expressions.And i j)
   disjunction : (p : Place) (a b : Tree) (i j : ℕ) → IsPart n s a i → IsPart n s b j
@@ -193,7 +197,9 @@ pub data IsExpression (program : Program) (code : Code) (n : Numbering) (s : Sco
   instance : (p : Place) (e t : Tree) (i k : ℕ) → IsPart n s e i → n.type k ≡ written s t → IsExpression program code n s (trees.InstanceOf p e t) (expressions.InstanceOf i k)
   conditional : (p : Place) (c a b : Tree) (i j k : ℕ) → IsPart n s c i → IsPart n s a j → IsPart n s b k
       → IsExpression program code n s (trees.Conditional p c a b) (expressions.Conditional i j k)
-  primitive_cast : (p : Place) (t e : Tree) (k i : ℕ) → is_primitive t ≡ true → n.type k ≡ written s t → IsPart n s e i
+  number_cast : (p : Place) (t e : Tree) (w : Width) (i : ℕ) → is_primitive t ≡ true → written s t ≡ NumberType w → IsPart n s e i
+      → IsExpression program code n s (trees.Cast p t e) (expressions.Unary (unary_operation w Plus) i)
+  primitive_cast : (p : Place) (t e : Tree) (k i : ℕ) → is_primitive t ≡ true → is_number (written s t) ≡ false → n.type k ≡ written s t → IsPart n s e i
       → IsExpression program code n s (trees.Cast p t e) (expressions.Convert k i)
   cast : (p : Place) (t e : Tree) (k i : ℕ) → is_primitive t ≡ false → n.type k ≡ written s t → IsPart n s e i
       → IsExpression program code n s (trees.Cast p t e) (expressions.Cast k i)
@@ -201,7 +207,7 @@ pub data IsExpression (program : Program) (code : Code) (n : Numbering) (s : Sco
   assignment : (p : Place) (a e : Tree) (x : Variable) (i : ℕ) → IsVariable n s (target_of s a) x → IsPart n s e i
       → IsExpression program code n s (trees.Assignment p a e) (expressions.Assign x i)
   compound : (p : Place) (o : BinaryOperator) (a e : Tree) (x : Variable) (i : ℕ) → IsVariable n s (target_of s a) x → IsPart n s e i
-      → IsExpression program code n s (trees.CompoundAssignment p o a e) (expressions.Compound (binary_operation (width_of s o a e) o) x i)
+      → IsExpression program code n s (trees.CompoundAssignment p o a e) (expressions.Compound (compound_operation (width_at s a) (width_of s o a e) o) x i)
   step : (p : Place) (o : StepOperator) (a : Tree) (x : Variable) → IsVariable n s (target_of s a) x
       → IsExpression program code n s (trees.Step p o a) (expressions.Step (step_operation (width_at s a) o) x)
   -- contracts

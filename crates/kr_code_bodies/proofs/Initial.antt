@@ -31,7 +31,7 @@ use Rattle.kr_classes_members.specs.Rosters.{all_fields, field_numbered, fields_
 use Rattle.kr_classes_members.proofs.Sections.{section}
 use Rattle.kr_code_lowering.specs.declared.site.Site.{Site}
 use Rattle.kr_code_lowering.specs.Origins.{Final, numbering_of}
-use Rattle.kr_code_lowering.specs.Sites.{IsHere, arena_at, scope_at, tree_at}
+use Rattle.kr_code_lowering.specs.Sites.{IsHere, arena_at, number_at, scope_at, tree_at}
 use Rattle.kr_code_lowering.proofs.Growth.{got_grown}
 use Rattle.kr_code_lowering.proofs.Parts.{part_number}
 use Rattle.kr_code_bodies.specs.Made.{IsInitial}
@@ -62,15 +62,15 @@ module _ (p : Program) (program : IsProgram p) (n : FieldNode) (s : Site) (is : 
       let t : f.initial ≡ trees.Nil = sym field.initial ∙ site_tree p s n.file n.initial is ∙ at.tree ∙ ap (tree_of (arena_at p s).text (tree_in (arena_at p s)) e.place) it in
       subst (λ (fs : List tables.Field). AllZip (IsInitial p) fs []) (sym (instance_is f st ∙ ap (initial_or_none f) t)) tt
 
-  pub written : f.is_static ≡ false → (e.node ≡ syntax.Nil → ⊥) → (number : ℕ) → field_numbered (table p) number ≡ f → AllZip (IsInitial p) (flat_map has_initial (is_instance f)) (record { field = number; value = s.first + s.node } ∷ [])
+  pub written : f.is_static ≡ false → (e.node ≡ syntax.Nil → ⊥) → (number : ℕ) → field_numbered (table p) number ≡ f → AllZip (IsInitial p) (flat_map has_initial (is_instance f)) (record { field = number; value = number_at p s s.node } ∷ [])
   written st it number numbered =
       let t : f.initial ≡ tree_at p s = sym field.initial ∙ site_tree p s n.file n.initial is in
       let one : flat_map has_initial (is_instance f) ≡ f ∷ [] = instance_is f st ∙ ap (initial_or_none f) (t ∙ at.tree) ∙ tree_there f (arena_at p s).text (tree_in (arena_at p s)) e.place e.node it in
-      let made : Initialiser = record { field = number; value = s.first + s.node } in
+      let made : Initialiser = record { field = number; value = number_at p s s.node } in
       let c : Scope = class_scope (run_program p []) f.class in
       let runs : running (scope_at p s) ≡ c = ap running (site_scope p s n.file n.initial is) ∙ field.scope ∙ instance_scope f.is_static (scope_of (table p) (values_of (table p)) f.class) refl st in
       let is_initial : IsInitial p f made = record {
-        value = λ final. subst (λ (u : Tree). IsPart (numbering_of p final) c u (s.first + s.node)) (sym t) (subst (λ (z : Scope). IsPart (numbering_of p final) z (tree_at p s) (s.first + s.node)) runs (part_number p final s is.site s.node is.site.node));
+        value = λ final. subst (λ (u : Tree). IsPart (numbering_of p final) c u (number_at p s s.node)) (sym t) (subst (λ (z : Scope). IsPart (numbering_of p final) z (tree_at p s) (number_at p s s.node)) runs (part_number p final s is.site s.node is.site.node));
         field = numbered;
       } in
       subst (λ (fs : List tables.Field). AllZip (IsInitial p) fs (made ∷ [])) (sym one) (is_initial, tt)

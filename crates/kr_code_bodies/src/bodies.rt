@@ -2,6 +2,7 @@
 ghost use Rattle.std.specs.Prelude.{◌≡◌, ◌<◌, ◌^◌, ℕ, List, Some, IfOk, length, slice_get};
 ghost use Rattle.kr_classes_names.specs.ListedTypes.{IsGrown};
 ghost use Rattle.kr_types.specs.Programs.{IsProgram};
+ghost use Rattle.kr_code_lowering.specs.Numbered.{AreNumbers};
 ghost use Rattle.kr_code_members.specs.Nodes.{AreMemberNodes, IsClassNodes, run_program, table};
 ghost use Rattle.kr_code_members.specs.declared.nodes.ClassNodes.{ClassNodes as Found};
 ghost use Rattle.kr_classes_members.specs.Rosters.{IsRoster, all_fields, all_methods};
@@ -16,7 +17,7 @@ use crate::methods::method_codes;
 use kr_base::NoMemory;
 use kr_classes_members::Roster;
 use kr_code::{ClassCode, MethodCode, Node};
-use kr_code_lowering::Links;
+use kr_code_lowering::{Links, NodeNumbers};
 use kr_code_members::{ClassNodes, MemberNodes};
 use kr_types::Program;
 use kr_value::Value;
@@ -41,11 +42,13 @@ struct Classes {
 fn class_codes(
     alloc: Global,
     program: &Program,
+    numbers: &NodeNumbers,
     members: &[ClassNodes],
     nodes: &mut Vec<Node>,
     links: &mut Links,
 ) -> Result<Classes, NoMemory>
     requires program { IsProgram program.now }
+    requires numbers { AreNumbers program.now numbers.now }
     requires few { length (all_fields (table program.now)) < 2 ^ 32 }
     requires count { length members.now ≡ length (table program.now).classes }
     requires members { (c : ℕ) (k : Found) → slice_get members.now c ≡ Some k → IsClassNodes program.now c k }
@@ -60,7 +63,17 @@ fn class_codes(
     let count = members.len() as u32;
     for class in 0..count {
         let own = &members[class as usize];
-        let made = class_code(alloc, program, class, own, field, nodes, links, &mut values)?;
+        let made = class_code(
+            alloc,
+            program,
+            numbers,
+            class,
+            own,
+            field,
+            nodes,
+            links,
+            &mut values,
+        )?;
         classes.push(made)?;
         field += own.fields.len() as u32;
     }
@@ -72,12 +85,14 @@ fn class_codes(
 pub fn bodies_of(
     alloc: Global,
     program: &Program,
+    numbers: &NodeNumbers,
     roster: &Roster,
     members: &MemberNodes,
     nodes: &mut Vec<Node>,
     links: &mut Links,
 ) -> Result<Bodies, NoMemory>
     requires program { IsProgram program.now }
+    requires numbers { AreNumbers program.now numbers.now }
     requires roster { IsRoster program.now.trees.items roster.now }
     requires members { AreMemberNodes program.now members.now }
     ensures nodes { IfOk result (λ bodies. AddsInitialisers nodes.old.items nodes.new.items) }
@@ -87,8 +102,8 @@ pub fn bodies_of(
     ensures made { (arrays : List ℕ) (names : List (List ℕ)) (final : Final) (code : Code) → IfOk result (λ bodies. Becomes program.now names links.new final code → code.nodes.items ≡ nodes.new.items → code.methods.items ≡ bodies.methods.items → code.classes.items ≡ bodies.classes.items
         → code.values.items ≡ bodies.values.items → AreBodies (run_program program.now arrays) code (numbering_of program.now final)) }
 {
-    let methods = method_codes(alloc, program, &members.methods, links)?;
-    let made = class_codes(alloc, program, &members.classes, nodes, links)?;
+    let methods = method_codes(alloc, program, numbers, &members.methods, links)?;
+    let made = class_codes(alloc, program, numbers, &members.classes, nodes, links)?;
     Ok(Bodies {
         methods,
         classes: made.classes,

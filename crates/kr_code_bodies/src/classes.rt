@@ -2,6 +2,7 @@
 ghost use Rattle.std.specs.Prelude.{◌≡◌, ◌<◌, ◌≤◌, ◌^◌, ℕ, List, IfOk, length};
 ghost use Rattle.kr_classes_names.specs.ListedTypes.{IsGrown};
 ghost use Rattle.kr_types.specs.Programs.{IsProgram};
+ghost use Rattle.kr_code_lowering.specs.Numbered.{AreNumbers};
 ghost use Rattle.kr_code_members.specs.Nodes.{IsClassNodes, table};
 ghost use Rattle.kr_classes_members.specs.Rosters.{all_fields, fields_of_class, first_of};
 ghost use Rattle.kr_code_bodies.specs.Made.{AddsInitialisers, IsClassMade};
@@ -13,7 +14,7 @@ use crate::values::add_defaults;
 use kr_base::NoMemory;
 use kr_classes_table::{ClassId, FieldId};
 use kr_code::{ClassCode, Node};
-use kr_code_lowering::Links;
+use kr_code_lowering::{Links, NodeNumbers};
 use kr_code_members::ClassNodes;
 use kr_types::Program;
 use kr_value::Value;
@@ -24,6 +25,7 @@ use std::alloc::Global;
 pub(crate) fn class_code(
     alloc: Global,
     program: &Program,
+    numbers: &NodeNumbers,
     class: ClassId,
     members: &ClassNodes,
     first_field: FieldId,
@@ -32,6 +34,7 @@ pub(crate) fn class_code(
     values: &mut Vec<Value>,
 ) -> Result<ClassCode, NoMemory>
     requires program { IsProgram program.now }
+    requires numbers { AreNumbers program.now numbers.now }
     requires class { class < length (table program.now).classes }
     requires members { IsClassNodes program.now class members.now }
     requires first { first_field ≡ first_of fields_of_class (table program.now) class }
@@ -45,9 +48,9 @@ pub(crate) fn class_code(
 {
     let defaults = add_defaults(alloc, program, class, values)?;
     let line = add_line(alloc, program, class, links)?;
-    let own = class_initialisers(alloc, program, class, &members.fields, first_field)?;
+    let own = class_initialisers(alloc, program, numbers, class, &members.fields, first_field)?;
     let initialisers = add_initialisers(&own, nodes, links)?;
-    let constructor = maybe_constructor(program, links, members.constructor)?;
+    let constructor = maybe_constructor(program, numbers, links, members.constructor)?;
     Ok(ClassCode {
         defaults,
         line,

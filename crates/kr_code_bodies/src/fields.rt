@@ -5,6 +5,7 @@ ghost use Rattle.kr_classes_table.specs.Table as tables;
 ghost use Rattle.kr_classes_table.specs.Table.{own_fields, is_instance};
 ghost use Rattle.kr_classes_names.specs.ListedTypes.{IsGrown};
 ghost use Rattle.kr_types.specs.Programs.{IsProgram};
+ghost use Rattle.kr_code_lowering.specs.Numbered.{AreNumbers};
 ghost use Rattle.kr_mean.specs.Program.{declared_fields};
 ghost use Rattle.kr_code_members.specs.Nodes.{IsFieldNode, IsThere, run_program, table};
 ghost use Rattle.kr_code.specs.declared.code.Node.TheVariants as made;
@@ -16,14 +17,20 @@ use kr_ast::Node;
 use kr_base::{NoMemory, add_found};
 use kr_classes_table::{ClassId, FieldId};
 use kr_code::{Initialiser, Node as CodeNode, Nodes};
-use kr_code_lowering::{Links, Site};
+use kr_code_lowering::{Links, NodeNumbers, Site};
 use kr_code_members::FieldNode;
 use kr_types::Program;
 use std::alloc::Global;
 
 /// The initial value of a field that each object has, if there is one.
-fn initialiser_at(program: &Program, node: FieldNode, field: FieldId) -> Option<Initialiser>
+fn initialiser_at(
+    program: &Program,
+    numbers: &NodeNumbers,
+    node: FieldNode,
+    field: FieldId,
+) -> Option<Initialiser>
     requires program { IsProgram program.now }
+    requires numbers { AreNumbers program.now numbers.now }
     requires there { IsThere program.now node.file node.initial }
     ensures { (f : tables.Field) → IsFieldNode program.now f node → field_numbered (table program.now) field ≡ f → AllZip (IsInitial program.now) (flat_map has_initial (is_instance f)) (option_to_list result) }
 {
@@ -35,7 +42,7 @@ fn initialiser_at(program: &Program, node: FieldNode, field: FieldId) -> Option<
         Node::Nil => None,
         _ => Some(Initialiser {
             field,
-            value: site.first + site.node,
+            value: site.code_number(program, numbers, site.node),
         }),
     }
 }
@@ -44,11 +51,13 @@ fn initialiser_at(program: &Program, node: FieldNode, field: FieldId) -> Option<
 pub(crate) fn class_initialisers(
     alloc: Global,
     program: &Program,
+    numbers: &NodeNumbers,
     class: ClassId,
     nodes: &[FieldNode],
     first_field: FieldId,
 ) -> Result<Vec<Initialiser>, NoMemory>
     requires program { IsProgram program.now }
+    requires numbers { AreNumbers program.now numbers.now }
     requires class { class < length (table program.now).classes }
     requires nodes { AllZip (IsFieldNode program.now) (own_fields (table program.now) class) nodes.now }
     requires first { first_field ≡ first_of fields_of_class (table program.now) class }
@@ -58,7 +67,7 @@ pub(crate) fn class_initialisers(
     let mut found = Vec::new(alloc);
     let mut field = first_field;
     for node in nodes {
-        add_found(&mut found, initialiser_at(program, *node, field))?;
+        add_found(&mut found, initialiser_at(program, numbers, *node, field))?;
         field += 1;
     }
     Ok(found)

@@ -3,6 +3,7 @@ ghost use Rattle.std.specs.Prelude.{◌≡◌, ℕ, List, IfOk, Some, length, sl
 ghost use Rattle.kr_classes_table.specs.Table as tables;
 ghost use Rattle.kr_classes_names.specs.ListedTypes.{IsGrown};
 ghost use Rattle.kr_types.specs.Programs.{IsProgram};
+ghost use Rattle.kr_code_lowering.specs.Numbered.{AreNumbers};
 ghost use Rattle.kr_code_members.specs.Nodes.{IsMethodNode, IsThere, table};
 ghost use Rattle.kr_code.specs.declared.code.MethodCode.{MethodCode as Made};
 ghost use Rattle.kr_classes_members.specs.Rosters.{method_numbered};
@@ -11,14 +12,20 @@ ghost use Rattle.kr_code_bodies.specs.Made.{IsMethodMade, IsMethodNumbered};
 use kr_ast::Node;
 use kr_base::NoMemory;
 use kr_code::{MethodCode, Nodes};
-use kr_code_lowering::{Links, Site, method_code};
+use kr_code_lowering::{Links, NodeNumbers, Site, method_code};
 use kr_code_members::MethodNode;
 use kr_types::Program;
 use std::alloc::Global;
 
 /// The code of a method.
-fn method_at(program: &Program, links: &mut Links, node: MethodNode) -> Result<MethodCode, NoMemory>
+fn method_at(
+    program: &Program,
+    numbers: &NodeNumbers,
+    links: &mut Links,
+    node: MethodNode,
+) -> Result<MethodCode, NoMemory>
     requires program { IsProgram program.now }
+    requires numbers { AreNumbers program.now numbers.now }
     requires there { IsThere program.now node.file node.node }
     ensures grown { IsGrown links.old links.new }
     ensures made { (arrays : List ℕ) (names : List (List ℕ)) (m : tables.Method) → IsMethodNode program.now m node → IfOk result (IsMethodMade program.now arrays names links.new m) }
@@ -32,7 +39,7 @@ fn method_at(program: &Program, links: &mut Links, node: MethodNode) -> Result<M
             signature,
             body,
         } => method_code(
-            program, links, site, entry, is_static, name, signature, body,
+            program, numbers, links, site, entry, is_static, name, signature, body,
         ),
         _ => Ok(MethodCode {
             parameters: Nodes { first: 0, count: 0 },
@@ -46,10 +53,12 @@ fn method_at(program: &Program, links: &mut Links, node: MethodNode) -> Result<M
 pub(crate) fn method_codes(
     alloc: Global,
     program: &Program,
+    numbers: &NodeNumbers,
     nodes: &[MethodNode],
     links: &mut Links,
 ) -> Result<Vec<MethodCode>, NoMemory>
     requires program { IsProgram program.now }
+    requires numbers { AreNumbers program.now numbers.now }
     requires nodes { (k : ℕ) (n : MethodNode) → slice_get nodes.now k ≡ Some n → IsMethodNode program.now (method_numbered (table program.now) k) n }
     ensures grown { IfOk result (λ made. IsGrown links.old links.new) }
     ensures count { IfOk result (λ made. length made.items ≡ length nodes.now) }
@@ -57,7 +66,7 @@ pub(crate) fn method_codes(
 {
     let mut made = Vec::new(alloc);
     for node in nodes {
-        made.push(method_at(program, links, *node)?)?;
+        made.push(method_at(program, numbers, links, *node)?)?;
     }
     Ok(made)
 }

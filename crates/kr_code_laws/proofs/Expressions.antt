@@ -7,7 +7,7 @@ use Rattle.kr_ast.specs.Tree as trees
 use Rattle.kr_ast.specs.Tree.{Tree}
 use Rattle.kr_value.specs.declared.value.Value.{Value}
 use Rattle.kr_value.specs.declared.value.Value.TheVariants.{Int, Bool as Truth, Null, Ref as Reference}
-use Rattle.kr_classes_table.specs.Types.{JavaType, ClassType, ArrayType, SetType, ListType}
+use Rattle.kr_classes_table.specs.Types.{JavaType, NumberType, ClassType, ArrayType, SetType, ListType}
 use Rattle.kr_classes_table.specs.Table.{Field, Method, items}
 use Rattle.kr_classes_table.specs.Arrays.{array_number}
 use Rattle.kr_classes_table.specs.Constants.{constant_of}
@@ -18,9 +18,10 @@ use Rattle.kr_mean.specs.Program.{Program, default_of, overriding}
 use Rattle.kr_mean.specs.Steps.{Run, say, give, stop, given, ◌>>=◌, ◌>>◌, get_this, read_local, element, class_or_null, class_of, load_field, store, store_element}
 use Rattle.kr_classes_table.specs.Numbers.{Width}
 use Rattle.kr_mean.specs.declared.operations.BinaryOperation.{BinaryOperation}
-use Rattle.kr_mean.specs.Operators.{operated, binary_operation, step_operation}
+use Rattle.kr_types_meaning.specs.Promotion.{is_number}
+use Rattle.kr_mean.specs.Operators.{operated, binary_operation, compound_operation, step_operation}
 use Rattle.kr_mean.specs.Meaning as means
-use Rattle.kr_mean.specs.Meaning.{Parts, Target, Change, values_of, constant, read_name, own_call, called, method_call, create, create_array, binary, cast, instance, target_of, assigned, changed, compound, stepped, width_at, width_of, value_of, value, unbounded}
+use Rattle.kr_mean.specs.Meaning.{Parts, Target, Change, values_of, constant, read_name, own_call, called, method_call, create, create_array, binary, cast, primitive_cast, instance, target_of, assigned, changed, compound, stepped, width_at, width_of, value_of, value, unbounded}
 use Rattle.kr_code.specs.declared.code.Code.{Code}
 use Rattle.kr_code.specs.declared.expression.Callee.TheVariants as callees
 use Rattle.kr_code.specs.declared.expression.Variable.{Variable}
@@ -139,6 +140,11 @@ module _ (program : Program) (code : Code) (n : Numbering) (tables : AreTables p
   uncreatable (ListType t) e vs state = absurd (cc (e))
   uncreatable _ e vs state = refl
 
+  -- a cast to a type that isn't a number's
+  unconverted : (t : JavaType) → is_number t ≡ false → (m : Run Value) → Agree m (primitive_cast t m)
+  unconverted (NumberType w) e m state = absurd (cc (e))
+  unconverted _ e m state = refl
+
   binary_same : (width : Width) (o : BinaryOperator) → is_junction o ≡ false → (m m' k k' : Run Value) → Agree m m' → Agree k k' → Agree (m >>= (λ v. k >>= (λ w. say (operated (binary_operation width o) v w)))) (binary width o m' k')
   binary_same width operators.And e m m' k k' q r = absurd (cc (e))
   binary_same width operators.Or e m m' k k' q r = absurd (cc (e))
@@ -157,6 +163,7 @@ module _ (program : Program) (code : Code) (n : Numbering) (tables : AreTables p
 
   pub expression_same : (s : Scope) (t : Tree) (x : Expression) → IsExpression program code n s t x → Agree (doings.value_done code d x) (value_of program p s t)
   expression_same s t x (resolved.number r k) = λ state. refl
+  expression_same s t x (resolved.long_number r k) = λ state. refl
   expression_same s t x (resolved.truth r b) = λ state. refl
   expression_same s t x (resolved.null r) = λ state. refl
   expression_same s t x (resolved.this r) = λ state. refl
@@ -208,12 +215,18 @@ module _ (program : Program) (code : Code) (n : Numbering) (tables : AreTables p
   expression_same s t x (resolved.instance r e u i k h g) =
       then_same (d.value i) (p.value s e) _ _ (part s e i h) (λ v. then_same (class_or_null v) (class_or_null v) _ _ (λ state. refl) (λ class state. ap (λ (z : Value). give z state) (instances program code n tables k class ∙ ap (λ (z : JavaType). instance program z class) g)))
   expression_same s t x (resolved.conditional r c a b i j k h g l) = then_same (d.value i) (p.value s c) _ _ (part s c i h) (λ v. choose_same v _ _ _ _ (part s a j g) (part s b k l))
-  expression_same s t x (resolved.primitive_cast r u e k i b ty h) = λ state. part s e i h state ∙ ap (λ (z : Bool). (if z then p.value s e else (p.value s e >>= (λ v. class_or_null v >>= cast program (written s u) v))) state) (sym b)
+  expression_same s t x (resolved.number_cast r u e w i b ty h) = λ state.
+      then_same (d.value i) (p.value s e) _ _ (part s e i h) (λ v y. refl) state
+      ∙ ap (λ (z : JavaType). primitive_cast z (p.value s e) state) (sym ty)
+      ∙ ap (λ (z : Bool). (if z then primitive_cast (written s u) (p.value s e) else (p.value s e >>= (λ v. class_or_null v >>= cast program (written s u) v))) state) (sym b)
+  expression_same s t x (resolved.primitive_cast r u e k i b none ty h) = λ state.
+      part s e i h state ∙ unconverted (written s u) none (p.value s e) state
+      ∙ ap (λ (z : Bool). (if z then primitive_cast (written s u) (p.value s e) else (p.value s e >>= (λ v. class_or_null v >>= cast program (written s u) v))) state) (sym b)
   expression_same s t x (resolved.cast r u e k i b g h) = λ state.
       then_same (d.value i) (p.value s e) (λ v. class_or_null v >>= cast_to code k v) (λ v. class_or_null v >>= cast program (written s u) v) (part s e i h) (λ v. then_same (class_or_null v) (class_or_null v) _ _ (λ y. refl) (λ class y. casts program code n tables k v class y ∙ ap (λ (z : JavaType). cast program z v class y) g)) state
-      ∙ ap (λ (z : Bool). (if z then p.value s e else (p.value s e >>= (λ v. class_or_null v >>= cast program (written s u) v))) state) (sym b)
+      ∙ ap (λ (z : Bool). (if z then primitive_cast (written s u) (p.value s e) else (p.value s e >>= (λ v. class_or_null v >>= cast program (written s u) v))) state) (sym b)
   expression_same s t x (resolved.assignment r a e y i h g) = assigned_same s (target_of s a) y h (d.value i) (p.value s e) (part s e i g)
-  expression_same s t x (resolved.compound r o a e y i h g) = let c = binary_operation (width_of s o a e) o in changed_same s (target_of s a) y h (compound c (d.value i)) (compound c (p.value s e)) (λ v. compound_same c (d.value i) (p.value s e) (part s e i g) v)
+  expression_same s t x (resolved.compound r o a e y i h g) = let c = compound_operation (width_at s a) (width_of s o a e) o in changed_same s (target_of s a) y h (compound c (d.value i)) (compound c (p.value s e)) (λ v. compound_same c (d.value i) (p.value s e) (part s e i g) v)
   expression_same s t x (resolved.step r o a y h) = let c = step_operation (width_at s a) o in changed_same s (target_of s a) y h (stepped c) (stepped c) (λ v state. refl)
   expression_same s t x (resolved.result r) = λ state. refl
   expression_same s t x (resolved.old r e) = λ state. refl
@@ -221,6 +234,7 @@ module _ (program : Program) (code : Code) (n : Numbering) (tables : AreTables p
     where
       others : (u : Tree) → is_no_expression u ≡ true → Agree (stop Stuck) (value_of program p s u)
       others (trees.Number q k) e state = absurd (cc (e))
+      others (trees.LongNumber q k) e state = absurd (cc (e))
       others (trees.Truth q b) e state = absurd (cc (e))
       others (trees.Null q) e state = absurd (cc (e))
       others (trees.This q) e state = absurd (cc (e))

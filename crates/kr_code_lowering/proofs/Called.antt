@@ -28,7 +28,7 @@ use Rattle.kr_classes_members.specs.Rosters.{all_methods, no_method, method_numb
 use Rattle.kr_code_lowering.specs.declared.site.Site.{Site}
 use Rattle.kr_code_members.specs.Nodes.{table}
 use Rattle.kr_code_lowering.specs.Origins.{Final, node_scope, node_tree, numbering_of}
-use Rattle.kr_code_lowering.specs.Sites.{Becomes, IsHere, Resolves, arena_at, scope_at}
+use Rattle.kr_code_lowering.specs.Sites.{Becomes, IsHere, Resolves, arena_at, scope_at, number_at}
 use Rattle.kr_code_lowering.specs.Lists.{AreLinked}
 use Rattle.kr_code_lowering.specs.Calls.{IsFound, IsOwnCallee, IsStaticCallee, IsCalledOn, IsCreator}
 use Rattle.kr_classes_table.specs.Types.{JavaType}
@@ -95,7 +95,7 @@ module _ (p : Program) (program : IsProgram p) (arrays : List ℕ) (s : Site) (e
   arguments : (final : Final) (code : Code) → Becomes p known linked final code → AreParts (numbering_of p final) (running (scope_at p s)) (items (node_tree p s.file a)) (listed code ns)
   arguments final code b = arguments_are p program known linked final code b s e node at is 1 a (parts_are p s e node at is).1.0 ns links (running (scope_at p s)) refl
 
-  object : (final : Final) → IsPart (numbering_of p final) (running (scope_at p s)) (node_tree p s.file o) (s.first + o)
+  object : (final : Final) → IsPart (numbering_of p final) (running (scope_at p s)) (node_tree p s.file o) (number_at p s o)
   object final = part_in p program final s e node at is 0 o (parts_are p s e node at is).0 (running (scope_at p s)) refl
 
   pub static_resolves : (c : ℕ) (f : Callee) → class_before (scope_at p s) (node_tree p s.file o) ≡ Some c → IsStaticCallee p (option_and_then static_only (method_named (scope_at p s).table c x)) f → Resolves p arrays s known linked (expressions.Call f ns)
@@ -110,18 +110,18 @@ module _ (p : Program) (program : IsProgram p) (arrays : List ℕ) (s : Site) (e
   static_resolves c callees.NewList h m = absurd m
 
   chosen_resolves : (k : ℕ) (m : Method) → class_before (scope_at p s) (node_tree p s.file o) ≡ None → typed_method (scope_at p s) (node_tree p s.file o) x ≡ Some m → slice_get (all_methods (table p)) k ≡ Some m → (b : Bool) → m.is_static ≡ b
-      → Resolves p arrays s known linked (cond b (expressions.StaticCallOn (s.first + o) k ns) (expressions.CallOn (s.first + o) k ns))
-  chosen_resolves k m h t got true st = resolves_at p arrays s e node at is known linked (expressions.StaticCallOn (s.first + o) k ns)
-      (λ final code b. resolved.static_call_on e.place (node_tree p s.file o) x (node_tree p s.file a) (s.first + o) m k ns (class_running (scope_at p s) (node_tree p s.file o) ∙ h) (typed_running (scope_at p s) (node_tree p s.file o) x ∙ t) st (method_is p known linked final code b k m got) (object final) (arguments final code b))
-  chosen_resolves k m h t got false st = resolves_at p arrays s e node at is known linked (expressions.CallOn (s.first + o) k ns)
-      (λ final code b. resolved.call_on e.place (node_tree p s.file o) x (node_tree p s.file a) (s.first + o) m k ns (class_running (scope_at p s) (node_tree p s.file o) ∙ h) (typed_running (scope_at p s) (node_tree p s.file o) x ∙ t) st (method_is p known linked final code b k m got) (object final) (arguments final code b))
+      → Resolves p arrays s known linked (cond b (expressions.StaticCallOn (number_at p s o) k ns) (expressions.CallOn (number_at p s o) k ns))
+  chosen_resolves k m h t got true st = resolves_at p arrays s e node at is known linked (expressions.StaticCallOn (number_at p s o) k ns)
+      (λ final code b. resolved.static_call_on e.place (node_tree p s.file o) x (node_tree p s.file a) (number_at p s o) m k ns (class_running (scope_at p s) (node_tree p s.file o) ∙ h) (typed_running (scope_at p s) (node_tree p s.file o) x ∙ t) st (method_is p known linked final code b k m got) (object final) (arguments final code b))
+  chosen_resolves k m h t got false st = resolves_at p arrays s e node at is known linked (expressions.CallOn (number_at p s o) k ns)
+      (λ final code b. resolved.call_on e.place (node_tree p s.file o) x (node_tree p s.file a) (number_at p s o) m k ns (class_running (scope_at p s) (node_tree p s.file o) ∙ h) (typed_running (scope_at p s) (node_tree p s.file o) x ∙ t) st (method_is p known linked final code b k m got) (object final) (arguments final code b))
 
-  pub called_resolves : (m : Option ℕ) (f : Expression) → class_before (scope_at p s) (node_tree p s.file o) ≡ None → IsFound p m (typed_method (scope_at p s) (node_tree p s.file o) x) → IsCalledOn p (s.first + o) x ns m f → Resolves p arrays s known linked f
-  called_resolves None f h t g = subst (Resolves p arrays s known linked) (sym g) (resolves_at p arrays s e node at is known linked (expressions.CallCollection (s.first + o) (call_named x) ns)
-      (λ final code b. resolved.collection_call e.place (node_tree p s.file o) x (node_tree p s.file a) (s.first + o) ns (class_running (scope_at p s) (node_tree p s.file o) ∙ h) (typed_running (scope_at p s) (node_tree p s.file o) x ∙ t) (object final) (arguments final code b)))
+  pub called_resolves : (m : Option ℕ) (f : Expression) → class_before (scope_at p s) (node_tree p s.file o) ≡ None → IsFound p m (typed_method (scope_at p s) (node_tree p s.file o) x) → IsCalledOn p (number_at p s o) x ns m f → Resolves p arrays s known linked f
+  called_resolves None f h t g = subst (Resolves p arrays s known linked) (sym g) (resolves_at p arrays s e node at is known linked (expressions.CallCollection (number_at p s o) (call_named x) ns)
+      (λ final code b. resolved.collection_call e.place (node_tree p s.file o) x (node_tree p s.file a) (number_at p s o) ns (class_running (scope_at p s) (node_tree p s.file o) ∙ h) (typed_running (scope_at p s) (node_tree p s.file o) x ∙ t) (object final) (arguments final code b)))
   called_resolves (Some k) f h t g =
       let same : method_numbered (table p) k ≡ t.0 = get_or_from_slice_get (all_methods (table p)) k t.0 (no_method (table p)) t.2 in
-      subst (Resolves p arrays s known linked) (sym (g ∙ ap (λ (m : Method). cond m.is_static (expressions.StaticCallOn (s.first + o) k ns) (expressions.CallOn (s.first + o) k ns)) same)) (chosen_resolves k t.0 h t.1 t.2 t.0.is_static refl)
+      subst (Resolves p arrays s known linked) (sym (g ∙ ap (λ (m : Method). cond m.is_static (expressions.StaticCallOn (number_at p s o) k ns) (expressions.CallOn (number_at p s o) k ns)) same)) (chosen_resolves k t.0 h t.1 t.2 t.0.is_static refl)
 
 -- ---- creation
 

@@ -18,7 +18,7 @@ use Rattle.kr_mean.specs.Program.{default_of}
 use Rattle.kr_code.specs.Resolved.{IsDeclarator}
 use Rattle.kr_code_lowering.specs.declared.site.Site.{Site}
 use Rattle.kr_code_lowering.specs.Origins.{Final, node_scope, node_tree, numbering_of}
-use Rattle.kr_code_lowering.specs.Sites.{IsHere, arena_at, scope_at, tree_at}
+use Rattle.kr_code_lowering.specs.Sites.{IsHere, arena_at, scope_at, tree_at, number_at}
 use Rattle.kr_code_lowering.specs.Named.{IsLocal, IsNoLocal}
 use Rattle.kr_code_lowering.specs.Statements.{IsMaybe}
 use Rattle.kr_code_lowering.proofs.Parts.{part_in, part_scope, tree_is}
@@ -53,9 +53,9 @@ module _ (p : Program) (program : IsProgram p) (s : Site) (e : Entry) (at : IsHe
   declared : (running r).declared ≡ r.declared
   declared = ap (λ (d : Declaring). local_type d r.declared) locals
 
-  pub declares : (k : ℕ) (v : Value) (o : Option ℕ) → k ≡ length r.locals → v ≡ default_of r.declared → IsMaybe (node_tree p s.file i) (s.first + i) o → (final : Final) → IsDeclarator (numbering_of p final) (running r) (tree_at p s) (Some (record { local = k; default = v; initial = o }))
+  pub declares : (k : ℕ) (v : Value) (o : Option ℕ) → k ≡ length r.locals → v ≡ default_of r.declared → IsMaybe (node_tree p s.file i) (number_at p s i) o → (final : Final) → IsDeclarator (numbering_of p final) (running r) (tree_at p s) (Some (record { local = k; default = v; initial = o }))
   declares k v o number default maybe final =
       let inner : Scope = bind_local x (running r).declared (running r) in
       let same : running (bind_as r.declaring x r) ≡ inner = ap (λ (d : Declaring). running (bind_as d x r)) locals ∙ ap (λ (t : JavaType). bind_local x t (running r)) (sym declared) in
       subst (λ (t : Tree). IsDeclarator (numbering_of p final) (running r) t (Some (record { local = k; default = v; initial = o }))) (sym (tree_is p s e (nodes.Declarator n i) at is))
-      (number, default ∙ ap default_of (sym declared), partial_is p final inner (node_tree p s.file i) (s.first + i) o maybe (part_in p program final s e (nodes.Declarator n i) at is 0 i (parts_are p s e (nodes.Declarator n i) at is).0 inner same))
+      (number, default ∙ ap default_of (sym declared), partial_is p final inner (node_tree p s.file i) (number_at p s i) o maybe (part_in p program final s e (nodes.Declarator n i) at is 0 i (parts_are p s e (nodes.Declarator n i) at is).0 inner same))

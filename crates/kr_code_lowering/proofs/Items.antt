@@ -16,7 +16,7 @@ use Rattle.kr_types.specs.Programs.{IsProgram}
 use Rattle.kr_code.specs.Resolved.{AreParts}
 use Rattle.kr_code_lowering.specs.declared.site.Site.{Site}
 use Rattle.kr_code_lowering.specs.Origins.{node_scope, node_tree, numbering_of}
-use Rattle.kr_code_lowering.specs.Sites.{IsHere, arena_at, scope_at, tree_at}
+use Rattle.kr_code_lowering.specs.Sites.{IsHere, arena_at, scope_at, tree_at, number_at}
 use Rattle.kr_code_lowering.specs.Lists.{IsAhead}
 use Rattle.kr_code_lowering.proofs.Parts.{part_in, part_scope, tree_is}
 
@@ -30,4 +30,4 @@ ahead p is s e at a b it more h final =
     let parts_are : ArePartsFrom (arena_at p s).entries s.node 0 (a ∷ b ∷ []) = subst (λ (m : Node). ArePartsFrom (arena_at p s).entries s.node 0 (parts m)) it at.parts in
     let scope : node_scope p s.file b ≡ after s' x = part_scope p is s at.site 1 b parts_are.1.0 ∙ ap (λ (u : Tree). handed s' u 1) t in
     let behind : AreParts n (after (running s') x) (items y) more = subst (λ (u : Scope). AreParts n u (items y) more) (ap running scope ∙ sym (running_same s' x).scope) (h final) in
-    subst (λ (u : Tree). AreParts n (running s') (items u) ((s.first + a) ∷ more)) (sym t) (part_in p is final s e (Cons a b) at it 0 a parts_are.0 (running s') refl, behind)
+    subst (λ (u : Tree). AreParts n (running s') (items u) ((number_at p s a) ∷ more)) (sym t) (part_in p is final s e (Cons a b) at it 0 a parts_are.0 (running s') refl, behind)

@@ -8,6 +8,7 @@ pub mod Read
 pub mod Called
 pub mod TypeNames
 pub mod Variables
+pub mod Widths
 pub mod Assigned
 pub mod Dispatch
 pub mod Performed
@@ -15,3 +16,4 @@ pub mod Declared
 pub mod Embodied
 pub mod Noded
 pub mod Gathered
+pub mod Begun

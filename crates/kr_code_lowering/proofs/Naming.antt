@@ -27,7 +27,7 @@ use Rattle.kr_code_lowering.specs.declared.site.Site.{Site}
 use Rattle.kr_code_lowering.specs.declared.named.Named.TheVariants as named
 use Rattle.kr_code_members.specs.Nodes.{run_program, table}
 use Rattle.kr_code_lowering.specs.Origins.{Final, node_scope, node_tree, numbering_of, scope_in}
-use Rattle.kr_code_lowering.specs.Sites.{Becomes, IsHere, Resolves, arena_at, scope_at}
+use Rattle.kr_code_lowering.specs.Sites.{Becomes, IsHere, Resolves, arena_at, scope_at, number_at}
 use Rattle.kr_classes_table.specs.Table.{headings_of, table_of}
 use Rattle.kr_ast.specs.Files.{file_at}
 use Rattle.kr_types_scopes.specs.declared.lookup.LocalFound.{LocalFound}
@@ -38,16 +38,12 @@ use Rattle.kr_code_lowering.specs.Named.{IsLocal, IsNamed, literal_of}
 use Rattle.kr_code_members.proofs.Scopes as members
 use Rattle.kr_code_lowering.proofs.Growth.{got_grown}
 use Rattle.kr_code_lowering.proofs.Meant.{meant_so}
-use Rattle.kr_code_lowering.proofs.Parts.{part_in, small_number, tree_is}
+use Rattle.kr_code_lowering.proofs.Parts.{part_in, tree_is}
 
 -- ---- a node by its kind
 
 pub parts_are : (p : Program) (s : Site) (e : Entry) (n : Node) → IsHere p s e → e.node ≡ n → ArePartsFrom (arena_at p s).entries s.node 0 (parts n)
 parts_are p s e n at is = subst (λ (m : Node). ArePartsFrom (arena_at p s).entries s.node 0 (parts m)) is at.parts
-
--- the number of a part fits
-pub part_small : (p : Program) → IsProgram p → (s : Site) (e : Entry) → IsHere p s e → (j c : ℕ) → arenas.IsPart (arena_at p s).entries s.node j c → s.first + c < 2 ^ 32
-part_small p is s e at j c part = small_number p is s at.site c (omega (arith, part.below, at.site.node))
 
 pub resolves_at : (p : Program) (arrays : List ℕ) (s : Site) (e : Entry) (n : Node) → IsHere p s e → e.node ≡ n → (known : List (List ℕ)) (linked : List ℕ) (x : Expression)
     → ((final : Final) (code : Code) → Becomes p known linked final code → IsExpression (run_program p arrays) code (numbering_of p final) (running (scope_at p s)) (tree_of (arena_at p s).text (tree_in (arena_at p s)) e.place n) x)
@@ -108,8 +104,8 @@ module _ (p : Program) (program : IsProgram p) (arrays : List ℕ) (s : Site) (e
   class_constant_resolves c None h m = resolves_at p arrays s e (nodes.FieldAccess a n) at is known linked expressions.Stuck (λ final code b. resolved.no_class_constant e.place (node_tree p s.file a) y c (class_running (scope_at p s) (node_tree p s.file a) ∙ h) m)
   class_constant_resolves c (Some v) h m = resolves_at p arrays s e (nodes.FieldAccess a n) at is known linked (expressions.Literal v) (λ final code b. resolved.class_constant e.place (node_tree p s.file a) y c v (class_running (scope_at p s) (node_tree p s.file a) ∙ h) m)
 
-  pub field_resolves : (i : ℕ) → class_before (scope_at p s) (node_tree p s.file a) ≡ None → slice_get known i ≡ Some y → Resolves p arrays s known linked (expressions.FieldOf (s.first + a) i)
-  field_resolves i h g = resolves_at p arrays s e (nodes.FieldAccess a n) at is known linked (expressions.FieldOf (s.first + a) i)
-      (λ final code b. resolved.field_of e.place (node_tree p s.file a) y (s.first + a) i (class_running (scope_at p s) (node_tree p s.file a) ∙ h)
+  pub field_resolves : (i : ℕ) → class_before (scope_at p s) (node_tree p s.file a) ≡ None → slice_get known i ≡ Some y → Resolves p arrays s known linked (expressions.FieldOf (number_at p s a) i)
+  field_resolves i h g = resolves_at p arrays s e (nodes.FieldAccess a n) at is known linked (expressions.FieldOf (number_at p s a) i)
+      (λ final code b. resolved.field_of e.place (node_tree p s.file a) y (number_at p s a) i (class_running (scope_at p s) (node_tree p s.file a) ∙ h)
       (part_in p program final s e (nodes.FieldAccess a n) at is 0 a (parts_are p s e (nodes.FieldAccess a n) at is).0 (running (scope_at p s)) refl)
       (name_so p known final b.names i y g))

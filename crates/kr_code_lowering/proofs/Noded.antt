@@ -21,16 +21,16 @@ use Rattle.kr_code.specs.Tables.{declarator_of, expression_of, statement_of}
 use Rattle.kr_code.specs.Resolved.{Numbering, IsDeclarator, IsExpression, IsStatement, is_no_expression, is_no_statement}
 use Rattle.kr_code_lowering.specs.declared.site.Site.{Site}
 use Rattle.kr_code_members.specs.Nodes.{run_program}
-use Rattle.kr_code_lowering.specs.Origins.{Final, node_origin, numbering_of, origin_of}
-use Rattle.kr_code_lowering.specs.Sites.{IsHere, IsSite, Resolves, arena_at, scope_at, tree_at}
+use Rattle.kr_code_lowering.specs.Origins.{Final, node_origin, number_of, numbering_of, origin_of}
+use Rattle.kr_code_lowering.specs.Sites.{IsHere, IsSite, Resolves, arena_at, scope_at, tree_at, number_at}
 use Rattle.kr_code_lowering.specs.Statements.{Declares, Does}
 use Rattle.kr_code_lowering.specs.Resolving.{IsNode}
 use Rattle.kr_code_lowering.proofs.Numbers.{origin_there}
 use Rattle.kr_code_lowering.proofs.Dispatch.{no_expression_resolves}
 use Rattle.kr_code_lowering.proofs.Performed.{no_statement_does}
 
-origin_is : (p : Program) (ns : List meaning.Node) (s : Site) → IsSite p s → origin_of p ns (s.first + s.node) ≡ node_origin p s.file s.node
-origin_is p ns s at = ap (λ (k : ℕ). origin_of p ns (k + s.node)) at.first ∙ origin_there p ns s.file s.node at.file at.node
+origin_is : (p : Program) (ns : List meaning.Node) (s : Site) → IsSite p s → origin_of p ns (number_at p s s.node) ≡ node_origin p s.file s.node
+origin_is p ns s at = ap (λ (k : ℕ). origin_of p ns (number_of p (k + s.node))) at.first ∙ origin_there p ns s.file s.node at.file at.node
 
 locals_so : (d : Declaring) → locals_only d ≡ Locals → d ≡ Locals
 locals_so Locals h = refl
@@ -60,7 +60,7 @@ expression_no_statement text look pl _ h = refl
 module _ (p : Program) (program : IsProgram p) (arrays : List ℕ) (s : Site) (e : Entry) (at : IsHere p s e) (known : List (List ℕ)) (linked : List ℕ) where
   -- from its meaning at its place
   placed : (node : Node) → Resolves p arrays s known linked (expression_of node) → Does p s known linked (statement_of node) → ((scope_at p s).declaring ≡ Locals → (final : Final) → IsDeclarator (numbering_of p final) (running (scope_at p s)) (tree_at p s) (declarator_of node))
-      → IsNode p arrays known linked (s.first + s.node) node
+      → IsNode p arrays known linked (number_at p s s.node) node
   placed node x y d =
       let o = λ (final : Final). sym (origin_is p final.nodes s at.site) in
       record {
@@ -72,13 +72,13 @@ module _ (p : Program) (program : IsProgram p) (arrays : List ℕ) (s : Site) (e
   nothing_declared : ((x : Name) (i : ℕ) → e.node ≡ nodes.Declarator x i → ⊥) → (final : Final) → IsDeclarator (numbering_of p final) (running (scope_at p s)) (tree_at p s) None
   nothing_declared h final = subst (λ (t : Tree). IsDeclarator (numbering_of p final) (running (scope_at p s)) t None) (sym at.tree) (none_declared (numbering_of p final) (running (scope_at p s)) (arena_at p s).text (tree_in (arena_at p s)) e.place e.node h)
 
-  pub expression_node : (x : Expression) → is_no_expression (tree_of (arena_at p s).text (tree_in (arena_at p s)) e.place e.node) ≡ false → ((y : Name) (i : ℕ) → e.node ≡ nodes.Declarator y i → ⊥) → Resolves p arrays s known linked x → IsNode p arrays known linked (s.first + s.node) (made.Expression x)
+  pub expression_node : (x : Expression) → is_no_expression (tree_of (arena_at p s).text (tree_in (arena_at p s)) e.place e.node) ≡ false → ((y : Name) (i : ℕ) → e.node ≡ nodes.Declarator y i → ⊥) → Resolves p arrays s known linked x → IsNode p arrays known linked (number_at p s s.node) (made.Expression x)
   expression_node x none h r = placed (made.Expression x) r (no_statement_does p program s e at known linked (expression_no_statement (arena_at p s).text (tree_in (arena_at p s)) e.place e.node none)) (λ l final. nothing_declared h final)
 
-  pub statement_node : (x : Statement) → is_no_expression (tree_of (arena_at p s).text (tree_in (arena_at p s)) e.place e.node) ≡ true → ((y : Name) (i : ℕ) → e.node ≡ nodes.Declarator y i → ⊥) → Does p s known linked x → IsNode p arrays known linked (s.first + s.node) (made.Statement x)
+  pub statement_node : (x : Statement) → is_no_expression (tree_of (arena_at p s).text (tree_in (arena_at p s)) e.place e.node) ≡ true → ((y : Name) (i : ℕ) → e.node ≡ nodes.Declarator y i → ⊥) → Does p s known linked x → IsNode p arrays known linked (number_at p s s.node) (made.Statement x)
   statement_node x none h r = placed (made.Statement x) (no_expression_resolves p program arrays s e at known linked none) r (λ l final. nothing_declared h final)
 
-  pub declarator_node : (d : Declarator) (y : Name) (i : ℕ) → e.node ≡ nodes.Declarator y i → Declares p s d → IsNode p arrays known linked (s.first + s.node) (made.Declarator d)
+  pub declarator_node : (d : Declarator) (y : Name) (i : ℕ) → e.node ≡ nodes.Declarator y i → Declares p s d → IsNode p arrays known linked (number_at p s s.node) (made.Declarator d)
   declarator_node d y i is h =
       let text = (arena_at p s).text in
       let look = tree_in (arena_at p s) in

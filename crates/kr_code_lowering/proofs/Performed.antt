@@ -25,7 +25,7 @@ use Rattle.kr_code.specs.Resolved as resolved
 use Rattle.kr_code.specs.Resolved.{AreDeclarators, AreParts, IsDeclarator, IsPart, IsPartial, IsStatement, is_no_statement}
 use Rattle.kr_code_lowering.specs.declared.site.Site.{Site}
 use Rattle.kr_code_lowering.specs.Origins.{Final, node_tree, numbering_of, origin_of}
-use Rattle.kr_code_lowering.specs.Sites.{Becomes, IsHere, arena_at, scope_at}
+use Rattle.kr_code_lowering.specs.Sites.{Becomes, IsHere, arena_at, scope_at, number_at}
 use Rattle.kr_code_lowering.specs.Kinds.{IsNumbered}
 use Rattle.kr_code_lowering.specs.Lists.{AreLinked}
 use Rattle.kr_code_lowering.specs.Statements.{AreDeclared, Does, IsMaybe, IsPlain, is_plain}
@@ -84,7 +84,7 @@ module _ (p : Program) (program : IsProgram p) (s : Site) (e : Entry) (at : IsHe
   abbrev r : Scope
   r = running (scope_at p s)
 
-  numbered : (final : Final) (n : Node) → e.node ≡ n → is_plain n ≡ true → IsNumbered (numbering_of p final) r (tree_in (arena_at p s)) s.first (parts n)
+  numbered : (final : Final) (n : Node) → e.node ≡ n → is_plain n ≡ true → IsNumbered (numbering_of p final) r (tree_in (arena_at p s)) (number_at p s) (parts n)
   numbered final nodes.Empty it h = tt
   numbered final nodes.Break it h = tt
   numbered final nodes.Continue it h = tt
@@ -100,7 +100,7 @@ module _ (p : Program) (program : IsProgram p) (s : Site) (e : Entry) (at : IsHe
       let ps = parts_are p s e (nodes.Do a b) at it in (part_in p program final s e (nodes.Do a b) at it 0 a ps.0 r refl, (part_in p program final s e (nodes.Do a b) at it 1 b ps.1.0 r refl, tt))
   numbered final _ it h = absurd (cc (h))
 
-  pub plain_does : (x : Statement) → is_plain e.node ≡ true → IsPlain s.first e.node x → Does p s known linked x
+  pub plain_does : (x : Statement) → is_plain e.node ≡ true → IsPlain (number_at p s) e.node x → Does p s known linked x
   plain_does x h f = does_at p s e e.node at refl known linked x (λ final code b d. f code (numbering_of p final) r (arena_at p s).text (tree_in (arena_at p s)) e.place h (numbered final e.node refl h))
 
   pub no_statement_does : is_no_statement (tree_of (arena_at p s).text (tree_in (arena_at p s)) e.place e.node) ≡ true → Does p s known linked statements.Stuck
@@ -121,22 +121,22 @@ module _ (p : Program) (program : IsProgram p) (s : Site) (e : Entry) (at : IsHe
   leave_does a is nil = does_at p s e (nodes.Return a) at is known linked statements.Leave
       (λ final code b d. subst (λ (t : Tree). IsStatement code (numbering_of p final) r (trees.Return e.place t) statements.Leave) (sym nil) (resolved.leave e.place))
 
-  pub return_does : (a i : ℕ) → e.node ≡ nodes.Return a → (node_tree p s.file a ≡ trees.Nil → ⊥) → i ≡ s.first + a → Does p s known linked (statements.Return i)
+  pub return_does : (a i : ℕ) → e.node ≡ nodes.Return a → (node_tree p s.file a ≡ trees.Nil → ⊥) → i ≡ number_at p s a → Does p s known linked (statements.Return i)
   return_does a i is some number = does_at p s e (nodes.Return a) at is known linked (statements.Return i)
       (λ final code b d. resolved.return e.place (node_tree p s.file a) i some (subst (λ (k : ℕ). IsPart (numbering_of p final) r (node_tree p s.file a) k) (sym number) (part_in p program final s e (nodes.Return a) at is 0 a (parts_are p s e (nodes.Return a) at is).0 r refl)))
 
-  pub for_does : (i c u a : ℕ) (ns us : Nodes) (o : Option ℕ) → e.node ≡ nodes.For i c u a → AreLinked p (record s { node = i }) linked ns → IsMaybe (node_tree p s.file c) (s.first + c) o → AreLinked p (record s { node = u }) linked us
-      → Does p s known linked (statements.For ns o us (s.first + a))
+  pub for_does : (i c u a : ℕ) (ns us : Nodes) (o : Option ℕ) → e.node ≡ nodes.For i c u a → AreLinked p (record s { node = i }) linked ns → IsMaybe (node_tree p s.file c) (number_at p s c) o → AreLinked p (record s { node = u }) linked us
+      → Does p s known linked (statements.For ns o us (number_at p s a))
   for_does i c u a ns us o is before test updates =
       let n : Node = nodes.For i c u a in
       let ps = parts_are p s e n at is in
       let first : Tree = node_tree p s.file i in
       let inner : Scope = after r first in
       let same : running (after (scope_at p s) first) ≡ inner = sym (running_same (scope_at p s) first).scope in
-      does_at p s e n at is known linked (statements.For ns o us (s.first + a))
-      (λ final code b d. resolved.for e.place first (node_tree p s.file c) (node_tree p s.file u) (node_tree p s.file a) ns o us (s.first + a)
+      does_at p s e n at is known linked (statements.For ns o us (number_at p s a))
+      (λ final code b d. resolved.for e.place first (node_tree p s.file c) (node_tree p s.file u) (node_tree p s.file a) ns o us (number_at p s a)
       (arguments_are p program known linked final code b s e n at is 0 i ps.0 ns before r refl)
-      (partial_is p final inner (node_tree p s.file c) (s.first + c) o test (part_in p program final s e n at is 1 c ps.1.0 inner same))
+      (partial_is p final inner (node_tree p s.file c) (number_at p s c) o test (part_in p program final s e n at is 1 c ps.1.0 inner same))
       (arguments_are p program known linked final code b s e n at is 2 u ps.1.1.0 us updates inner same)
       (part_in p program final s e n at is 3 a ps.1.1.1.0 inner same))
 

@@ -29,7 +29,7 @@ use Rattle.kr_code_lowering.specs.declared.site.Site.{Site}
 use Rattle.kr_code_lowering.specs.declared.named.Named.TheVariants as named
 use Rattle.kr_code_members.specs.Nodes.{table}
 use Rattle.kr_code_lowering.specs.Origins.{Final, node_scope, node_tree, numbering_of}
-use Rattle.kr_code_lowering.specs.Sites.{IsHere, arena_at, scope_at, tree_at}
+use Rattle.kr_code_lowering.specs.Sites.{IsHere, arena_at, scope_at, tree_at, number_at}
 use Rattle.kr_code_lowering.specs.Named.{IsNamed}
 use Rattle.kr_code_lowering.specs.Targets.{IsFieldFound, IsTarget, is_array_type}
 use Rattle.kr_code_lowering.proofs.Meant.{meant_so}
@@ -72,7 +72,7 @@ module _ (p : Program) (r : Scope) (at : Site) (e : Entry) (n : Name) (here : Is
 
 -- a part of the target runs where the assignment does
 target_part : (p : Program) → IsProgram p → (final : Final) (r : Scope) (at : Site) (e : Entry) (n : Node) → IsHere p at e → e.node ≡ n → scope_at p at ≡ value r → (j c : ℕ) → arenas.IsPart (arena_at p at).entries at.node j c
-    → running (handed (scope_at p at) (tree_of (arena_at p at).text (tree_in (arena_at p at)) e.place n) j) ≡ running (scope_at p at) → IsPart (numbering_of p final) (running r) (node_tree p at.file c) (at.first + c)
+    → running (handed (scope_at p at) (tree_of (arena_at p at).text (tree_in (arena_at p at)) e.place n) j) ≡ running (scope_at p at) → IsPart (numbering_of p final) (running r) (node_tree p at.file c) (number_at p at c)
 target_part p is final r at e n here it scope j c part runs = part_in p is final at e n here it j c part (running r) (runs ∙ ap running scope)
 
 field_running : (s : Scope) (t : Tree) (x : List ℕ) → typed_field (running s) t x ≡ typed_field s t x
@@ -88,10 +88,10 @@ module _ (p : Program) (program : IsProgram p) (r : Scope) (at : Site) (e : Entr
   by_field : (v : Variable) → IsTarget p r (trees.FieldAccess e.place (node_tree p at.file o) y) known v → IsTarget p r (tree_at p at) known v
   by_field v h = target_at p r (tree_at p at) (trees.FieldAccess e.place (node_tree p at.file o) y) known v (tree_is p at e (nodes.FieldAccess o n) here is) h
 
-  pub field_written : (k i : ℕ) → IsFieldFound p (Some k) (typed_field r (node_tree p at.file o) y) → (field_numbered (table p) k).name ≡ y → slice_get known i ≡ Some y → IsTarget p r (tree_at p at) known (variables.Of (at.first + o) i k)
-  field_written k i f named got = by_field (variables.Of (at.first + o) i k)
-      (λ final g. subst (λ (m : Option Field). IsVariable (numbering_of p final) (running r) (field_target (node_tree p at.file o) m) (variables.Of (at.first + o) i k)) (sym (field_running r (node_tree p at.file o) y ∙ f))
-      (resolved.of (node_tree p at.file o) (field_numbered (table p) k) (at.first + o) i k (target_part p program final r at e (nodes.FieldAccess o n) here is scope 0 o (parts_are p at e (nodes.FieldAccess o n) here is).0 refl) (name_so p known final g i y got ∙ sym named) refl))
+  pub field_written : (k i : ℕ) → IsFieldFound p (Some k) (typed_field r (node_tree p at.file o) y) → (field_numbered (table p) k).name ≡ y → slice_get known i ≡ Some y → IsTarget p r (tree_at p at) known (variables.Of (number_at p at o) i k)
+  field_written k i f named got = by_field (variables.Of (number_at p at o) i k)
+      (λ final g. subst (λ (m : Option Field). IsVariable (numbering_of p final) (running r) (field_target (node_tree p at.file o) m) (variables.Of (number_at p at o) i k)) (sym (field_running r (node_tree p at.file o) y ∙ f))
+      (resolved.of (node_tree p at.file o) (field_numbered (table p) k) (number_at p at o) i k (target_part p program final r at e (nodes.FieldAccess o n) here is scope 0 o (parts_are p at e (nodes.FieldAccess o n) here is).0 refl) (name_so p known final g i y got ∙ sym named) refl))
 
   pub no_field_written : IsFieldFound p None (typed_field r (node_tree p at.file o) y) → IsTarget p r (tree_at p at) known variables.Unknown
   no_field_written f = by_field variables.Unknown (λ final g. subst (λ (m : Option Field). IsVariable (numbering_of p final) (running r) (field_target (node_tree p at.file o) m) variables.Unknown) (sym (field_running r (node_tree p at.file o) y ∙ f)) resolved.unknown)
@@ -103,10 +103,10 @@ module _ (p : Program) (program : IsProgram p) (r : Scope) (at : Site) (e : Entr
   by_element : (v : Variable) → IsTarget p r (trees.ArrayAccess e.place (node_tree p at.file a) (node_tree p at.file i)) known v → IsTarget p r (tree_at p at) known v
   by_element v h = target_at p r (tree_at p at) (trees.ArrayAccess e.place (node_tree p at.file a) (node_tree p at.file i)) known v (tree_is p at e (nodes.ArrayAccess a i) here is) h
 
-  pub element_written : (k : ℕ) (t : JavaType) → type_of r (node_tree p at.file a) ≡ Some (type_at p.table.types k) → type_at p.table.types k ≡ ArrayType t → IsTarget p r (tree_at p at) known (variables.Element (at.first + a) (at.first + i) k)
-  element_written k t f array = by_element (variables.Element (at.first + a) (at.first + i) k)
-      (λ final g. subst (λ (m : Option JavaType). IsVariable (numbering_of p final) (running r) (element_target (node_tree p at.file a) (node_tree p at.file i) m) (variables.Element (at.first + a) (at.first + i) k)) (sym ((running_same r (node_tree p at.file a)).type ∙ (f ∙ ap (λ (u : JavaType). Some u) array)))
-      (resolved.element (node_tree p at.file a) (node_tree p at.file i) t (at.first + a) (at.first + i) k (target_part p program final r at e (nodes.ArrayAccess a i) here is scope 0 a (parts_are p at e (nodes.ArrayAccess a i) here is).0 refl) (target_part p program final r at e (nodes.ArrayAccess a i) here is scope 1 i (parts_are p at e (nodes.ArrayAccess a i) here is).1.0 refl) array))
+  pub element_written : (k : ℕ) (t : JavaType) → type_of r (node_tree p at.file a) ≡ Some (type_at p.table.types k) → type_at p.table.types k ≡ ArrayType t → IsTarget p r (tree_at p at) known (variables.Element (number_at p at a) (number_at p at i) k)
+  element_written k t f array = by_element (variables.Element (number_at p at a) (number_at p at i) k)
+      (λ final g. subst (λ (m : Option JavaType). IsVariable (numbering_of p final) (running r) (element_target (node_tree p at.file a) (node_tree p at.file i) m) (variables.Element (number_at p at a) (number_at p at i) k)) (sym ((running_same r (node_tree p at.file a)).type ∙ (f ∙ ap (λ (u : JavaType). Some u) array)))
+      (resolved.element (node_tree p at.file a) (node_tree p at.file i) t (number_at p at a) (number_at p at i) k (target_part p program final r at e (nodes.ArrayAccess a i) here is scope 0 a (parts_are p at e (nodes.ArrayAccess a i) here is).0 refl) (target_part p program final r at e (nodes.ArrayAccess a i) here is scope 1 i (parts_are p at e (nodes.ArrayAccess a i) here is).1.0 refl) array))
 
   no_array : (o : Option JavaType) → is_array_type o ≡ false → element_target (node_tree p at.file a) (node_tree p at.file i) o ≡ Rattle.kr_mean.specs.Meaning.NoTarget
   no_array None h = refl

@@ -9,3 +9,4 @@ pub mod Targets
 pub mod Statements
 pub mod Bodies
 pub mod Resolving
+pub mod Numbered

@@ -1,5 +1,5 @@
 -- Between crates: lists of nodes as links that follow one another.
-use Rattle.std.specs.Prelude.{ℕ, ◌+◌, List, ◌∷◌, take, drop}
+use Rattle.std.specs.Prelude.{ℕ, List, ◌∷◌, take, drop}
 use Rattle.kr_classes_table.specs.Table.{items}
 use Rattle.kr_types_meaning.specs.Running.{running}
 use Rattle.kr_classes_names.specs.ListedTypes.{IsGrown}
@@ -8,7 +8,7 @@ use Rattle.kr_code.specs.declared.expression.Nodes.{Nodes}
 use Rattle.kr_code.specs.Resolved.{AreParts}
 use Rattle.kr_code_lowering.specs.declared.site.Site.{Site}
 use Rattle.kr_code_lowering.specs.Origins.{Final, numbering_of}
-use Rattle.kr_code_lowering.specs.Sites.{scope_at, tree_at}
+use Rattle.kr_code_lowering.specs.Sites.{number_at, scope_at, tree_at}
 
 -- these numbers are those of the items of the node's list
 abbrev pub AreItems : Program → Site → List ℕ → Type 0
@@ -16,7 +16,7 @@ AreItems p s is = (final : Final) → AreParts (numbering_of p final) (running (
 
 -- an item comes before those that follow it
 abbrev pub IsAhead : Program → Site → ℕ → ℕ → Type 0
-IsAhead p s item rest = (is : List ℕ) → AreItems p (record s { node = rest }) is → AreItems p s ((s.first + item) ∷ is)
+IsAhead p s item rest = (is : List ℕ) → AreItems p (record s { node = rest }) is → AreItems p s (number_at p s item ∷ is)
 
 -- so do the links at these nodes, also when there are more
 abbrev pub AreLinked : Program → Site → List ℕ → Nodes → Type 0

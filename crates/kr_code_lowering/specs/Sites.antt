@@ -1,5 +1,5 @@
 -- Between crates: a node of a file by the numbers of the code, and what it is resolved to.
-use Rattle.std.specs.Prelude.{◌≡◌, ℕ, ◌<◌, List, length, Some, slice_get}
+use Rattle.std.specs.Prelude.{◌≡◌, ℕ, ◌+◌, ◌<◌, List, length, Some, slice_get}
 use Rattle.kr_ast.specs.Tree.{Tree}
 use Rattle.kr_ast.specs.Arena.{Arena, ArePartsFrom, AreNamesIn, names, parts, tree_in, tree_of}
 use Rattle.kr_ast.specs.declared.node.Entry.{Entry}
@@ -14,7 +14,7 @@ use Rattle.kr_code.specs.Resolved.{IsExpression}
 use Rattle.kr_classes_members.specs.Rosters.{all_methods}
 use Rattle.kr_code_lowering.specs.declared.site.Site.{Site}
 use Rattle.kr_code_members.specs.Nodes.{run_program, table}
-use Rattle.kr_code_lowering.specs.Origins.{Final, first_node, node_scope, node_tree, numbering_of}
+use Rattle.kr_code_lowering.specs.Origins.{Final, first_node, node_scope, node_tree, number_of, numbering_of}
 
 abbrev pub arena_at : Program → Site → Arena
 arena_at p s = file_at p.trees.items s.file
@@ -26,7 +26,11 @@ scope_at p s = node_scope p s.file s.node
 abbrev pub tree_at : Program → Site → Tree
 tree_at p s = node_tree p s.file s.node
 
--- the node is there, and the number is that of its file's first node
+-- the number that code has for another node of the file
+abbrev pub number_at : Program → Site → ℕ → ℕ
+number_at p s c = number_of p (s.first + c)
+
+-- the node is there, and the place is that of its file's first node
 pub record IsSite (p : Program) (s : Site) : Type 0 where
   pub file : s.file < length p.trees.items
   pub node : s.node < length (arena_at p s).entries

@@ -46,9 +46,9 @@ is_plain (nodes.Do a c) = true
 is_plain n = false
 
 -- the resolved form of a plain statement's node, wherever its parts have these numbers
-abbrev pub IsPlain : ℕ → Node → Statement → Type 0
-IsPlain first node x =
-    (code : Code) (n : Numbering) (s : Scope) (text : List ℕ) (look : ℕ → Tree) (place : Place) → is_plain node ≡ true → IsNumbered n s look first (parts node) → IsStatement code n s (tree_of text look place node) x
+abbrev pub IsPlain : (ℕ → ℕ) → Node → Statement → Type 0
+IsPlain number node x =
+    (code : Code) (n : Numbering) (s : Scope) (text : List ℕ) (look : ℕ → Tree) (place : Place) → is_plain node ≡ true → IsNumbered n s look number (parts node) → IsStatement code n s (tree_of text look place node) x
 
 -- the node's declarator, where it declares a local
 abbrev pub Declares : Program → Site → Declarator → Type 0

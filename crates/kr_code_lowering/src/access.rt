@@ -8,12 +8,14 @@ ghost use Rattle.kr_classes_names.specs.ListedTypes.{IsGrown};
 ghost use Rattle.kr_types.specs.Programs.{IsProgram};
 ghost use Rattle.kr_code_members.specs.Nodes.{table};
 ghost use Rattle.kr_code_lowering.specs.Origins.{node_tree};
+ghost use Rattle.kr_code_lowering.specs.Numbered.{AreNumbers};
 ghost use Rattle.kr_code_lowering.specs.Sites.{IsHere, Resolves, arena_at, scope_at};
 ghost use Rattle.kr_code_lowering.specs.Named.{literal_of};
 
 use crate::known::meaning_at;
 use crate::named::{Named, class_before, constant_value, name_at};
 use crate::names::Names;
+use crate::numbering::NodeNumbers;
 use crate::site::Site;
 use kr_ast::{Entry, Name};
 use kr_base::NoMemory;
@@ -81,6 +83,7 @@ pub(crate) fn name_expression(
 pub(crate) fn access_expression(
     alloc: Global,
     program: &Program,
+    numbers: &NodeNumbers,
     names: &mut Names,
     site: Site,
     entry: Entry,
@@ -88,6 +91,7 @@ pub(crate) fn access_expression(
     name: Name,
 ) -> Result<Expression, NoMemory>
     requires program { IsProgram program.now }
+    requires numbers { AreNumbers program.now numbers.now }
     requires here { IsHere program.now site entry }
     requires node { entry.node ≡ nodes.FieldAccess object name }
     ensures grown { IsGrown names.old names.new }
@@ -98,7 +102,7 @@ pub(crate) fn access_expression(
         None => {
             let number = names.number(alloc, site.text(program, name))?;
             Ok(Expression::FieldOf {
-                object: site.first + object,
+                object: site.code_number(program, numbers, object),
                 name: number,
             })
         }

@@ -10,11 +10,13 @@ ghost use Rattle.kr_classes_names.specs.ListedTypes.{IsGrown};
 ghost use Rattle.kr_types.specs.Programs.{IsProgram};
 ghost use Rattle.kr_code_members.specs.Nodes.{table};
 ghost use Rattle.kr_code_lowering.specs.Origins.{node_tree};
+ghost use Rattle.kr_code_lowering.specs.Numbered.{AreNumbers};
 ghost use Rattle.kr_code_lowering.specs.Sites.{IsHere, IsSite, tree_at};
 ghost use Rattle.kr_code_lowering.specs.Bodies.{AreTyped, Declares};
 
 use crate::links::Links;
 use crate::lists::list_links;
+use crate::numbering::NodeNumbers;
 use crate::parameters::parameter_links;
 use crate::site::Site;
 use crate::types::named_type;
@@ -63,6 +65,7 @@ fn signature_links(program: &Program, signature: Site, links: &mut Links) -> Res
 /// The code of the method that a node declares.
 pub fn method_code(
     program: &Program,
+    numbers: &NodeNumbers,
     links: &mut Links,
     site: Site,
     entry: Entry,
@@ -72,6 +75,7 @@ pub fn method_code(
     body: u32,
 ) -> Result<MethodCode, NoMemory>
     requires program { IsProgram program.now }
+    requires numbers { AreNumbers program.now numbers.now }
     requires here { IsHere program.now site entry }
     requires node { entry.node ≡ nodes.Method is_static name signature body }
     ensures grown { IsGrown links.old links.new }
@@ -79,7 +83,7 @@ pub fn method_code(
 {
     let is_void = is_void(program, site.at(signature));
     let parameters = signature_links(program, site.at(signature), links)?;
-    let statements = list_links(program, site.at(body), links)?;
+    let statements = list_links(program, numbers, site.at(body), links)?;
     Ok(MethodCode {
         parameters,
         is_void,

@@ -9,12 +9,14 @@ ghost use Rattle.kr_classes_names.specs.ListedTypes.{IsGrown};
 ghost use Rattle.kr_types.specs.Programs.{IsProgram};
 ghost use Rattle.kr_code_members.specs.Nodes.{table};
 ghost use Rattle.kr_code_lowering.specs.Origins.{node_tree};
+ghost use Rattle.kr_code_lowering.specs.Numbered.{AreNumbers};
 ghost use Rattle.kr_code_lowering.specs.Sites.{IsHere, Resolves, arena_at, scope_at};
 ghost use Rattle.kr_code_lowering.specs.Calls.{IsOwnCallee, IsStaticCallee};
 
 use crate::known::meaning_at;
 use crate::links::Links;
 use crate::lists::list_links;
+use crate::numbering::NodeNumbers;
 use crate::site::Site;
 use kr_ast::{Entry, Name};
 use kr_base::NoMemory;
@@ -59,6 +61,7 @@ pub(crate) fn static_callee(
 /// A call without object as an expression.
 pub(crate) fn call_expression(
     program: &Program,
+    numbers: &NodeNumbers,
     links: &mut Links,
     site: Site,
     entry: Entry,
@@ -66,19 +69,21 @@ pub(crate) fn call_expression(
     arguments: u32,
 ) -> Result<Expression, NoMemory>
     requires program { IsProgram program.now }
+    requires numbers { AreNumbers program.now numbers.now }
     requires here { IsHere program.now site entry }
     requires node { entry.node ≡ nodes.Call name arguments }
     ensures grown { IsGrown links.old links.new }
     ensures resolves { (arrays : List ℕ) (names : List (List ℕ)) → IfOk result (Resolves program.now arrays site names links.new) }
 {
     let callee = own_callee(program, site, entry, name, arguments);
-    let arguments = list_links(program, site.at(arguments), links)?;
+    let arguments = list_links(program, numbers, site.at(arguments), links)?;
     Ok(Expression::Call { callee, arguments })
 }
 
 /// A call of the superclass's method as an expression.
 pub(crate) fn super_call_expression(
     program: &Program,
+    numbers: &NodeNumbers,
     links: &mut Links,
     site: Site,
     entry: Entry,
@@ -86,13 +91,14 @@ pub(crate) fn super_call_expression(
     arguments: u32,
 ) -> Result<Expression, NoMemory>
     requires program { IsProgram program.now }
+    requires numbers { AreNumbers program.now numbers.now }
     requires here { IsHere program.now site entry }
     requires node { entry.node ≡ nodes.SuperCall name arguments }
     ensures grown { IsGrown links.old links.new }
     ensures resolves { (arrays : List ℕ) (names : List (List ℕ)) → IfOk result (Resolves program.now arrays site names links.new) }
 {
     let method = meaning_at(program, site).super_method();
-    let arguments = list_links(program, site.at(arguments), links)?;
+    let arguments = list_links(program, numbers, site.at(arguments), links)?;
     Ok(Expression::Call {
         callee: Callee::Super(method),
         arguments,

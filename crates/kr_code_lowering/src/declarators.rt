@@ -5,10 +5,12 @@ ghost use Rattle.kr_types_meaning.specs.Scopes.{Scope, bind_local};
 ghost use Rattle.kr_ast.specs.declared.node.Node.TheVariants as nodes;
 ghost use Rattle.kr_classes_names.specs.Types.{IsTypeNumber};
 ghost use Rattle.kr_types.specs.Programs.{IsProgram};
+ghost use Rattle.kr_code_lowering.specs.Numbered.{AreNumbers};
 ghost use Rattle.kr_code_lowering.specs.Sites.{IsHere, IsSite, scope_at};
 ghost use Rattle.kr_code_lowering.specs.Named.{IsLocal, IsNoLocal};
 ghost use Rattle.kr_code_lowering.specs.Statements.{Declares};
 
+use crate::numbering::NodeNumbers;
 use crate::site::Site;
 use crate::statements::maybe_part;
 use crate::types::default_value;
@@ -63,12 +65,14 @@ fn own_number(program: &Program, initial: Site, name: &[u8]) -> usize
 /// are 2^32 - 1 locals.
 pub(crate) fn declarator_at(
     program: &Program,
+    numbers: &NodeNumbers,
     site: Site,
     entry: Entry,
     name: Name,
     initial: u32,
 ) -> Result<Declarator, NoMemory>
     requires program { IsProgram program.now }
+    requires numbers { AreNumbers program.now numbers.now }
     requires here { IsHere program.now site entry }
     requires node { entry.node ≡ nodes.Declarator name initial }
     ensures { IfOk result (Declares program.now site) }
@@ -81,6 +85,6 @@ pub(crate) fn declarator_at(
     Ok(Declarator {
         local: number as u32,
         default: default_value(&program.table.types, declared_type(program, site)),
-        initial: maybe_part(program, site.at(initial)),
+        initial: maybe_part(program, numbers, site.at(initial)),
     })
 }

@@ -3,7 +3,7 @@ ghost use Rattle.std.specs.Prelude.{◌≡◌, ◌<◌, ◌^◌, pos, List, ℕ,
 ghost use Rattle.kr_base.specs.declared.place.Place.{Place};
 ghost use Rattle.kr_ast.specs.Tree.{Tree};
 ghost use Rattle.kr_ast.specs.Arena.{tree_of};
-ghost use Rattle.kr_classes_table.specs.Numbers.{Bits32, wrap};
+ghost use Rattle.kr_classes_table.specs.Numbers.{Bits32, Bits64, wrap};
 ghost use Rattle.kr_code.specs.Resolved.{is_no_expression};
 ghost use Rattle.kr_code_lowering.specs.Kinds.{is_operator};
 ghost use Rattle.kr_value.specs.declared.value.Value.TheVariants.{Int};
@@ -11,6 +11,7 @@ ghost use Rattle.kr_code.specs.declared.expression.Expression.TheVariants.{Liter
 ghost use Rattle.kr_classes_names.specs.ListedTypes.{IsGrown};
 ghost use Rattle.kr_classes_names.specs.Types.{count};
 ghost use Rattle.kr_types.specs.Programs.{IsProgram};
+ghost use Rattle.kr_code_lowering.specs.Numbered.{AreNumbers};
 ghost use Rattle.kr_code_lowering.specs.Sites.{IsSite, Resolves};
 
 use crate::access::{access_expression, name_expression};
@@ -18,7 +19,8 @@ use crate::calls::{call_expression, super_call_expression};
 use crate::links::Links;
 use crate::methods::{creation_expression, method_call_expression};
 use crate::names::Names;
-use crate::operators::operator_expression;
+use crate::numbering::NodeNumbers;
+use crate::operators::{binary_expression, operator_expression, unary_expression};
 use crate::site::Site;
 use crate::types::{array_expression, cast_expression, instance_expression};
 use crate::writes::{assignment_expression, compound_expression, step_expression};
@@ -35,6 +37,14 @@ fn int_literal(value: u32) -> Expression
     ensures { result ≡ Literal (Int (wrap Bits32 (pos value))) }
 {
     Expression::Literal(Value::Int(i64::from(value.cast_signed())))
+}
+
+/// The value of a long's literal, likewise.
+#[tactic(auto, using(crate::proofs::Dispatch::whole_of_64))]
+fn long_literal(value: u64) -> Expression
+    ensures { result ≡ Literal (Int (wrap Bits64 (pos value))) }
+{
+    Expression::Literal(Value::Int(value.cast_signed()))
 }
 
 /// Whether a node is no expression.
@@ -73,6 +83,7 @@ pub(crate) fn is_no_expression(node: Node) -> bool
         | Node::Requires { .. }
         | Node::Ensures { .. } => true,
         Node::Number { .. }
+        | Node::LongNumber { .. }
         | Node::Truth { .. }
         | Node::Null
         | Node::This
@@ -106,8 +117,6 @@ fn is_operator(node: Node) -> bool
         | Node::Null
         | Node::This
         | Node::ArrayAccess { .. }
-        | Node::Unary { .. }
-        | Node::Binary { .. }
         | Node::Conditional { .. }
         | Node::Result => true,
         _ => false,
@@ -118,12 +127,14 @@ fn is_operator(node: Node) -> bool
 pub(crate) fn expression_at(
     alloc: Global,
     program: &Program,
+    numbers: &NodeNumbers,
     arrays: &[TypeId],
     names: &mut Names,
     links: &mut Links,
     site: Site,
 ) -> Result<Expression, NoMemory>
     requires program { IsProgram program.now }
+    requires numbers { AreNumbers program.now numbers.now }
     requires arrays { All (λ t. t < count program.now.table.types) arrays.now }
     requires few { length arrays.now < 2 ^ 32 }
     requires site { IsSite program.now site }
@@ -136,48 +147,65 @@ pub(crate) fn expression_at(
         return Ok(Expression::Stuck);
     }
     if is_operator(entry.node) {
-        return Ok(operator_expression(site.first, entry.place, entry.node));
+        return Ok(operator_expression(program, numbers, site, entry));
     }
     match entry.node {
         Node::Number { value } => Ok(int_literal(value)),
+        Node::LongNumber { value } => Ok(long_literal(value)),
+        Node::Unary { operator, operand } => {
+            Ok(unary_expression(program, numbers, site, entry, operator, operand))
+        }
+        Node::Binary {
+            operator,
+            left,
+            right,
+        } => Ok(binary_expression(program, numbers, site, entry, operator, left, right)),
         Node::Old { .. } => Ok(Expression::Old(entry.place)),
         Node::Variable { name } => { name_expression(alloc, program, names, site, entry, name) }
         Node::FieldAccess { object, name } => {
-            access_expression(alloc, program, names, site, entry, object, name)
+            access_expression(alloc, program, numbers, names, site, entry, object, name)
         }
         Node::Call { name, arguments } => {
-            call_expression(program, links, site, entry, name, arguments)
+            call_expression(program, numbers, links, site, entry, name, arguments)
         }
         Node::MethodCall {
             object,
             name,
             arguments,
-        } => { method_call_expression(program, links, site, entry, object, name, arguments) }
+        } => {
+            method_call_expression(
+                program, numbers, links, site, entry, object, name, arguments,
+            )
+        }
         Node::SuperCall { name, arguments } => {
-            super_call_expression(program, links, site, entry, name, arguments)
+            super_call_expression(program, numbers, links, site, entry, name, arguments)
         }
         Node::ObjectCreation { class, arguments } => {
-            creation_expression(program, links, site, entry, class, arguments)
+            creation_expression(program, numbers, links, site, entry, class, arguments)
         }
         Node::ArrayCreation { element, length } => {
-            Ok(array_expression(program, arrays, site, entry, element, length))
+            Ok(array_expression(program, numbers, arrays, site, entry, element, length))
         }
         Node::InstanceOf { operand, tested } => {
-            Ok(instance_expression(program, site, entry, operand, tested))
+            Ok(instance_expression(program, numbers, site, entry, operand, tested))
         }
         Node::Cast { target, operand } => {
-            Ok(cast_expression(program, site, entry, target, operand))
+            Ok(cast_expression(program, numbers, site, entry, target, operand))
         }
         Node::Assignment { target, value } => {
-            assignment_expression(alloc, program, names, site, entry, target, value)
+            assignment_expression(alloc, program, numbers, names, site, entry, target, value)
         }
         Node::CompoundAssignment {
             operator,
             target,
             value,
-        } => compound_expression(alloc, program, names, site, entry, operator, target, value),
+        } => compound_expression(
+            alloc, program, numbers, names, site, entry, operator, target, value,
+        ),
         Node::Step { operator, target } => {
-            step_expression(alloc, program, names, site, entry, operator, target)
+            step_expression(
+                alloc, program, numbers, names, site, entry, operator, target,
+            )
         }
         _ => Ok(Expression::Stuck),
     }

@@ -4,10 +4,12 @@ ghost use Rattle.kr_classes_table.specs.Table.{items};
 ghost use Rattle.kr_classes_names.specs.ListedTypes.{IsGrown};
 ghost use Rattle.kr_types.specs.Programs.{IsProgram};
 ghost use Rattle.kr_code_lowering.specs.Origins.{node_tree};
+ghost use Rattle.kr_code_lowering.specs.Numbered.{AreNumbers};
 ghost use Rattle.kr_code_lowering.specs.Sites.{IsSite, arena_at, tree_at};
 ghost use Rattle.kr_code_lowering.specs.Lists.{AreLinked, IsAhead};
 
 use crate::links::Links;
+use crate::numbering::NodeNumbers;
 use crate::site::Site;
 use kr_ast::Node;
 use kr_base::NoMemory;
@@ -32,10 +34,12 @@ pub(crate) fn first_item(program: &Program, list: Site) -> Option<(u32, u32)>
 /// The nodes of a list's items, as links.
 pub(crate) fn list_links(
     program: &Program,
+    numbers: &NodeNumbers,
     list: Site,
     links: &mut Links,
 ) -> Result<Nodes, NoMemory>
     requires program { IsProgram program.now }
+    requires numbers { AreNumbers program.now numbers.now }
     requires site { IsSite program.now list }
     ensures grown { IsGrown links.old links.new }
     ensures linked { IfOk result (λ nodes. AreLinked program.now list links.new nodes) }
@@ -43,7 +47,7 @@ pub(crate) fn list_links(
     let start = links.len();
     let mut at = list;
     while let Some((item, rest)) = first_item(program, at) {
-        links.push(at.first + item)?;
+        links.push(at.code_number(program, numbers, item))?;
         at = at.at(rest);
     }
     Ok(Nodes {

@@ -6,6 +6,7 @@ ghost use Rattle.kr_classes_names.specs.Types.{count, type_at};
 ghost use Rattle.kr_types.specs.Programs.{IsProgram};
 ghost use Rattle.kr_classes_members.specs.Rosters.{all_methods};
 ghost use Rattle.kr_code_members.specs.Nodes.{table};
+ghost use Rattle.kr_code_lowering.specs.Numbered.{AreNumbers};
 ghost use Rattle.kr_code_lowering.specs.Sites.{IsHere, Resolves};
 ghost use Rattle.kr_code_lowering.specs.Calls.{IsCalledOn, IsCreator};
 
@@ -14,6 +15,7 @@ use crate::known::meaning_at;
 use crate::links::Links;
 use crate::lists::list_links;
 use crate::named::class_before;
+use crate::numbering::NodeNumbers;
 use crate::site::Site;
 use crate::types::named_type;
 use kr_ast::{Entry, Name};
@@ -62,6 +64,7 @@ pub fn called_on(
 /// A call after a dot as an expression.
 pub(crate) fn method_call_expression(
     program: &Program,
+    numbers: &NodeNumbers,
     links: &mut Links,
     site: Site,
     entry: Entry,
@@ -70,12 +73,13 @@ pub(crate) fn method_call_expression(
     arguments: u32,
 ) -> Result<Expression, NoMemory>
     requires program { IsProgram program.now }
+    requires numbers { AreNumbers program.now numbers.now }
     requires here { IsHere program.now site entry }
     requires node { entry.node ≡ nodes.MethodCall object name arguments }
     ensures grown { IsGrown links.old links.new }
     ensures resolves { (arrays : List ℕ) (names : List (List ℕ)) → IfOk result (Resolves program.now arrays site names links.new) }
 {
-    let nodes = list_links(program, site.at(arguments), links)?;
+    let nodes = list_links(program, numbers, site.at(arguments), links)?;
     match class_before(program, site, object) {
         Some(_) => Ok(Expression::Call {
             callee: static_callee(program, site, entry, object, name, arguments),
@@ -84,7 +88,13 @@ pub(crate) fn method_call_expression(
         None => {
             let method = meaning_at(program, site).method();
             let text = site.text(program, name);
-            Ok(called_on(program, site.first + object, method, text, nodes))
+            Ok(called_on(
+                program,
+                site.code_number(program, numbers, object),
+                method,
+                text,
+                nodes,
+            ))
         }
     }
 }
@@ -112,6 +122,7 @@ fn creator(types: &Types, created: TypeId) -> Callee
 /// A creation of an object as an expression.
 pub(crate) fn creation_expression(
     program: &Program,
+    numbers: &NodeNumbers,
     links: &mut Links,
     site: Site,
     entry: Entry,
@@ -119,12 +130,13 @@ pub(crate) fn creation_expression(
     arguments: u32,
 ) -> Result<Expression, NoMemory>
     requires program { IsProgram program.now }
+    requires numbers { AreNumbers program.now numbers.now }
     requires here { IsHere program.now site entry }
     requires node { entry.node ≡ nodes.ObjectCreation class arguments }
     ensures grown { IsGrown links.old links.new }
     ensures resolves { (arrays : List ℕ) (names : List (List ℕ)) → IfOk result (Resolves program.now arrays site names links.new) }
 {
     let callee = creator(&program.table.types, named_type(program, site, class));
-    let arguments = list_links(program, site.at(arguments), links)?;
+    let arguments = list_links(program, numbers, site.at(arguments), links)?;
     Ok(Expression::Call { callee, arguments })
 }

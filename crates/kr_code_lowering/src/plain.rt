@@ -1,11 +1,14 @@
 // Statements whose parts are in one scope.
-ghost use Rattle.std.specs.Prelude.{◌≡◌, ◌+◌};
-ghost use Rattle.kr_ast.specs.Arena.{parts};
-ghost use Rattle.kr_code_lowering.specs.Kinds.{AreFew};
+ghost use Rattle.std.specs.Prelude.{◌≡◌};
+ghost use Rattle.kr_code_lowering.specs.Numbered.{AreNumbers};
+ghost use Rattle.kr_code_lowering.specs.Sites.{number_at};
 ghost use Rattle.kr_code_lowering.specs.Statements.{IsPlain, is_plain};
 
+use crate::numbering::NodeNumbers;
+use crate::site::Site;
 use kr_ast::Node;
 use kr_code::Statement;
+use kr_types::Program;
 
 /// Whether it is a statement whose parts are in its own scope.
 pub(crate) fn is_plain(node: Node) -> bool
@@ -24,37 +27,44 @@ pub(crate) fn is_plain(node: Node) -> bool
     }
 }
 
-/// The statement of such a node, whose parts have numbers from the first one on.
+/// The statement of such a node.
 #[tactic(auto, using(crate::proofs::Performed::plain_forms))]
-pub(crate) fn plain_statement(first: u32, node: Node) -> Statement
-    requires { AreFew first (parts node) }
-    ensures { IsPlain first node result }
+pub(crate) fn plain_statement(
+    program: &Program,
+    numbers: &NodeNumbers,
+    site: Site,
+    node: Node,
+) -> Statement
+    requires { AreNumbers program.now numbers.now }
+    ensures { IsPlain (number_at program.now site) node result }
 {
     match node {
         Node::Empty => Statement::Empty,
         Node::Break => Statement::Break,
         Node::Continue => Statement::Continue,
-        Node::ExpressionStatement { expression } => Statement::Evaluate(first + expression),
+        Node::ExpressionStatement { expression } => Statement::Evaluate(site.code_number(
+            program, numbers, expression,
+        )),
         Node::IfThen { condition, holds } => Statement::IfThen {
-            condition: first + condition,
-            then: first + holds,
+            condition: site.code_number(program, numbers, condition),
+            then: site.code_number(program, numbers, holds),
         },
         Node::IfElse {
             condition,
             holds,
             fails,
         } => Statement::IfElse {
-            condition: first + condition,
-            then: first + holds,
-            otherwise: first + fails,
+            condition: site.code_number(program, numbers, condition),
+            then: site.code_number(program, numbers, holds),
+            otherwise: site.code_number(program, numbers, fails),
         },
         Node::While { condition, body } => Statement::While {
-            condition: first + condition,
-            body: first + body,
+            condition: site.code_number(program, numbers, condition),
+            body: site.code_number(program, numbers, body),
         },
         Node::Do { body, condition } => Statement::Do {
-            body: first + body,
-            condition: first + condition,
+            body: site.code_number(program, numbers, body),
+            condition: site.code_number(program, numbers, condition),
         },
         _ => Statement::Stuck,
     }

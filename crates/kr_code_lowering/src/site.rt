@@ -1,14 +1,16 @@
-// Nodes of files, by the numbers that the code has for them.
+// Nodes of files, and the numbers that code has for them.
 ghost use Rattle.std.specs.Prelude.{◌≡◌, ◌<◌, ◌∷◌, [], Some, length, slice_get};
 ghost use Rattle.kr_ast.specs.Arena.{AreNamesIn, name_in};
 ghost use Rattle.kr_ast.specs.Files.{file_at};
 ghost use Rattle.kr_types.specs.Programs.{IsProgram};
-ghost use Rattle.kr_code_lowering.specs.Sites.{IsHere, IsSite, arena_at};
+ghost use Rattle.kr_code_lowering.specs.Numbered.{AreNumbers};
+ghost use Rattle.kr_code_lowering.specs.Sites.{IsHere, IsSite, arena_at, number_at};
 
+use crate::numbering::NodeNumbers;
 use kr_ast::{Entry, Name, tree_of};
 use kr_types::{Program, TypedFile};
 
-/// A node of a file, and the number of the file's first node.
+/// A node of a file, and the place of the file's first node among those of all files.
 #[derive(Clone, Copy)]
 pub struct Site {
     pub file: u32,
@@ -50,6 +52,14 @@ impl Site {
             node,
             first: self.first,
         }
+    }
+
+    /// The number that code has for a node of the file.
+    pub fn code_number(self, _program: &Program, numbers: &NodeNumbers, node: u32) -> u32
+        requires { AreNumbers _program.now numbers.now }
+        ensures { result ≡ number_at _program.now self node }
+    {
+        numbers.at(self.first as usize + node as usize)
     }
 
     /// The bytes of a name in the file.

@@ -1,13 +1,15 @@
 // Nodes as statements.
-ghost use Rattle.std.specs.Prelude.{◌≡◌, ◌+◌, ◌<◌, List, ℕ, IfOk};
+ghost use Rattle.std.specs.Prelude.{◌≡◌, ◌<◌, List, ℕ, IfOk};
 ghost use Rattle.kr_ast.specs.declared.node.Node.TheVariants as nodes;
 ghost use Rattle.kr_classes_names.specs.ListedTypes.{IsGrown};
 ghost use Rattle.kr_types.specs.Programs.{IsProgram};
-ghost use Rattle.kr_code_lowering.specs.Sites.{IsHere, IsSite, tree_at};
+ghost use Rattle.kr_code_lowering.specs.Numbered.{AreNumbers};
+ghost use Rattle.kr_code_lowering.specs.Sites.{IsHere, IsSite, number_at, tree_at};
 ghost use Rattle.kr_code_lowering.specs.Statements.{Does, IsMaybe};
 
 use crate::links::Links;
 use crate::lists::list_links;
+use crate::numbering::NodeNumbers;
 use crate::plain::{is_plain, plain_statement};
 use crate::site::Site;
 use kr_ast::{Entry, Node};
@@ -16,38 +18,42 @@ use kr_code::Statement;
 use kr_types::Program;
 
 /// The number of a part that may be absent.
-pub(crate) fn maybe_part(program: &Program, part: Site) -> Option<u32>
+pub(crate) fn maybe_part(program: &Program, numbers: &NodeNumbers, part: Site) -> Option<u32>
     requires program { IsProgram program.now }
+    requires numbers { AreNumbers program.now numbers.now }
     requires site { IsSite program.now part }
-    ensures { IsMaybe (tree_at program.now part) (part.first + part.node) result }
+    ensures { IsMaybe (tree_at program.now part) (number_at program.now part part.node) result }
 {
     match part.entry(program).node {
         Node::Nil => None,
-        _ => Some(part.first + part.node),
+        _ => Some(part.code_number(program, numbers, part.node)),
     }
 }
 
 /// A block as a statement.
 fn block_statement(
     program: &Program,
+    numbers: &NodeNumbers,
     links: &mut Links,
     site: Site,
     entry: Entry,
     statements: u32,
 ) -> Result<Statement, NoMemory>
     requires program { IsProgram program.now }
+    requires numbers { AreNumbers program.now numbers.now }
     requires here { IsHere program.now site entry }
     requires node { entry.node ≡ nodes.Block statements }
     ensures grown { IsGrown links.old links.new }
     ensures does { (names : List (List ℕ)) → IfOk result (Does program.now site names links.new) }
 {
-    let nodes = list_links(program, site.at(statements), links)?;
+    let nodes = list_links(program, numbers, site.at(statements), links)?;
     Ok(Statement::Block(nodes))
 }
 
 /// A declaration of locals as a statement.
 fn local_statement(
     program: &Program,
+    numbers: &NodeNumbers,
     links: &mut Links,
     site: Site,
     entry: Entry,
@@ -55,18 +61,20 @@ fn local_statement(
     declarators: u32,
 ) -> Result<Statement, NoMemory>
     requires program { IsProgram program.now }
+    requires numbers { AreNumbers program.now numbers.now }
     requires here { IsHere program.now site entry }
     requires node { entry.node ≡ nodes.Local declared declarators }
     ensures grown { IsGrown links.old links.new }
     ensures does { (names : List (List ℕ)) → IfOk result (Does program.now site names links.new) }
 {
-    let nodes = list_links(program, site.at(declarators), links)?;
+    let nodes = list_links(program, numbers, site.at(declarators), links)?;
     Ok(Statement::Declare(nodes))
 }
 
 /// A `for` as a statement.
 fn for_statement(
     program: &Program,
+    numbers: &NodeNumbers,
     links: &mut Links,
     site: Site,
     entry: Entry,
@@ -76,29 +84,37 @@ fn for_statement(
     body: u32,
 ) -> Result<Statement, NoMemory>
     requires program { IsProgram program.now }
+    requires numbers { AreNumbers program.now numbers.now }
     requires here { IsHere program.now site entry }
     requires node { entry.node ≡ nodes.For initial condition updates body }
     ensures grown { IsGrown links.old links.new }
     ensures does { (names : List (List ℕ)) → IfOk result (Does program.now site names links.new) }
 {
-    let before = list_links(program, site.at(initial), links)?;
-    let behind = list_links(program, site.at(updates), links)?;
+    let before = list_links(program, numbers, site.at(initial), links)?;
+    let behind = list_links(program, numbers, site.at(updates), links)?;
     Ok(Statement::For {
         initial: before,
-        condition: maybe_part(program, site.at(condition)),
+        condition: maybe_part(program, numbers, site.at(condition)),
         updates: behind,
-        body: site.first + body,
+        body: site.code_number(program, numbers, body),
     })
 }
 
 /// A `return` as a statement.
-fn return_statement(program: &Program, site: Site, entry: Entry, value: u32) -> Statement
+fn return_statement(
+    program: &Program,
+    numbers: &NodeNumbers,
+    site: Site,
+    entry: Entry,
+    value: u32,
+) -> Statement
     requires program { IsProgram program.now }
+    requires numbers { AreNumbers program.now numbers.now }
     requires here { IsHere program.now site entry }
     requires node { entry.node ≡ nodes.Return value }
     ensures { (names : List (List ℕ)) (links : List ℕ) → Does program.now site names links result }
 {
-    match maybe_part(program, site.at(value)) {
+    match maybe_part(program, numbers, site.at(value)) {
         None => Statement::Leave,
         Some(number) => Statement::Return(number),
     }
@@ -107,33 +123,37 @@ fn return_statement(program: &Program, site: Site, entry: Entry, value: u32) -> 
 /// A node as a statement; one that is none has no meaning.
 pub(crate) fn statement_at(
     program: &Program,
+    numbers: &NodeNumbers,
     links: &mut Links,
     site: Site,
 ) -> Result<Statement, NoMemory>
     requires program { IsProgram program.now }
+    requires numbers { AreNumbers program.now numbers.now }
     requires site { IsSite program.now site }
     ensures grown { IsGrown links.old links.new }
     ensures does { (names : List (List ℕ)) → IfOk result (Does program.now site names links.new) }
 {
     let entry = site.entry(program);
     if is_plain(entry.node) {
-        return Ok(plain_statement(site.first, entry.node));
+        return Ok(plain_statement(program, numbers, site, entry.node));
     }
     match entry.node {
-        Node::Block { statements } => block_statement(program, links, site, entry, statements),
+        Node::Block { statements } => block_statement(
+            program, numbers, links, site, entry, statements,
+        ),
         Node::Local {
             declared,
             declarators,
-        } => local_statement(program, links, site, entry, declared, declarators),
+        } => local_statement(program, numbers, links, site, entry, declared, declarators),
         Node::For {
             initial,
             condition,
             updates,
             body,
         } => for_statement(
-            program, links, site, entry, initial, condition, updates, body,
+            program, numbers, links, site, entry, initial, condition, updates, body,
         ),
-        Node::Return { value } => Ok(return_statement(program, site, entry, value)),
+        Node::Return { value } => Ok(return_statement(program, numbers, site, entry, value)),
         _ => Ok(Statement::Stuck),
     }
 }

@@ -6,12 +6,14 @@ ghost use Rattle.kr_classes_names.specs.Types.{count, type_at};
 ghost use Rattle.kr_classes_names.specs.ListedTypes.{IsGrown};
 ghost use Rattle.kr_types.specs.Programs.{IsProgram};
 ghost use Rattle.kr_code_members.specs.Nodes.{table};
+ghost use Rattle.kr_code_lowering.specs.Numbered.{AreNumbers};
 ghost use Rattle.kr_code_lowering.specs.Sites.{IsHere, IsSite, scope_at, tree_at};
 ghost use Rattle.kr_code_lowering.specs.Targets.{IsTarget, is_array_type};
 
 use crate::known::{meaning_at, type_of};
 use crate::named::{Named, name_at};
 use crate::names::Names;
+use crate::numbering::NodeNumbers;
 use crate::site::Site;
 use kr_ast::{Entry, Name, Node};
 use kr_base::NoMemory;
@@ -56,6 +58,7 @@ fn name_target(
 fn field_target(
     alloc: Global,
     program: &Program,
+    numbers: &NodeNumbers,
     names: &mut Names,
     site: Site,
     at: Site,
@@ -64,6 +67,7 @@ fn field_target(
     name: Name,
 ) -> Result<Variable, NoMemory>
     requires program { IsProgram program.now }
+    requires numbers { AreNumbers program.now numbers.now }
     requires here { IsHere program.now at entry }
     requires node { entry.node ≡ nodes.FieldAccess object name }
     requires handed { scope_at program.now at ≡ value (scope_at program.now site) }
@@ -75,7 +79,7 @@ fn field_target(
         Some(field) => {
             let number = names.number(alloc, at.text(program, name))?;
             Ok(Variable::Of {
-                object: at.first + object,
+                object: at.code_number(program, numbers, object),
                 name: number,
                 field,
             })
@@ -97,6 +101,7 @@ fn is_array(types: &Types, number: TypeId) -> bool
 /// An element of an array that is written.
 fn element_target(
     program: &Program,
+    numbers: &NodeNumbers,
     site: Site,
     at: Site,
     entry: Entry,
@@ -105,6 +110,7 @@ fn element_target(
     names: &Names,
 ) -> Variable
     requires program { IsProgram program.now }
+    requires numbers { AreNumbers program.now numbers.now }
     requires here { IsHere program.now at entry }
     requires node { entry.node ≡ nodes.ArrayAccess array index }
     requires handed { scope_at program.now at ≡ value (scope_at program.now site) }
@@ -115,8 +121,8 @@ fn element_target(
         Some(class) => {
             if is_array(&program.table.types, class) {
                 Variable::Element {
-                    array: at.first + array,
-                    index: at.first + index,
+                    array: at.code_number(program, numbers, array),
+                    index: at.code_number(program, numbers, index),
                     class,
                 }
             } else {
@@ -130,11 +136,13 @@ fn element_target(
 pub(crate) fn variable_at(
     alloc: Global,
     program: &Program,
+    numbers: &NodeNumbers,
     names: &mut Names,
     site: Site,
     at: Site,
 ) -> Result<Variable, NoMemory>
     requires program { IsProgram program.now }
+    requires numbers { AreNumbers program.now numbers.now }
     requires site { IsSite program.now site }
     requires at { IsSite program.now at }
     requires handed { scope_at program.now at ≡ value (scope_at program.now site) }
@@ -145,10 +153,12 @@ pub(crate) fn variable_at(
     match entry.node {
         Node::Variable { name } => { name_target(alloc, program, names, site, at, entry, name) }
         Node::FieldAccess { object, name } => {
-            field_target(alloc, program, names, site, at, entry, object, name)
+            field_target(
+                alloc, program, numbers, names, site, at, entry, object, name,
+            )
         }
         Node::ArrayAccess { array, index } => {
-            Ok(element_target(program, site, at, entry, array, index, names))
+            Ok(element_target(program, numbers, site, at, entry, array, index, names))
         }
         _ => Ok(Variable::Unknown),
     }

@@ -8,14 +8,18 @@ ghost use Rattle.kr_mean.specs.Program.{default_of};
 ghost use Rattle.kr_classes_names.specs.Types.{IsTypeNumber, count, type_at};
 ghost use Rattle.kr_types.specs.Programs.{IsProgram};
 ghost use Rattle.kr_types_meaning.specs.Scopes.{written};
+ghost use Rattle.kr_code_lowering.specs.Kinds.{IsPrimitiveCast};
 ghost use Rattle.kr_code_lowering.specs.Origins.{node_tree};
+ghost use Rattle.kr_code_lowering.specs.Numbered.{AreNumbers};
 ghost use Rattle.kr_code_lowering.specs.Sites.{IsHere, IsSite, Resolves, arena_at, scope_at};
 
+use crate::numbering::NodeNumbers;
 use crate::site::Site;
-use kr_ast::{Entry, Node};
+use kr_ast::{Entry, Node, UnaryOperator};
 use kr_classes_names::{TypeForm, Types};
 use kr_classes_table::TypeId;
 use kr_code::Expression;
+use kr_mean::UnaryOperation;
 use kr_types::Program;
 use kr_value::Value;
 
@@ -55,18 +59,20 @@ fn is_array_of(types: &Types, array: TypeId, element: TypeId) -> bool
 /// An `instanceof` as an expression.
 pub(crate) fn instance_expression(
     program: &Program,
+    numbers: &NodeNumbers,
     site: Site,
     entry: Entry,
     operand: u32,
     tested: u32,
 ) -> Expression
     requires program { IsProgram program.now }
+    requires numbers { AreNumbers program.now numbers.now }
     requires here { IsHere program.now site entry }
     requires node { entry.node ≡ nodes.InstanceOf operand tested }
     ensures { (arrays links : List ℕ) (names : List (List ℕ)) → Resolves program.now arrays site names links result }
 {
     Expression::InstanceOf {
-        operand: site.first + operand,
+        operand: site.code_number(program, numbers, operand),
         class: named_type(program, site, tested),
     }
 }
@@ -83,29 +89,49 @@ fn is_primitive_type(program: &Program, site: Site, node: u32) -> bool
     }
 }
 
+/// A cast to a primitive type: a number keeps the low bits, as by unary plus of the type, a boolean stays.
+fn primitive_cast(types: &Types, to: TypeId, operand: u32) -> Expression
+    requires { to < count types.now }
+    ensures { IsPrimitiveCast (type_at types.now to) to operand result }
+{
+    match types.form(to) {
+        TypeForm::Number(width) => Expression::Unary {
+            operation: UnaryOperation {
+                operator: UnaryOperator::Plus,
+                width,
+            },
+            operand,
+        },
+        _ => Expression::Convert { to, operand },
+    }
+}
+
 /// A cast as an expression.
 pub(crate) fn cast_expression(
     program: &Program,
+    numbers: &NodeNumbers,
     site: Site,
     entry: Entry,
     target: u32,
     operand: u32,
 ) -> Expression
     requires program { IsProgram program.now }
+    requires numbers { AreNumbers program.now numbers.now }
     requires here { IsHere program.now site entry }
     requires node { entry.node ≡ nodes.Cast target operand }
     ensures { (arrays links : List ℕ) (names : List (List ℕ)) → Resolves program.now arrays site names links result }
 {
     let to = named_type(program, site, target);
     if is_primitive_type(program, site, target) {
-        return Expression::Convert {
+        return primitive_cast(
+            &program.table.types,
             to,
-            operand: site.first + operand,
-        };
+            site.code_number(program, numbers, operand),
+        );
     }
     Expression::Cast {
         class: to,
-        operand: site.first + operand,
+        operand: site.code_number(program, numbers, operand),
     }
 }
 
@@ -127,6 +153,7 @@ fn array_number(types: &Types, arrays: &[TypeId], element: TypeId) -> Option<u32
 /// A creation of an array as an expression.
 pub(crate) fn array_expression(
     program: &Program,
+    numbers: &NodeNumbers,
     arrays: &[TypeId],
     site: Site,
     entry: Entry,
@@ -134,6 +161,7 @@ pub(crate) fn array_expression(
     size: u32,
 ) -> Expression
     requires program { IsProgram program.now }
+    requires numbers { AreNumbers program.now numbers.now }
     requires arrays { All (λ t. t < count program.now.table.types) arrays.now }
     requires few { length arrays.now < 2 ^ 32 }
     requires here { IsHere program.now site entry }
@@ -145,6 +173,6 @@ pub(crate) fn array_expression(
     Expression::NewArray {
         class: array_number(types, arrays, number),
         default: default_value(types, number),
-        length: site.first + size,
+        length: site.code_number(program, numbers, size),
     }
 }

@@ -3,24 +3,28 @@ ghost use Rattle.std.specs.Prelude.{◌≡◌, List, ℕ, IfOk};
 ghost use Rattle.kr_ast.specs.declared.node.Node.TheVariants as nodes;
 ghost use Rattle.kr_classes_names.specs.ListedTypes.{IsGrown};
 ghost use Rattle.kr_types.specs.Programs.{IsProgram};
+ghost use Rattle.kr_code_lowering.specs.Numbered.{AreNumbers};
 ghost use Rattle.kr_code_lowering.specs.Sites.{IsHere, Resolves};
 
+use crate::known::width_of;
 use crate::names::Names;
+use crate::numbering::NodeNumbers;
 use crate::site::Site;
 use crate::targets::variable_at;
 use kr_ast::{BinaryOperator, Entry, StepOperator};
 use kr_base::NoMemory;
+use kr_classes_operators::operator_width;
 use kr_code::Expression;
 use kr_mean::{BinaryOperation, StepOperation};
 use kr_types::Program;
-use kr_value::Width;
 use std::alloc::Global;
 
 /// An assignment as an expression.
-#[tactic(auto, using(crate::proofs::Assigned::written_scope, crate::proofs::Parts::small_number))]
+#[tactic(auto, using(crate::proofs::Assigned::written_scope))]
 pub(crate) fn assignment_expression(
     alloc: Global,
     program: &Program,
+    numbers: &NodeNumbers,
     names: &mut Names,
     site: Site,
     entry: Entry,
@@ -28,23 +32,25 @@ pub(crate) fn assignment_expression(
     value: u32,
 ) -> Result<Expression, NoMemory>
     requires program { IsProgram program.now }
+    requires numbers { AreNumbers program.now numbers.now }
     requires here { IsHere program.now site entry }
     requires node { entry.node ≡ nodes.Assignment target value }
     ensures grown { IsGrown names.old names.new }
     ensures resolves { (arrays links : List ℕ) → IfOk result (Resolves program.now arrays site names.new links) }
 {
-    let variable = variable_at(alloc, program, names, site, site.at(target))?;
+    let variable = variable_at(alloc, program, numbers, names, site, site.at(target))?;
     Ok(Expression::Assign {
         variable,
-        value: site.first + value,
+        value: site.code_number(program, numbers, value),
     })
 }
 
 /// A compound assignment as an expression.
-#[tactic(auto, using(crate::proofs::Assigned::written_scope, crate::proofs::Parts::small_number))]
+#[tactic(auto, using(crate::proofs::Assigned::written_scope))]
 pub(crate) fn compound_expression(
     alloc: Global,
     program: &Program,
+    numbers: &NodeNumbers,
     names: &mut Names,
     site: Site,
     entry: Entry,
@@ -53,19 +59,23 @@ pub(crate) fn compound_expression(
     value: u32,
 ) -> Result<Expression, NoMemory>
     requires program { IsProgram program.now }
+    requires numbers { AreNumbers program.now numbers.now }
     requires here { IsHere program.now site entry }
     requires node { entry.node ≡ nodes.CompoundAssignment operator target value }
     ensures grown { IsGrown names.old names.new }
     ensures resolves { (arrays links : List ℕ) → IfOk result (Resolves program.now arrays site names.new links) }
 {
-    let variable = variable_at(alloc, program, names, site, site.at(target))?;
+    let to = width_of(program, site.at(target));
+    let from = width_of(program, site.at(value));
+    let variable = variable_at(alloc, program, numbers, names, site, site.at(target))?;
     Ok(Expression::Compound {
         operation: BinaryOperation {
             operator,
-            width: Width::Bits32,
+            width: operator_width(operator, to, from),
+            assigned: Some(to),
         },
         variable,
-        value: site.first + value,
+        value: site.code_number(program, numbers, value),
     })
 }
 
@@ -74,6 +84,7 @@ pub(crate) fn compound_expression(
 pub(crate) fn step_expression(
     alloc: Global,
     program: &Program,
+    numbers: &NodeNumbers,
     names: &mut Names,
     site: Site,
     entry: Entry,
@@ -81,17 +92,16 @@ pub(crate) fn step_expression(
     target: u32,
 ) -> Result<Expression, NoMemory>
     requires program { IsProgram program.now }
+    requires numbers { AreNumbers program.now numbers.now }
     requires here { IsHere program.now site entry }
     requires node { entry.node ≡ nodes.Step operator target }
     ensures grown { IsGrown names.old names.new }
     ensures resolves { (arrays links : List ℕ) → IfOk result (Resolves program.now arrays site names.new links) }
 {
-    let variable = variable_at(alloc, program, names, site, site.at(target))?;
+    let width = width_of(program, site.at(target));
+    let variable = variable_at(alloc, program, numbers, names, site, site.at(target))?;
     Ok(Expression::Step {
-        operation: StepOperation {
-            operator,
-            width: Width::Bits32,
-        },
+        operation: StepOperation { operator, width },
         variable,
     })
 }

@@ -50,13 +50,13 @@ counts = record { low = pos 0; high = pos 64 }
 abbrev pub fuels : Limits
 fuels = record { low = pos 1; high = pos 1000000000 }
 
--- numbers of 32 bits
-abbrev pub ints : Limits
-ints = record { low = negsuc 2147483647; high = pos 2147483647 }
+-- numbers of 64 bits: all that a document can have
+abbrev pub longs : Limits
+longs = record { low = negsuc 9223372036854775807; high = pos 9223372036854775807 }
 
 abbrev pub limits_of : Purpose → Limits
 limits_of Lengths = counts
-limits_of Slot = ints
+limits_of Slot = longs
 
 abbrev pub is_dot : ℕ → Bool
 is_dot byte = byte == 46

@@ -87,8 +87,8 @@ impl Purpose {
         match self {
             Purpose::Lengths => COUNTS,
             Purpose::Slot => Limits {
-                low: -2_147_483_648,
-                high: 2_147_483_647,
+                low: i64::MIN,
+                high: i64::MAX,
             },
         }
     }

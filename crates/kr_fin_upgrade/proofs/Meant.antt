@@ -4,7 +4,7 @@ use Rattle.std.specs.Prelude.{bytes_eq, nat_eq, option_map, if◌then◌else◌}
 use Rattle.std.specs.List.{ends_with}
 use Rattle.std.proofs.lemmas.Bool.{and_parts}
 use Rattle.std.proofs.lemmas.Slice.Eq.{bytes_eq-Decides}
-use Rattle.kr_classes_table.specs.Types.{JavaType, ClassType, SetType, ListType, is_element}
+use Rattle.kr_classes_table.specs.Types.{JavaType, int_type, long_type, BooleanType, ClassType, SetType, ListType, is_element}
 use Rattle.kr_classes_table.specs.Table.{Heading, number_from, number_of}
 use Rattle.kr_fin.specs.Identifiers.{is_identifier}
 use Rattle.kr_fin.specs.Shapes.{is_domain_name}
@@ -23,13 +23,14 @@ no_collection collection none (Some t) = go (is_element t)
     go false = refl
 
 no_word : (hs : List Heading) (text : List ℕ) → array_or_none (word_type hs text) ≡ None
-no_word hs text = go (bytes_eq text (codes "int")) (bytes_eq text (codes "boolean")) (number_of hs text)
+no_word hs text = go (bytes_eq text (codes "int")) (bytes_eq text (codes "long")) (bytes_eq text (codes "boolean")) (number_of hs text)
   where
-    go : (a b : Bool) (o : Option ℕ) → array_or_none (if a then Some Rattle.kr_classes_table.specs.Types.int_type else if b then Some Rattle.kr_classes_table.specs.Types.BooleanType else option_map ClassType o) ≡ None
-    go true b o = refl
-    go false true o = refl
-    go false false None = refl
-    go false false (Some c) = refl
+    go : (a l b : Bool) (o : Option ℕ) → array_or_none (if a then Some int_type else if l then Some long_type else if b then Some BooleanType else option_map ClassType o) ≡ None
+    go true l b o = refl
+    go false true b o = refl
+    go false false true o = refl
+    go false false false None = refl
+    go false false false (Some c) = refl
 
 no_array_written : (hs : List Heading) (inner : List ℕ → Option JavaType) (text : List ℕ) → ends_with nat_eq text (codes "[]") ≡ false → array_or_none (type_of hs inner (written text)) ≡ None
 no_array_written hs inner text e =

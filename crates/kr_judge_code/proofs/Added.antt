@@ -13,7 +13,7 @@ use Rattle.kr_code.specs.Resolved.{Numbering}
 use Rattle.kr_types.specs.declared.program.Program.{Program}
 use Rattle.kr_code_lowering.specs.declared.site.Site.{Site}
 use Rattle.kr_code_lowering.specs.Origins.{Final, numbering_of}
-use Rattle.kr_code_lowering.specs.Sites.{scope_at, tree_at}
+use Rattle.kr_code_lowering.specs.Sites.{number_at, scope_at, tree_at}
 use Rattle.kr_code_lowering.proofs.Parts.{part_number}
 use Rattle.kr_judge_prepared.specs.Tested.{old_shown}
 use Rattle.kr_judge_prepared.specs.declared.contract.OldCode.{OldCode}
@@ -38,17 +38,17 @@ no_line s t e = ap (λ (ts : List Tree). let f = λ (u : Tree). let made : Node 
 
 -- a line with one
 pub one_line : (p : Program) (line : Site) (c : ℕ) → IsPostcondition p line c → (s : Scope) (final : Final) → running (scope_at p line) ≡ s → (ks ls : List ℕ) (os ps : List OldCode)
-    → ls ≡ ks ++ (line.first + c) ∷ [] → shown p final ps ≡ shown p final os ++ olds_below p line.file c → AreAdded (numbering_of p final) (ensured s (tree_at p line ∷ [])) ks ls os ps
+    → ls ≡ ks ++ (number_at p line c) ∷ [] → shown p final ps ≡ shown p final os ++ olds_below p line.file c → AreAdded (numbering_of p final) (ensured s (tree_at p line ∷ [])) ks ls os ps
 one_line p line c h s final runs ks ls os ps pushed found =
     let n = numbering_of p final in
     let at : Site = record line { node = c } in
     let node : Node = record { scope = in_contract Ensuring s; tree = tree_at p at } in
     let all : node ∷ [] ≡ ensured s (tree_at p line ∷ []) = ap (λ (ts : List Tree). let f = λ (u : Tree). let made : Node = record { scope = in_contract Ensuring s; tree = u } in made in map f (ts ++ [])) (sym h.ensured) in
     let scope : running (scope_at p at) ≡ in_contract Ensuring s = ap running h.scope ∙ ap (λ (r : Scope). in_contract Ensuring r) runs in
-    let origin : n.origin (line.first + c) ≡ node = part_number p final at h.site c h.site.node ∙ ap (λ (r : Scope). let made : Node = record { scope = r; tree = tree_at p at } in made) scope in
+    let origin : n.origin (number_at p line c) ≡ node = part_number p final at h.site c h.site.node ∙ ap (λ (r : Scope). let made : Node = record { scope = r; tree = tree_at p at } in made) scope in
     let olds : olds_below p line.file c ≡ olds_in node ++ [] = ap (λ (r : Scope). let made : Node = record { scope = r; tree = tree_at p at } in olds_in made) scope ∙ sym (append-nil (olds_in node)) in
     subst (λ (es : List Node). AreAdded n es ks ls os ps) all
     (record {
-      conditions = ap (map n.origin) pushed ∙ (map-append n.origin ks ((line.first + c) ∷ []) ∙ ap (λ (x : Node). map n.origin ks ++ x ∷ []) origin);
+      conditions = ap (map n.origin) pushed ∙ (map-append n.origin ks ((number_at p line c) ∷ []) ∙ ap (λ (x : Node). map n.origin ks ++ x ∷ []) origin);
       olds = found ∙ ap (λ (xs : List OldNode). shown p final os ++ xs) olds;
     })

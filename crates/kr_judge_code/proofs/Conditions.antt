@@ -9,12 +9,11 @@ use Rattle.kr_mean.specs.Program.{method_scope}
 use Rattle.kr_mean.specs.Runs.{conditions, rep_ok_node, requires_of, tested_method}
 use Rattle.kr_classes_names.specs.Types.{type_at}
 use Rattle.kr_types.specs.declared.program.Program.{Program}
-use Rattle.kr_types.specs.Programs.{all_entries}
 use Rattle.kr_space_problem.specs.declared.problem.Problem.{Problem}
 use Rattle.kr_space_problem.specs.Posed.{posed}
 use Rattle.kr_classes_members.specs.Rosters.{all_methods, method_numbered, no_method}
 use Rattle.kr_code_lowering.specs.declared.site.Site.{Site}
-use Rattle.kr_code_lowering.specs.Origins.{Final, node_scope, node_tree, nothing, numbering_of, origin_of}
+use Rattle.kr_code_lowering.specs.Origins.{Final, coded_count, node_scope, node_tree, nothing, numbering_of, origin_of, others_from}
 use Rattle.kr_code_lowering.specs.Sites.{scope_at, tree_at}
 use Rattle.kr_code_lowering.specs.Calls.{IsFound}
 use Rattle.kr_code_lowering.proofs.Numbers.{origin_behind}
@@ -35,11 +34,11 @@ use Rattle.kr_judge_code.specs.Compiled.{HasMethods, IsCompiled, call_nodes, fin
 use Rattle.std.proofs.lemmas.Option.{get_or_from_slice_get, slice_get_read}
 
 -- the call is the first node after those of the files
-pub call_first : (problem : Problem) (final : Final) → final.nodes ≡ call_nodes problem → (k : ℕ) → k ≡ length (all_entries problem.program.trees.items) → (numbering_of problem.program final).origin k ≡ rep_ok_node (posed problem)
-call_first problem final is k e =
+pub call_first : (problem : Problem) (final : Final) → final.nodes ≡ call_nodes problem → (k : ℕ) → k ≡ coded_count problem.program → coded_count problem.program < others_from problem.program → (numbering_of problem.program final).origin k ≡ rep_ok_node (posed problem)
+call_first problem final is k e room =
     let p = problem.program in
-    let k' : k ≡ length (all_entries p.trees.items) + 0 = omega (arith, e) in
-    ap (origin_of p final.nodes) k' ∙ (origin_behind p final.nodes 0 ∙ ap (λ (ns : List meaning.Node). get_or ns 0 (nothing p)) is)
+    let k' : k ≡ coded_count p + 0 = omega (arith, e) in
+    ap (origin_of p final.nodes) k' ∙ (origin_behind p final.nodes 0 (omega (arith, room)) ∙ ap (λ (ns : List meaning.Node). get_or ns 0 (nothing p)) is)
 
 -- the nodes of the method of a number
 pub method_node : (p : Program) (ns : MemberNodes) → AreMemberNodes p ns → (k : ℕ) → k < length (all_methods (table p)) → (x : MethodNode) → x ≡ get_or ns.methods.items k x → IsMethodNode p (method_numbered (table p) k) x
@@ -69,10 +68,10 @@ pub lines_shape : (p : Program) (m : Method) (n : MethodNode) → IsMethodNode p
 lines_shape p m n is s f i = subst AreContractLines (sym (ap (λ (g : ℕ). node_tree p g s.node) f ∙ ap (λ (j : ℕ). node_tree p n.file j) i)) is.contracts_shape
 
 -- the call alone
-pub call_alone : (problem : Problem) (final : Final) → final.nodes ≡ call_nodes problem → (k : ℕ) → k ≡ length (all_entries problem.program.trees.items) → (old new : List ℕ) → old ≡ [] → new ≡ old ++ k ∷ [] → map (numbering_of problem.program final).origin new ≡ rep_ok_node (posed problem) ∷ []
-call_alone problem final is k e old new none pushed =
+pub call_alone : (problem : Problem) (final : Final) → final.nodes ≡ call_nodes problem → (k : ℕ) → k ≡ coded_count problem.program → coded_count problem.program < others_from problem.program → (old new : List ℕ) → old ≡ [] → new ≡ old ++ k ∷ [] → map (numbering_of problem.program final).origin new ≡ rep_ok_node (posed problem) ∷ []
+call_alone problem final is k e room old new none pushed =
     let o = (numbering_of problem.program final).origin in
-    ap (map o) (pushed ∙ ap (λ (ks : List ℕ). ks ++ k ∷ []) none) ∙ ap (λ (n : meaning.Node). n ∷ []) (call_first problem final is k e)
+    ap (map o) (pushed ∙ ap (λ (ks : List ℕ). ks ++ k ∷ []) none) ∙ ap (λ (n : meaning.Node). n ∷ []) (call_first problem final is k e room)
 
 -- ---- the contract of the method under test
 
@@ -109,8 +108,8 @@ one_tested problem code n k w contract is =
     subst (λ (m : Option Method). IsTestedBy (posed problem).program code n m (Some contract)) (sym w.1) (subst (λ (m : Method). IsContractOf (posed problem).program code n m contract) same is)
 
 -- the whole
-pub code_for : (problem : Problem) (made : ProblemCode) → IsCompiled problem made.predicate.code → ((final : Final) → final.nodes ≡ call_nodes problem → map (numbering_of problem.program final).origin made.predicate.conditions.items ≡ conditions (posed problem))
+pub code_for : (problem : Problem) (made : ProblemCode) → IsCompiled problem made.predicate.code → ((final : Final) → final.nodes ≡ call_nodes problem → coded_count problem.program < others_from problem.program → map (numbering_of problem.program final).origin made.predicate.conditions.items ≡ conditions (posed problem))
     → ((final : Final) (code : Code) → HasMethods problem code → IsTestedBy (posed problem).program code (numbering_of problem.program final) (tested_method (posed problem) (posed problem).mode) made.contract) → IsCodeFor (posed problem) made
 code_for problem made is hold tested =
     let final = final_of problem is.names in
-    ∣ (numbering_of problem.program final, record { code = is.is; conditions = hold final refl }, tested final made.predicate.code is.methods) ∣₁
+    ∣ (numbering_of problem.program final, record { code = is.is; conditions = hold final refl is.room }, tested final made.predicate.code is.methods) ∣₁

@@ -1,7 +1,7 @@
 -- The nodes of the code: those of the files, the call of the root's `repOk`, and initial values.
-use Rattle.std.proofs.Common.{◌≡◌, refl, sym, ap, ◌∙◌, ℕ, zero, suc, ◌+◌, ◌-◌, ◌<◌, ◌≤◌, List, [], ◌∷◌, ◌++◌, length, map, get_or, subst, arith, ◌⊎◌, inl, inr, Some, None}
+use Rattle.std.proofs.Common.{◌≡◌, refl, sym, ap, ◌∙◌, ℕ, zero, suc, ◌+◌, ◌-◌, ◌<◌, ◌≤◌, List, [], ◌∷◌, ◌++◌, length, map, get_or, subst, arith, ◌⊎◌, inl, inr, Some, None, false}
 use Rattle.std.specs.Prelude.{slice_get}
-use Rattle.std.proofs.lemmas.List.{get_or_append_left, get_or-append-add}
+use Rattle.std.proofs.lemmas.List.{get_or_append_left, get_or-append-add, get_or_past, length-append}
 use Rattle.std.proofs.lemmas.Option.{get_or_from_slice_get, slice_get_cases}
 use Rattle.kr_ast.specs.Tree.{Nil, This}
 use Rattle.kr_types_meaning.specs.Scopes.{Locals}
@@ -19,15 +19,15 @@ use Rattle.kr_code.specs.Resolved as resolved
 use Rattle.kr_code.specs.Resolved.{IsDeclarator, IsExpression, IsStatement, Numbering}
 use Rattle.kr_code.specs.Tables.{declarator_of, expression_of, node_at, statement_of}
 use Rattle.kr_types.specs.declared.program.Program.{Program}
-use Rattle.kr_types.specs.Programs.{all_entries}
 use Rattle.kr_space_problem.specs.declared.problem.Problem.{Problem}
 use Rattle.kr_space_problem.specs.Posed.{posed}
-use Rattle.kr_code_lowering.specs.Origins.{nothing, numbering_of}
+use Rattle.kr_code_lowering.specs.Origins.{coded_count, has_code, nothing, numbering_of, others_from}
 use Rattle.kr_code_lowering.specs.Sites.{Becomes}
 use Rattle.kr_code_lowering.specs.Statements.{AreDeclared}
 use Rattle.kr_code_lowering.specs.Resolving.{AreNodes}
-use Rattle.kr_code_lowering.proofs.Numbers.{origin_behind}
+use Rattle.kr_code_lowering.proofs.Numbers.{no_code, origin_behind}
 use Rattle.kr_judge_code.specs.Compiled.{CallsRepOk, call_nodes, final_of}
+use Rattle.kr_judge_code.proofs.Uncoded.{no_code_declarator, no_code_expression, no_code_statement}
 
 abbrev stuck : Node
 stuck = nodes.Expression expressions.Stuck
@@ -54,10 +54,10 @@ no_declarator (x ∷ xs) (suc j) = no_declarator xs j
 
 -- ---- nodes by their numbers
 
-module _ (problem : Problem) (names : List (List ℕ)) (linked : List ℕ) (files : List Node) (are : AreNodes problem.program problem.arrays.items names linked files) (count : length files ≡ length (all_entries problem.program.trees.items))
+module _ (problem : Problem) (names : List (List ℕ)) (linked : List ℕ) (files : List Node) (are : AreNodes problem.program problem.arrays.items names linked files) (count : length files ≡ coded_count problem.program)
     (call : Expression) (calls : CallsRepOk problem.program (root_class (posed problem)) (length files + 1) call) (xs : List Initialiser)
     (code : Code) (all : code.nodes.items ≡ files ++ nodes.Expression call ∷ nodes.Expression expressions.This ∷ initial_nodes xs)
-    (becomes : Becomes problem.program names linked (final_of problem names) code) where
+    (becomes : Becomes problem.program names linked (final_of problem names) code) (fits : length code.nodes.items ≤ others_from problem.program) where
   abbrev p : Program
   p = problem.program
 
@@ -77,12 +77,20 @@ module _ (problem : Problem) (names : List (List ℕ)) (linked : List ℕ) (file
   there : (j : ℕ) → node_at code (length files + j) ≡ get_or behind j stuck
   there j = ap (λ (ns : List Node). get_or ns (length files + j) stuck) all ∙ get_or-append-add files behind j stuck
 
-  origin_there : (j : ℕ) → n.origin (length files + j) ≡ get_or (call_nodes problem) j (nothing p)
-  origin_there j = ap (λ (k : ℕ). n.origin (k + j)) count ∙ origin_behind p (call_nodes problem) j
+  origin_there : (j : ℕ) → length files + j < others_from p → n.origin (length files + j) ≡ get_or (call_nodes problem) j (nothing p)
+  origin_there j h = ap (λ (k : ℕ). n.origin (k + j)) count ∙ origin_behind p (call_nodes problem) j (omega (arith, count, h))
 
-  -- a property of the files' nodes, and of those after them
-  by_number : (P : meaning.Node → Node → Type 0) → ((i : ℕ) (node : Node) → slice_get files i ≡ Some node → P (n.origin i) node) → ((j : ℕ) → P (get_or (call_nodes problem) j (nothing p)) (get_or behind j stuck)) → (i : ℕ) → P (n.origin i) (node_at code i)
-  by_number P h k i = go (split i (length files))
+  -- the call and its `this` are there
+  pub call_fits : length files + 1 < others_from p
+  call_fits = omega (arith, ap length all, length-append files behind, fits)
+
+  past : (i : ℕ) → others_from p ≤ i → node_at code i ≡ stuck
+  past i h = get_or_past code.nodes.items i stuck (omega (arith, fits, h))
+
+  -- a property of the files' nodes, of those after them, and of nodes without code
+  by_number : (P : meaning.Node → Node → Type 0) → ((i : ℕ) (node : Node) → slice_get files i ≡ Some node → P (n.origin i) node) → ((j : ℕ) → P (get_or (call_nodes problem) j (nothing p)) (get_or behind j stuck)) → ((o : meaning.Node) → has_code o.tree ≡ false → P o stuck)
+      → (i : ℕ) → P (n.origin i) (node_at code i)
+  by_number P h k none i = go (split i (length files)) (split i (others_from p))
     where
       split : (a b : ℕ) → (a < b) ⊎ (b ≤ a)
       split zero zero = inr (omega arith)
@@ -90,12 +98,14 @@ module _ (problem : Problem) (names : List (List ℕ)) (linked : List ℕ) (file
       split (suc a) zero = inr (omega arith)
       split (suc a) (suc b) = elim (split a b) [ inl l ↦ inl (omega (arith, l)) | inr l ↦ inr (omega (arith, l)) ]
 
-      go : (i < length files) ⊎ (length files ≤ i) → P (n.origin i) (node_at code i)
-      go (inl l) = let w = here i l in subst (λ (x : Node). P (n.origin i) x) (sym w.2) (h i w.0 w.1)
-      go (inr l) =
+      go : (i < length files) ⊎ (length files ≤ i) → (i < others_from p) ⊎ (others_from p ≤ i) → P (n.origin i) (node_at code i)
+      go (inl l) below = let w = here i l in subst (λ (x : Node). P (n.origin i) x) (sym w.2) (h i w.0 w.1)
+      go (inr l) (inl below) =
           let j = i - length files in
           let e : length files + j ≡ i = omega (arith, l) in
-          subst (λ (m : ℕ). P (n.origin m) (node_at code m)) e (subst (λ (o : meaning.Node). P o (node_at code (length files + j))) (sym (origin_there j)) (subst (λ (x : Node). P (get_or (call_nodes problem) j (nothing p)) x) (sym (there j)) (k j)))
+          let within : length files + j < others_from p = omega (arith, e, below) in
+          subst (λ (m : ℕ). P (n.origin m) (node_at code m)) e (subst (λ (o : meaning.Node). P o (node_at code (length files + j))) (sym (origin_there j within)) (subst (λ (x : Node). P (get_or (call_nodes problem) j (nothing p)) x) (sym (there j)) (k j)))
+      go (inr l) (inr above) = subst (λ (x : Node). P (n.origin i) x) (sym (past i above)) (none (n.origin i) (no_code p (call_nodes problem) i above))
 
   abbrev Expressed : meaning.Node → Node → Type 0
   Expressed o node = IsExpression (posed problem).program code n o.scope o.tree (expression_of node)
@@ -107,7 +117,7 @@ module _ (problem : Problem) (names : List (List ℕ)) (linked : List ℕ) (file
   Declaring o node = o.scope.declaring ≡ Locals → IsDeclarator n o.scope o.tree (declarator_of node)
 
   expressed : (j : ℕ) → Expressed (get_or (call_nodes problem) j (nothing p)) (get_or behind j stuck)
-  expressed zero = calls problem.arrays.items names linked (final_of problem names) code becomes (origin_there 1)
+  expressed zero = calls problem.arrays.items names linked (final_of problem names) code becomes (origin_there 1 call_fits)
   expressed (suc zero) = resolved.this nowhere
   expressed (suc (suc j)) = subst (λ (e : Expression). IsExpression (posed problem).program code n (nothing p).scope Nil e) (sym (no_expression xs j)) (resolved.other Nil refl)
 
@@ -122,10 +132,10 @@ module _ (problem : Problem) (names : List (List ℕ)) (linked : List ℕ) (file
   declaring (suc (suc j)) h = subst (λ (e : _). IsDeclarator n (nothing p).scope Nil e) (sym (no_declarator xs j)) tt
 
   pub expressions_are : (i : ℕ) → Expressed (n.origin i) (node_at code i)
-  expressions_are = by_number Expressed (λ i node e. (are i node e).expression (final_of problem names) code becomes) expressed
+  expressions_are = by_number Expressed (λ i node e. (are i node e).expression (final_of problem names) code becomes) expressed (λ o h. resolved.other o.tree (no_code_expression o.tree h))
 
   declared_are : AreDeclared p (final_of problem names) code
-  declared_are = by_number Declaring (λ i node e. (are i node e).declarator (final_of problem names)) declaring
+  declared_are = by_number Declaring (λ i node e. (are i node e).declarator (final_of problem names)) declaring (λ o h locals. no_code_declarator n o.scope o.tree h)
 
   pub statements_are : (i : ℕ) → Stated (n.origin i) (node_at code i)
-  statements_are = by_number Stated (λ i node e. (are i node e).statement (final_of problem names) code becomes declared_are) stated
+  statements_are = by_number Stated (λ i node e. (are i node e).statement (final_of problem names) code becomes declared_are) stated (λ o h. resolved.other o.tree (no_code_statement o.tree h))

@@ -3,6 +3,7 @@ pub mod Parted
 pub mod Walked
 pub mod Added
 pub mod RepOk
+pub mod Uncoded
 pub mod Joined
 pub mod Tabled
 pub mod Conditions

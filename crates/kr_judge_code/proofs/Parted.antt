@@ -100,6 +100,7 @@ list_parted s _ h = absurd h
 
 value_parted : (s : Scope) (t : Tree) → Shaped false t → IsParted s t
 value_parted s (trees.Number p n) h = record { walked = tt; olds = refl }
+value_parted s (trees.LongNumber p n) h = record { walked = tt; olds = refl }
 value_parted s (trees.Truth p b) h = record { walked = tt; olds = refl }
 value_parted s (trees.Null p) h = record { walked = tt; olds = refl }
 value_parted s (trees.This p) h = record { walked = tt; olds = refl }

@@ -17,7 +17,7 @@ use Rattle.kr_types.specs.declared.program.Program.{Program}
 use Rattle.kr_types.specs.Programs.{IsProgram}
 use Rattle.kr_code_lowering.specs.declared.site.Site.{Site}
 use Rattle.kr_code_lowering.specs.Origins.{Final, node_scope, node_tree, numbering_of}
-use Rattle.kr_code_lowering.specs.Sites.{IsHere, IsSite, scope_at, tree_at}
+use Rattle.kr_code_lowering.specs.Sites.{IsHere, IsSite, number_at, scope_at, tree_at}
 use Rattle.kr_code_lowering.proofs.Parts.{part_in, part_scope, tree_is}
 use Rattle.kr_code_lowering.proofs.Naming.{parts_are}
 use Rattle.kr_mean.specs.Verdicts.{OldNode, old_in}
@@ -52,7 +52,7 @@ line_is p is list e at shape a b it =
     }
 
 -- the condition of a precondition is where it is required
-pub required_is : (p : Program) → IsProgram p → (line : Site) (e : Entry) → IsHere p line e → (a : ℕ) → e.node ≡ nodes.Requires a → (s : Scope) (final : Final) → running (scope_at p line) ≡ s → map (numbering_of p final).origin ((line.first + a) ∷ []) ≡ required s (tree_at p line ∷ [])
+pub required_is : (p : Program) → IsProgram p → (line : Site) (e : Entry) → IsHere p line e → (a : ℕ) → e.node ≡ nodes.Requires a → (s : Scope) (final : Final) → running (scope_at p line) ≡ s → map (numbering_of p final).origin ((number_at p line a) ∷ []) ≡ required s (tree_at p line ∷ [])
 required_is p is line e at a it s final runs =
     let ps = parts_are p line e (nodes.Requires a) at it in
     let t : tree_at p line ≡ trees.Requires e.place (node_tree p line.file a) = tree_is p line e (nodes.Requires a) at it in
@@ -99,7 +99,7 @@ ensured_more s t ts =
 -- ---- `\old`s
 
 -- the operand of the `\old`
-pub old_is : (p : Program) → IsProgram p → (at : Site) (e : Entry) → IsHere p at e → (a : ℕ) → e.node ≡ nodes.Old a → (final : Final) → shown p final (record { place = e.place; operand = at.first + a } ∷ []) ≡ old_in (running (scope_at p at)) (tree_at p at)
+pub old_is : (p : Program) → IsProgram p → (at : Site) (e : Entry) → IsHere p at e → (a : ℕ) → e.node ≡ nodes.Old a → (final : Final) → shown p final (record { place = e.place; operand = number_at p at a } ∷ []) ≡ old_in (running (scope_at p at)) (tree_at p at)
 old_is p is at e here a it final =
     let ps = parts_are p at e (nodes.Old a) here it in
     let t : tree_at p at ≡ trees.Old e.place (node_tree p at.file a) = tree_is p at e (nodes.Old a) here it in

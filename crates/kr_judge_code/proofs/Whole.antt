@@ -1,8 +1,7 @@
 -- The code of a problem's program from its parts.
-use Rattle.std.proofs.Common.{◌≡◌, sym, ap, ◌∙◌, ℕ, List, [], ◌∷◌, ◌++◌, length, map, subst, append_assoc}
+use Rattle.std.proofs.Common.{◌≡◌, sym, ap, ◌∙◌, ℕ, List, [], ◌∷◌, ◌++◌, length, map, subst, append_assoc, arith, ◌≤◌}
 use Rattle.kr_classes_names.specs.ListedTypes.{IsGrown}
 use Rattle.kr_classes_names.specs.Types.{type_at}
-use Rattle.kr_types.specs.Programs.{all_entries}
 use Rattle.kr_classes_members.specs.Rosters.{all_methods}
 use Rattle.kr_code.specs.declared.code.Code.{Code}
 use Rattle.kr_code.specs.declared.code.Node.{Node}
@@ -11,7 +10,7 @@ use Rattle.kr_code.specs.declared.expression.Expression.TheVariants as expressio
 use Rattle.kr_space_problem.specs.declared.problem.Problem.{Problem}
 use Rattle.kr_space_problem.specs.Posed.{posed}
 use Rattle.kr_code_members.specs.Nodes.{table}
-use Rattle.kr_code_lowering.specs.Origins.{numbering_of}
+use Rattle.kr_code_lowering.specs.Origins.{coded_count, numbering_of, others_from}
 use Rattle.kr_code_lowering.specs.Sites.{Becomes}
 use Rattle.kr_code_lowering.specs.Resolving.{AreNodes}
 use Rattle.kr_code_lowering.proofs.Growth.{grown_none}
@@ -19,14 +18,14 @@ use Rattle.kr_code_bodies.specs.declared.tables.Tables.{Tables}
 use Rattle.kr_code_bodies.specs.Tabled.{AreTabled}
 use Rattle.kr_code_bodies.specs.Made.{AddsInitialisers, AreBodies}
 use Rattle.kr_judge_code.specs.Compiled.{HasCall, IsCompiled, final_of}
-use Rattle.kr_judge_code.proofs.Joined.{expressions_are, statements_are}
+use Rattle.kr_judge_code.proofs.Joined.{call_fits, expressions_are, statements_are}
 use Rattle.kr_judge_code.proofs.Tabled.{HasTables, tables_are}
 
-module _ (problem : Problem) (names : List (List ℕ)) (files called all : List Node) (linked links : List ℕ) (t : Tables) (code : Code) (are : AreNodes problem.program problem.arrays.items names linked files) (count : length files ≡ length (all_entries problem.program.trees.items))
+module _ (problem : Problem) (names : List (List ℕ)) (files called all : List Node) (linked links : List ℕ) (t : Tables) (code : Code) (are : AreNodes problem.program problem.arrays.items names linked files) (count : length files ≡ coded_count problem.program)
     (call : HasCall problem files called) (more : AddsInitialisers called all) (nodes_are : code.nodes.items ≡ all) (grown : IsGrown linked links) (links_are : code.links.items ≡ links)
     (methods : length code.methods.items ≡ length (all_methods (table problem.program))) (classes : length code.classes.items ≡ length (table problem.program).classes)
     (bodies : Becomes problem.program names links (final_of problem names) code → AreBodies (posed problem).program code (numbering_of problem.program (final_of problem names)))
-    (tabled : AreTabled problem.program.trees.items problem.program.table.types (map (type_at problem.program.table.types) problem.arrays.items) names t) (has : HasTables code t) where
+    (tabled : AreTabled problem.program.trees.items problem.program.table.types (map (type_at problem.program.table.types) problem.arrays.items) names t) (has : HasTables code t) (fits : length code.nodes.items ≤ others_from problem.program) where
   ended : Becomes problem.program names links (final_of problem names) code
   ended = record { names = grown_none names; links = subst (λ (ls : List ℕ). IsGrown links ls) (sym links_are) (grown_none links); methods = methods; classes = classes }
 
@@ -43,8 +42,9 @@ module _ (problem : Problem) (names : List (List ℕ)) (files called all : List 
     names = names;
     is = record {
       tables = tables_are problem.program problem.arrays.items (final_of problem names) t tabled code has methods (bodies ended);
-      expressions = expressions_are problem names linked files are count call.call call.calls more.added code split begun;
-      statements = statements_are problem names linked files are count call.call call.calls more.added code split begun;
+      expressions = expressions_are problem names linked files are count call.call call.calls more.added code split begun fits;
+      statements = statements_are problem names linked files are count call.call call.calls more.added code split begun fits;
     };
+    room = (let fit = call_fits problem names linked files are count call.call call.calls more.added code split begun fits in omega (arith, fit, count));
     methods = methods;
   }

@@ -1,5 +1,5 @@
 -- Between crates: the code of a problem's program with the call of the root's `repOk`, which is in no file.
-use Rattle.std.specs.Prelude.{◌≡◌, ℕ, ◌+◌, List, [], ◌∷◌, ◌++◌, length}
+use Rattle.std.specs.Prelude.{◌≡◌, ℕ, ◌+◌, ◌<◌, List, [], ◌∷◌, ◌++◌, length}
 use Rattle.kr_ast.specs.Tree.{This}
 use Rattle.kr_mean.specs.Code as meaning
 use Rattle.kr_mean.specs.Program.{class_scope}
@@ -17,7 +17,7 @@ use Rattle.kr_space_problem.specs.declared.problem.Problem.{Problem}
 use Rattle.kr_space_problem.specs.Posed.{posed}
 use Rattle.kr_code_members.specs.Nodes.{table, run_program}
 use Rattle.kr_classes_members.specs.Rosters.{all_methods}
-use Rattle.kr_code_lowering.specs.Origins.{Final, numbering_of}
+use Rattle.kr_code_lowering.specs.Origins.{Final, coded_count, numbering_of, others_from}
 use Rattle.kr_code_lowering.specs.Sites.{Becomes}
 
 abbrev pub no_arguments : Nodes
@@ -51,8 +51,9 @@ final_of problem names = record { names = names; nodes = call_nodes problem }
 abbrev pub HasMethods : Problem → Code → Type 0
 HasMethods problem code = length code.methods.items ≡ length (all_methods (table problem.program))
 
--- it is the code of the problem's program with the call, with some names
+-- it is the code of the problem's program with the call, with some names; the call's number is no other node's
 pub record IsCompiled (problem : Problem) (code : Code) : Type 0 where
   pub names : List (List ℕ)
   pub is : IsCodeOf (posed problem).program code (numbering_of problem.program (final_of problem names))
+  pub room : coded_count problem.program < others_from problem.program
   pub methods : HasMethods problem code

@@ -1,7 +1,10 @@
 // The code of a problem's program.
-ghost use Rattle.std.specs.Prelude.{IfOk};
+ghost use Rattle.std.specs.Prelude.{◌≤◌, IfOk, length};
+ghost use Rattle.kr_types.specs.Programs.{IsProgram};
 ghost use Rattle.kr_space_problem.specs.Posed.{IsPosed};
 ghost use Rattle.kr_space_problem.specs.Subjects.{IsSubject};
+ghost use Rattle.kr_code_lowering.specs.Numbered.{AreNumbers};
+ghost use Rattle.kr_code_lowering.specs.Origins.{coded_count, others_from};
 ghost use Rattle.kr_judge_code.specs.Compiled.{HasCall, IsCompiled};
 
 use crate::call::rep_ok_call;
@@ -9,9 +12,24 @@ use crate::root::rep_ok;
 use kr_base::NoMemory;
 use kr_code::{Code, Expression, Node};
 use kr_code_bodies::{Tables, bodies_of};
-use kr_code_lowering::{ResolvedNodes, resolve_nodes};
+use kr_code_lowering::{NodeNumbers, ResolvedNodes, resolve_nodes};
 use kr_space_problem::{Problem, Subject};
+use kr_types::Program;
 use std::alloc::Global;
+
+/// The nodes end before the numbers of nodes without code begin. Err: there are too many for both.
+fn end_before_others(program: &Program, nodes: &Vec<Node>) -> Result<(), NoMemory>
+    requires program { IsProgram program.now }
+    requires files { coded_count program.now ≤ length nodes.now.items }
+    ensures { IfOk result (λ none. length nodes.now.items ≤ others_from program.now) }
+{
+    let count = nodes.len() as u64;
+    let files = u64::from(program.nodes());
+    if count > 0xffff_ffff - files {
+        return Err(NoMemory::at_sum(count, files));
+    }
+    Ok(())
+}
 
 /// Adds the call of the root's `repOk` and its `this` after the nodes of the files.
 fn add_call(problem: &Problem, subject: &Subject, nodes: &mut Vec<Node>) -> Result<(), NoMemory>
@@ -30,8 +48,14 @@ fn add_call(problem: &Problem, subject: &Subject, nodes: &mut Vec<Node>) -> Resu
 }
 
 /// The code of the problem's program, with the call of the root's `repOk` after the nodes of the files.
-pub(crate) fn code_of(alloc: Global, problem: &Problem, subject: &Subject) -> Result<Code, NoMemory>
+pub(crate) fn code_of(
+    alloc: Global,
+    problem: &Problem,
+    numbers: &NodeNumbers,
+    subject: &Subject,
+) -> Result<Code, NoMemory>
     requires posed { IsPosed problem.now }
+    requires numbers { AreNumbers problem.now.program numbers.now }
     requires subject { IsSubject problem.now subject.now }
     ensures { IfOk result (IsCompiled problem.now) }
 {
@@ -43,16 +67,18 @@ pub(crate) fn code_of(alloc: Global, problem: &Problem, subject: &Subject) -> Re
         mut nodes,
         mut links,
         names,
-    } = resolve_nodes(alloc, program, arrays)?;
+    } = resolve_nodes(alloc, program, numbers, arrays)?;
     add_call(problem, subject, &mut nodes)?;
     let made = bodies_of(
         alloc,
         program,
+        numbers,
         roster,
         &subject.members,
         &mut nodes,
         &mut links,
     )?;
+    end_before_others(program, &nodes)?;
     let tables = Tables::read(
         alloc,
         &program.trees,

@@ -4,20 +4,22 @@ ghost use Rattle.kr_types_meaning.specs.Running.{running};
 ghost use Rattle.kr_laws_shapes.specs.Shapes.{IsExpression};
 ghost use Rattle.kr_mean.specs.Verdicts.{old_in};
 ghost use Rattle.kr_types.specs.Programs.{IsProgram};
+ghost use Rattle.kr_code_lowering.specs.Numbered.{AreNumbers};
 ghost use Rattle.kr_code_lowering.specs.Origins.{Final};
 ghost use Rattle.kr_code_lowering.specs.Sites.{IsSite, scope_at, tree_at};
 ghost use Rattle.kr_judge_code.specs.Olds.{olds_below, shown};
 
 use kr_ast::Node;
 use kr_base::{NoMemory, add_found};
-use kr_code_lowering::Site;
+use kr_code_lowering::{NodeNumbers, Site};
 use kr_judge_prepared::OldCode;
 use kr_types::Program;
 use std::alloc::Global;
 
 /// The `\old` that a node is, if it is one.
-fn old_of(program: &Program, at: Site) -> Option<OldCode>
+fn old_of(program: &Program, numbers: &NodeNumbers, at: Site) -> Option<OldCode>
     requires program { IsProgram program.now }
+    requires numbers { AreNumbers program.now numbers.now }
     requires site { IsSite program.now at }
     ensures { (final : Final) → shown program.now final (option_to_list result) ≡ old_in (running (scope_at program.now at)) (tree_at program.now at) }
 {
@@ -25,7 +27,7 @@ fn old_of(program: &Program, at: Site) -> Option<OldCode>
     match entry.node {
         Node::Old { operand } => Some(OldCode {
             place: entry.place,
-            operand: at.first + operand,
+            operand: at.code_number(program, numbers, operand),
         }),
         _ => None,
     }
@@ -45,10 +47,12 @@ fn add_reversed(alloc: Global, waiting: &mut Vec<u32>, items: &[u32]) -> Result<
 pub(crate) fn add_olds(
     alloc: Global,
     program: &Program,
+    numbers: &NodeNumbers,
     expression: Site,
     olds: &mut Vec<OldCode>,
 ) -> Result<(), NoMemory>
     requires program { IsProgram program.now }
+    requires numbers { AreNumbers program.now numbers.now }
     requires site { IsSite program.now expression }
     requires shape { IsExpression (tree_at program.now expression) }
     ensures { (final : Final) → IfOk result (λ none. shown program.now final olds.new.items ≡ shown program.now final olds.old.items ++ olds_below program.now expression.file expression.node) }
@@ -57,7 +61,7 @@ pub(crate) fn add_olds(
     waiting.push(expression.node)?;
     while let Some(node) = waiting.pop() {
         let at = expression.at(node);
-        add_found(olds, old_of(program, at))?;
+        add_found(olds, old_of(program, numbers, at))?;
         let parts = at.entry(program).node.parts();
         add_reversed(alloc, &mut waiting, parts.as_slice())?;
     }

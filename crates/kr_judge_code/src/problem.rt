@@ -2,6 +2,7 @@
 ghost use Rattle.std.specs.Prelude.{IfOk};
 ghost use Rattle.kr_space_problem.specs.Posed.{IsPosed, posed};
 ghost use Rattle.kr_space_problem.specs.Subjects.{IsSubject};
+ghost use Rattle.kr_code_lowering.specs.Numbered.{AreNumbers};
 ghost use Rattle.kr_judge_prepared.specs.Tested.{IsCodeFor};
 
 use crate::code::code_of;
@@ -9,10 +10,33 @@ use crate::predicate::conditions;
 use crate::root::tested_method;
 use crate::tested::tested_contract;
 use kr_base::NoMemory;
+use kr_code_lowering::NodeNumbers;
 use kr_judge::Predicate;
 use kr_judge_prepared::{Accepted, ProblemCode};
 use kr_space_problem::{Problem, Subject};
 use std::alloc::Global;
+
+/// The code of a problem, by the numbers of its nodes and its subject.
+fn code_with(
+    alloc: Global,
+    problem: &Problem,
+    numbers: &NodeNumbers,
+    subject: &Subject,
+) -> Result<ProblemCode, NoMemory>
+    requires posed { IsPosed problem.now }
+    requires numbers { AreNumbers problem.now.program numbers.now }
+    requires subject { IsSubject problem.now subject.now }
+    ensures { IfOk result (IsCodeFor (posed problem.now)) }
+{
+    let tested = tested_method(problem, subject);
+    let conditions = conditions(alloc, problem, numbers, &subject.members, tested)?;
+    let contract = tested_contract(alloc, problem, numbers, &subject.members, tested)?;
+    let code = code_of(alloc, problem, numbers, subject)?;
+    Ok(ProblemCode {
+        predicate: Predicate { code, conditions },
+        contract,
+    })
+}
 
 /// The code of a problem, by its subject.
 fn code_by(alloc: Global, problem: &Problem, subject: &Subject) -> Result<ProblemCode, NoMemory>
@@ -20,14 +44,8 @@ fn code_by(alloc: Global, problem: &Problem, subject: &Subject) -> Result<Proble
     requires subject { IsSubject problem.now subject.now }
     ensures { IfOk result (IsCodeFor (posed problem.now)) }
 {
-    let tested = tested_method(problem, subject);
-    let conditions = conditions(alloc, problem, &subject.members, tested)?;
-    let contract = tested_contract(alloc, problem, &subject.members, tested)?;
-    let code = code_of(alloc, problem, subject)?;
-    Ok(ProblemCode {
-        predicate: Predicate { code, conditions },
-        contract,
-    })
+    let numbers = NodeNumbers::of(alloc, &problem.program)?;
+    code_with(alloc, problem, &numbers, subject)
 }
 
 /// The code of an accepted problem's predicate, and the contract of its method under test, where one is tested.

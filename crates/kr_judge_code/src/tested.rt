@@ -6,6 +6,7 @@ ghost use Rattle.kr_classes_members.specs.Rosters.{all_methods, method_numbered}
 ghost use Rattle.kr_code_members.specs.Nodes.{AreMemberNodes, table};
 ghost use Rattle.kr_space_problem.specs.Posed.{IsPosed, posed};
 ghost use Rattle.kr_code_lowering.specs.Calls.{IsFound};
+ghost use Rattle.kr_code_lowering.specs.Numbered.{AreNumbers};
 ghost use Rattle.kr_code_lowering.specs.Origins.{Final, numbering_of};
 ghost use Rattle.kr_judge_prepared.specs.Tested.{IsContractOf, IsTestedBy};
 ghost use Rattle.kr_judge_code.specs.Compiled.{HasMethods};
@@ -13,7 +14,7 @@ ghost use Rattle.kr_judge_code.specs.Compiled.{HasMethods};
 use crate::add_ensured;
 use kr_base::NoMemory;
 use kr_classes_table::MethodId;
-use kr_code_lowering::Site;
+use kr_code_lowering::{NodeNumbers, Site};
 use kr_code_members::MemberNodes;
 use kr_judge_prepared::Contract;
 use kr_space_problem::Problem;
@@ -23,10 +24,12 @@ use std::alloc::Global;
 fn contract_of(
     alloc: Global,
     problem: &Problem,
+    numbers: &NodeNumbers,
     members: &MemberNodes,
     method: MethodId,
 ) -> Result<Contract, NoMemory>
     requires posed { IsPosed problem.now }
+    requires numbers { AreNumbers problem.now.program numbers.now }
     requires members { AreMemberNodes problem.now.program members.now }
     requires method { method < length (all_methods (table problem.now.program)) }
     ensures { (final : Final) (code : CodeMade) → HasMethods problem.now code → IfOk result (IsContractOf (posed problem.now).program code (numbering_of problem.now.program final) (method_numbered (table problem.now.program) method)) }
@@ -36,7 +39,14 @@ fn contract_of(
     let lines = Site::of(program, declared.file, declared.contracts);
     let mut olds = Vec::new(alloc);
     let mut postconditions = Vec::new(alloc);
-    add_ensured(alloc, program, lines, &mut olds, &mut postconditions)?;
+    add_ensured(
+        alloc,
+        program,
+        numbers,
+        lines,
+        &mut olds,
+        &mut postconditions,
+    )?;
     Ok(Contract {
         method,
         olds,
@@ -48,10 +58,12 @@ fn contract_of(
 pub(crate) fn tested_contract(
     alloc: Global,
     problem: &Problem,
+    numbers: &NodeNumbers,
     members: &MemberNodes,
     tested: Option<MethodId>,
 ) -> Result<Option<Contract>, NoMemory>
     requires posed { IsPosed problem.now }
+    requires numbers { AreNumbers problem.now.program numbers.now }
     requires members { AreMemberNodes problem.now.program members.now }
     requires tested { IsFound problem.now.program tested (tested_method (posed problem.now) (posed problem.now).mode) }
     ensures { (final : Final) (code : CodeMade) → HasMethods problem.now code → IfOk result (IsTestedBy (posed problem.now).program code (numbering_of problem.now.program final) (tested_method (posed problem.now) (posed problem.now).mode)) }
@@ -59,7 +71,7 @@ pub(crate) fn tested_contract(
     match tested {
         None => Ok(None),
         Some(method) => {
-            let contract = contract_of(alloc, problem, members, method)?;
+            let contract = contract_of(alloc, problem, numbers, members, method)?;
             Ok(Some(contract))
         }
     }

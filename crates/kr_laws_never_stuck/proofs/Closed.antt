@@ -7,9 +7,9 @@ use Rattle.kr_ast.specs.declared.node.UnaryOperator.TheVariants as unaries
 use Rattle.kr_ast.specs.declared.node.BinaryOperator.{BinaryOperator}
 use Rattle.kr_ast.specs.Tree as trees
 use Rattle.kr_ast.specs.Tree.{Tree}
-use Rattle.kr_classes_table.specs.Numbers.{Bits32}
+use Rattle.kr_classes_table.specs.Numbers.{Width, Bits32, Bits64, half}
 use Rattle.kr_classes_table.specs.Types.{JavaType, NumberType, int_type, BooleanType, NullType, ClassType, ArrayType, SetType, ListType, InferredType, is_known, is_element, is_void, is_collection, is_reference}
-use Rattle.kr_classes_table.specs.Table.{Field, Method, field_named, method_named, is_subtype, are_related}
+use Rattle.kr_classes_table.specs.Table.{Field, Method, field_named, method_named, is_assignable, are_related}
 use Rattle.kr_classes_table.specs.Rules.{Fault}
 use Rattle.kr_types_meaning.specs.declared.operators.OperatorKind.{OperatorKind}
 use Rattle.kr_types_meaning.specs.declared.operators.OperatorKind.TheVariants.{Arithmetic, Shift, Comparison, Equality, Bitwise, Logical}
@@ -131,8 +131,8 @@ boolean_asked : (b : Bool) (r : ℕ) → Gives (ask b r (Fits (Value BooleanType
 boolean_asked true r = refl
 boolean_asked false r = tt
 
-number : (s : Scope) (n : ℕ) → Gives (number_rule s n)
-number s n = int_asked (nat_lt n 2147483648 || is_under_minus s.role) 6
+number : (s : Scope) (w : Width) (n : ℕ) → Gives (number_rule s w n)
+number s w n = asked (nat_lt n (half w) || is_under_minus s.role) 6 (Fits (Value (NumberType w))) (λ e. refl)
 
 this_value : (s : Scope) → Gives (this_rule s)
 this_value s = asked (not s.is_static) 5 (Fits (Value (ClassType s.class))) (λ e. refl)
@@ -142,7 +142,7 @@ alone_given (NumberType w) r = refl
 alone_given _ r = tt
 
 promoted_given : (a b : JavaType) (r : ℕ) → Gives (of_promoted (promoted a b) r)
-promoted_given (NumberType Bits32) b r = alone_given b r
+promoted_given (NumberType v) (NumberType w) r = refl
 promoted_given _ b r = tt
 
 unary : (o : UnaryOperator) (t : JavaType) → Gives (unary_rule o t)
@@ -160,7 +160,7 @@ binary s Bitwise a b = either (both_boolean a b) (Fits (Value BooleanType)) (of_
 binary s Logical a b = boolean_asked (both_boolean a b) 12
 
 choice : (s : Scope) (c a b : JavaType) → is_open a ≡ false → is_open b ≡ false → Gives (choice_rule s c a b)
-choice s c a b h k = asked (is_boolean c && are_related s.table a b) 15 (Fits (Value (if is_subtype s.table a b then b else a))) (λ e. go (is_subtype s.table a b))
+choice s c a b h k = asked (is_boolean c && are_related s.table a b) 15 (Fits (Value (if is_assignable s.table a b then b else a))) (λ e. go (is_assignable s.table a b))
   where
     go : (x : Bool) → is_open (if x then b else a) ≡ false
     go true = k
@@ -195,7 +195,7 @@ unwritten : (s : Scope) (x : Typed) (t : JavaType) → is_code s.part ≡ false 
 unwritten s x t c = asked (is_variable x) 19 (ask (is_code s.part) 39 (Fits (Value t))) (λ e. uncoded (is_code s.part) 39 t c)
 
 assigned : (s : Scope) (x : Typed) (to from : JavaType) → is_code s.part ≡ false → Gives (assignment_rule s x to from)
-assigned s x to from c = asked (is_subtype s.table from to) 16 (written_rule s x to) (λ e. unwritten s x to c)
+assigned s x to from c = asked (is_assignable s.table from to) 16 (written_rule s x to) (λ e. unwritten s x to c)
 
 compounded : (s : Scope) (o : BinaryOperator) (x : Typed) (to from : JavaType) → is_code s.part ≡ false → Gives (compound_rule s o x to from)
 compounded s o x to from c = asked (not (is_broken (operator_rule s o to from))) 17 (written_rule s x to) (λ e. unwritten s x to c)
@@ -259,7 +259,7 @@ of_collection s is_list t n [] =
     (asked (bytes_eq n (codes "removeFirst") && is_list && is_element t) 25 (Fits (Value t)) (λ e. element_closed t (last_true (bytes_eq n (codes "removeFirst")) is_list (is_element t) e))))
 of_collection s is_list t n (x ∷ []) =
     let fits = (bytes_eq n (codes "contains") || bytes_eq n (codes "remove")) && is_reference x && not (is_collection x) in
-    either (bytes_eq n (codes "add")) (ask (is_subtype s.table x t) 25 (Fits (Value BooleanType))) (ask fits 25 (Fits (Value BooleanType))) (boolean_asked (is_subtype s.table x t) 25) (boolean_asked fits 25)
+    either (bytes_eq n (codes "add")) (ask (is_assignable s.table x t) 25 (Fits (Value BooleanType))) (ask fits 25 (Fits (Value BooleanType))) (boolean_asked (is_assignable s.table x t) 25) (boolean_asked fits 25)
 of_collection s is_list t n (x ∷ y ∷ ts) = tt
 
 of_method : (s : Scope) (m : Option Method) (ts : List JavaType) → Gives (method_rule s m ts)
@@ -322,7 +322,8 @@ module _ (arrays : List JavaType) (olds : Place → Option JavaType) where
   pub closed : (s : Scope) (e : Tree) → is_code s.part ≡ false → IsNamed s → IsCode arrays olds (Expression false) (plain s) e → Closed (judged s e).typed
   unfolding judged
   closed s trees.Nil c k h = absurd (cc (h))
-  closed s (trees.Number p n) c k h = judged_closed p (number_rule s n) [] (number s n)
+  closed s (trees.Number p n) c k h = judged_closed p (number_rule s Bits32 n) [] (number s Bits32 n)
+  closed s (trees.LongNumber p n) c k h = judged_closed p (number_rule s Bits64 n) [] (number s Bits64 n)
   closed s (trees.Truth p b) c k h = refl
   closed s (trees.Null p) c k h = refl
   closed s (trees.This p) c k h = judged_closed p (this_rule s) [] (this_value s)

@@ -110,6 +110,7 @@ module _ (arrays : List JavaType) (olds : Olds) (hs : List Heading) where
 
   pub expression_code : (sort : Sort) (s : Scope) (e : Tree) → IsPlain s → Shape sort e → All e → IsCode arrays olds sort s e
   expression_code (Expression m) s (trees.Number p n) k h a = tt
+  expression_code (Expression m) s (trees.LongNumber p n) k h a = tt
   expression_code (Expression m) s (trees.Truth p b) k h a = tt
   expression_code (Expression m) s (trees.Null p) k h a = tt
   expression_code (Expression m) s (trees.This p) k h a = tt

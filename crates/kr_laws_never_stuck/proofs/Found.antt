@@ -74,6 +74,7 @@ module _ (p : Place) where
 
   pub fewer : (sort : Sort) (s : Scope) (e : Tree) → Shape sort e → C (code s e) ≤ nodes_at p (nodes e)
   fewer (Expression m) s (trees.Number q n) h = omega arith
+  fewer (Expression m) s (trees.LongNumber q n) h = omega arith
   fewer (Expression m) s (trees.Truth q b) h = omega arith
   fewer (Expression m) s (trees.Null q) h = omega arith
   fewer (Expression m) s (trees.This q) h = omega arith

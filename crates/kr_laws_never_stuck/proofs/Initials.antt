@@ -7,7 +7,7 @@ use Rattle.kr_ast.specs.declared.node.UnaryOperator.TheVariants as unaries
 use Rattle.kr_ast.specs.Tree as trees
 use Rattle.kr_ast.specs.Tree.{Tree}
 use Rattle.kr_classes_table.specs.Types.{JavaType, is_known}
-use Rattle.kr_classes_table.specs.Table.{Field, items, declared_in, fields_in, is_subtype}
+use Rattle.kr_classes_table.specs.Table.{Field, items, declared_in, fields_in, is_assignable}
 use Rattle.kr_types_meaning.specs.Scopes.{Scope, Fields, Constants, written, value, in_old, under_minus, static_if, declaring, class_before}
 use Rattle.kr_types_meaning.specs.Rules as rules
 use Rattle.kr_types_meaning.specs.Rules.{Typed, Judgement, Fits, ask, fine, initial_fits, declaration_rule, unary_rule, operator_rule, choice_rule, cast_rule, instance_rule, assignment_rule, compound_rule, step_rule, element_rule, call_rule, super_rule, creation_rule, array_creation_rule, old_rule}
@@ -60,6 +60,7 @@ pub expression_same : (arrays : List JavaType) (olds : Place → Option JavaType
 unfolding judged
 expression_same arrays olds (Expression m) s u trees.Nil h i = refl
 expression_same arrays olds (Expression m) s u (trees.Number p n) h i = refl
+expression_same arrays olds (Expression m) s u (trees.LongNumber p n) h i = refl
 expression_same arrays olds (Expression m) s u (trees.Truth p b) h i = refl
 expression_same arrays olds (Expression m) s u (trees.Null p) h i = refl
 expression_same arrays olds (Expression m) s u (trees.This p) h i = refl
@@ -111,7 +112,7 @@ pub record IsGoodField (s : Scope) (c : ℕ) (f : Field) : Type 0 where
   pub class : f.class ≡ c
   pub type : is_variable_type f.type ≡ true
   pub unbroken : f.is_static ≡ false → (judged (declaring_field f.type s) f.initial).faults ≡ []
-  pub fits : f.is_static ≡ false → (t : JavaType) → type_in (judged (declaring_field f.type s) f.initial).typed ≡ Some t → is_subtype s.table t f.type ≡ true
+  pub fits : f.is_static ≡ false → (t : JavaType) → type_in (judged (declaring_field f.type s) f.initial).typed ≡ Some t → is_assignable s.table t f.type ≡ true
 
 on_given : (f : Option JavaType → Judgement) (x : Typed) (t : JavaType) → type_in x ≡ Some t → on_maybe f x ≡ f (Some t)
 on_given f (rules.Value u) t e = ap f e
@@ -119,18 +120,18 @@ on_given f (rules.Variable u) t e = ap f e
 on_given f (rules.Values ts) t e = absurd (cc (e))
 on_given f rules.Untyped t e = absurd (cc (e))
 
-assignable_there : (s : Scope) (w t : JavaType) (p : Place) (n : List ℕ) (e : Tree) → is_known w ≡ true → (judge p (on_maybe (declaration_rule (declaring_field w s) Fields p n) (judged (declaring_field w s) e).typed) (judged (declaring_field w s) e).faults).faults ≡ [] → type_in (judged (declaring_field w s) e).typed ≡ Some t → is_subtype s.table t w ≡ true
+assignable_there : (s : Scope) (w t : JavaType) (p : Place) (n : List ℕ) (e : Tree) → is_known w ≡ true → (judge p (on_maybe (declaration_rule (declaring_field w s) Fields p n) (judged (declaring_field w s) e).typed) (judged (declaring_field w s) e).faults).faults ≡ [] → type_in (judged (declaring_field w s) e).typed ≡ Some t → is_assignable s.table t w ≡ true
 assignable_there s w t p n e k f r =
     let D = declaring_field w s in
     let v = on_maybe (declaration_rule D Fields p n) (judged D e).typed in
     let rule = kept p v (judged D e).faults f in
     go (initial_fits D (Some t)) refl rule.0 (sym (on_given (declaration_rule D Fields p n) (judged D e).typed t r) ∙ rule.1)
   where
-    known : (b : Bool) → b ≡ true → (not b || is_subtype s.table t w) ≡ true → is_subtype s.table t w ≡ true
+    known : (b : Bool) → b ≡ true → (not b || is_assignable s.table t w) ≡ true → is_assignable s.table t w ≡ true
     known true k e = e
     known false k e = absurd (cc (k))
 
-    go : (b : Bool) → initial_fits (declaring_field w s) (Some t) ≡ b → (x : Typed) → ask b 35 fine ≡ Fits x → is_subtype s.table t w ≡ true
+    go : (b : Bool) → initial_fits (declaring_field w s) (Some t) ≡ b → (x : Typed) → ask b 35 fine ≡ Fits x → is_assignable s.table t w ≡ true
     go true q x e = known (is_known w) k q
     go false q x e = absurd (cc (e))
 
@@ -166,22 +167,22 @@ pub record IsGoodConstant (s : Scope) (c : ℕ) (f : Field) : Type 0 where
   pub static : f.is_static ≡ true
   pub final : Bool
   pub unbroken : (judged (declaring_constant final f.type s) f.initial).faults ≡ []
-  pub fits : (t : JavaType) → type_in (judged (declaring_constant final f.type s) f.initial).typed ≡ Some t → (is_subtype s.table t f.type ≡ true) × (is_some (value_at s.values f.place) ≡ true)
+  pub fits : (t : JavaType) → type_in (judged (declaring_constant final f.type s) f.initial).typed ≡ Some t → (is_assignable s.table t f.type ≡ true) × (is_some (value_at s.values f.place) ≡ true)
   pub absent : f.initial ≡ trees.Nil → is_some (value_at s.values f.place) ≡ true
 
 constant_there : (s : Scope) (fi : Bool) (w t : JavaType) (p : Place) (n : List ℕ) (e : Tree) → is_known w ≡ true → (judge p (on_maybe (declaration_rule (declaring_constant fi w s) (Constants fi) p n) (judged (declaring_constant fi w s) e).typed) (judged (declaring_constant fi w s) e).faults).faults ≡ []
-    → type_in (judged (declaring_constant fi w s) e).typed ≡ Some t → (is_subtype s.table t w ≡ true) × (is_some (value_at s.values p) ≡ true)
+    → type_in (judged (declaring_constant fi w s) e).typed ≡ Some t → (is_assignable s.table t w ≡ true) × (is_some (value_at s.values p) ≡ true)
 constant_there s fi w t p n e k f r =
     let D = declaring_constant fi w s in
     let v = on_maybe (declaration_rule D (Constants fi) p n) (judged D e).typed in
     let rule = kept p v (judged D e).faults f in
     go (is_known w) k (initial_fits D (Some t)) refl (is_some (value_at s.values p)) refl rule.0 (sym (on_given (declaration_rule D (Constants fi) p n) (judged D e).typed t r) ∙ rule.1)
   where
-    known : (b : Bool) → b ≡ true → (not b || is_subtype s.table t w) ≡ true → is_subtype s.table t w ≡ true
+    known : (b : Bool) → b ≡ true → (not b || is_assignable s.table t w) ≡ true → is_assignable s.table t w ≡ true
     known true k e = e
     known false k e = absurd (cc (k))
 
-    go : (a : Bool) → a ≡ true → (b : Bool) → initial_fits (declaring_constant fi w s) (Some t) ≡ b → (d : Bool) → is_some (value_at s.values p) ≡ d → (x : Typed) → (if a then ask b 35 (ask d 36 (ask (fi && rules.is_simple w) 37 fine)) else fine) ≡ Fits x → (is_subtype s.table t w ≡ true) × (is_some (value_at s.values p) ≡ true)
+    go : (a : Bool) → a ≡ true → (b : Bool) → initial_fits (declaring_constant fi w s) (Some t) ≡ b → (d : Bool) → is_some (value_at s.values p) ≡ d → (x : Typed) → (if a then ask b 35 (ask d 36 (ask (fi && rules.is_simple w) 37 fine)) else fine) ≡ Fits x → (is_assignable s.table t w ≡ true) × (is_some (value_at s.values p) ≡ true)
     go true l true q true z x e = (known (is_known w) k q, z)
     go true l true q false z x e = absurd (cc (e))
     go true l false q d z x e = absurd (cc (e))

@@ -4,22 +4,22 @@ use Rattle.std.specs.Prelude.{◌+ℤ◌, ◌-ℤ◌}
 use Rattle.std.specs.Int.Signed.{le_z}
 use Rattle.std.specs.List.{AllByRecursion}
 use Rattle.std.proofs.lemmas.Int.{ints}
-use Rattle.std.proofs.lemmas.Bool.{leb-true, and_parts}
+use Rattle.std.proofs.lemmas.Bool.{leb-true, ltb-true, and_parts}
 use Rattle.std.proofs.lemmas.Bool.Decides.{nat_tests}
 use Rattle.kr_space_layout.specs.Items.{integers_from, width_between, integers}
 use Rattle.kr_fin.specs.Document.{magnitude}
-use Rattle.kr_fin.specs.Shapes.{have, counts, ints as int_limits}
-use Rattle.kr_classes_table.specs.Numbers.{Bits32}
+use Rattle.kr_fin.specs.Shapes.{have, counts}
+use Rattle.kr_classes_table.specs.Numbers.{Width, half, is_within}
 use Rattle.kr_laws_safety.specs.Fits.{IsWithin}
 
-pub is_int : (z : ℤ) → have int_limits z ≡ true → IsWithin Bits32 z
-is_int (pos n) e = let h = leb-true n 2147483647 (and_parts (le_z int_limits.low (pos n)) (le_z (pos n) int_limits.high) e).1 in omega (arith, h)
-is_int (negsuc n) e = let h = leb-true n 2147483647 (and_parts (le_z int_limits.low (negsuc n)) (le_z (negsuc n) int_limits.high) e).0 in omega (arith, h)
+pub within_is : (w : Width) (z : ℤ) → is_within w z ≡ true → IsWithin w z
+within_is w (pos n) e = ltb-true n (half w) e
+within_is w (negsuc n) e = ltb-true n (half w) e
 
--- so many integers from there on are ints
-abbrev HasRoom : ℤ → ℕ → Type 0
-HasRoom (pos a) n = a + n ≤ 2147483648
-HasRoom (negsuc a) n = (a < 2147483648) × (n ≤ a + 2147483649)
+-- so many integers from there on are below a half
+abbrev HasRoom : ℕ → ℤ → ℕ → Type 0
+HasRoom half (pos a) n = a + n ≤ half
+HasRoom half (negsuc a) n = (a < half) × (n ≤ a + (half + 1))
 
 first_negative : negsuc zero +ℤ pos 1 ≡ pos zero
 first_negative = omega (arith, ints)
@@ -27,28 +27,28 @@ first_negative = omega (arith, ints)
 next_negative : (n : ℕ) → negsuc (suc n) +ℤ pos 1 ≡ negsuc n
 next_negative n = omega (arith, ints)
 
-ints_from : (z : ℤ) (n : ℕ) → HasRoom z n → AllByRecursion (IsWithin Bits32) (integers_from z n)
-ints_from z zero h = tt
-ints_from (pos a) (suc n) h = (omega (arith, h), ints_from (pos (a + 1)) n (omega (arith, h)))
-ints_from (negsuc zero) (suc n) h = (h.0, subst (λ (w : ℤ). AllByRecursion (IsWithin Bits32) (integers_from w n)) (sym first_negative) (ints_from (pos zero) n (omega (arith, h.1))))
-ints_from (negsuc (suc a)) (suc n) h = (h.0, subst (λ (w : ℤ). AllByRecursion (IsWithin Bits32) (integers_from w n)) (sym (next_negative a)) (ints_from (negsuc a) n (omega (arith, h.0), omega (arith, h.1))))
+ints_from : (w : Width) (h : ℕ) → half w ≡ h → (z : ℤ) (n : ℕ) → HasRoom h z n → AllByRecursion (IsWithin w) (integers_from z n)
+ints_from w h q z zero k = tt
+ints_from w h q (pos a) (suc n) k = (omega (arith, k, q), ints_from w h q (pos (a + 1)) n (omega (arith, k)))
+ints_from w h q (negsuc zero) (suc n) k = (omega (arith, k.0, q), subst (λ (x : ℤ). AllByRecursion (IsWithin w) (integers_from x n)) (sym first_negative) (ints_from w h q (pos zero) n (omega (arith, k.1))))
+ints_from w h q (negsuc (suc a)) (suc n) k = (omega (arith, k.0, q), subst (λ (x : ℤ). AllByRecursion (IsWithin w) (integers_from x n)) (sym (next_negative a)) (ints_from w h q (negsuc a) n (omega (arith, k.0), omega (arith, k.1))))
 
-none_room : (z : ℤ) → IsWithin Bits32 z → HasRoom z 0
-none_room (pos a) h = omega (arith, h)
-none_room (negsuc a) h = (h, omega arith)
+none_room : (w : Width) (h : ℕ) → half w ≡ h → (z : ℤ) → IsWithin w z → HasRoom h z 0
+none_room w h q (pos a) k = omega (arith, k, q)
+none_room w h q (negsuc a) k = (omega (arith, k, q), omega arith)
 
-some_room : (from to : ℤ) (m : ℕ) → IsWithin Bits32 from → IsWithin Bits32 to → (to -ℤ from) +ℤ pos 1 ≡ pos m → HasRoom from m
-some_room (pos a) (pos b) m h k e = omega (arith, ints, e, k)
-some_room (pos a) (negsuc b) m h k e = omega (arith, ints, e, h)
-some_room (negsuc a) (pos b) m h k e = (h, omega (arith, ints, e, k))
-some_room (negsuc a) (negsuc b) m h k e = (h, omega (arith, ints, e))
+some_room : (w : Width) (h : ℕ) → half w ≡ h → (from to : ℤ) (m : ℕ) → IsWithin w from → IsWithin w to → (to -ℤ from) +ℤ pos 1 ≡ pos m → HasRoom h from m
+some_room w h q (pos a) (pos b) m i k e = omega (arith, ints, e, k, q)
+some_room w h q (pos a) (negsuc b) m i k e = omega (arith, ints, e, i, q)
+some_room w h q (negsuc a) (pos b) m i k e = (omega (arith, i, q), omega (arith, ints, e, k, q))
+some_room w h q (negsuc a) (negsuc b) m i k e = (omega (arith, i, q), omega (arith, ints, e))
 
-pub range_ints : (from to : ℤ) → IsWithin Bits32 from → IsWithin Bits32 to → AllByRecursion (IsWithin Bits32) (integers from to)
-range_ints from to h k = ints_from from (width_between from to) (go ((to -ℤ from) +ℤ pos 1) refl)
+pub range_within : (w : Width) (from to : ℤ) → IsWithin w from → IsWithin w to → AllByRecursion (IsWithin w) (integers from to)
+range_within w from to i k = ints_from w (half w) refl from (width_between from to) (go ((to -ℤ from) +ℤ pos 1) refl)
   where
-    go : (x : ℤ) → (to -ℤ from) +ℤ pos 1 ≡ x → HasRoom from (magnitude x)
-    go (pos m) e = some_room from to m h k e
-    go (negsuc m) e = none_room from h
+    go : (x : ℤ) → (to -ℤ from) +ℤ pos 1 ≡ x → HasRoom (half w) from (magnitude x)
+    go (pos m) e = some_room w (half w) refl from to m i k e
+    go (negsuc m) e = none_room w (half w) refl from i
 
 -- an empty range has none
 below : (from to : ℤ) (m : ℕ) → le_z from to ≡ false → (to -ℤ from) +ℤ pos 1 ≡ pos m → m ≡ 0

@@ -50,6 +50,7 @@ result_written u e = go (is_void u)
 
 type_result : (s : Scope) (t : Tree) → IsResultType t → (judged s t).faults ≡ [] → is_result_type (written s t) ≡ true
 type_result s (trees.PrimitiveType p primitives.Int) h f = refl
+type_result s (trees.PrimitiveType p primitives.Long) h f = refl
 type_result s (trees.PrimitiveType p primitives.Boolean) h f = refl
 type_result s (trees.PrimitiveType p primitives.Void) h f = refl
 type_result s (trees.NamedType p n) h f = result_written (written s (trees.NamedType p n)) (type_variable s (trees.NamedType p n) h f)

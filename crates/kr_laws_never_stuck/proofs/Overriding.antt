@@ -2,8 +2,9 @@
 use Rattle.std.proofs.Common.{◌≡◌, refl, sym, ap, ◌∙◌, subst, inl, inr, ◌⊎◌, ℕ, Bool, true, false, List, [], ◌∷◌, ◌++◌}
 use Rattle.std.specs.Prelude.{Option, Some, None, map, flat_map, find, nat_eq, bytes_eq, not, ◌&&◌, option_to_list, if◌then◌else◌}
 use Rattle.std.proofs.lemmas.Bool.{eqb-true, and_parts, or_cases}
-use Rattle.kr_classes_table.specs.Types.{JavaType, NullType, ClassType, SetType, ListType, InferredType, is_same, is_reference}
-use Rattle.kr_classes_table.specs.Table.{Table, Class, Parameter, Method, table_of, class_at, own_methods, method_on, method_named, ancestors, line_of, is_among, is_below, is_subtype}
+use Rattle.kr_classes_table.specs.Numbers.{Bits32, Bits64}
+use Rattle.kr_classes_table.specs.Types.{JavaType, NumberType, NullType, ClassType, SetType, ListType, InferredType, is_same, is_reference}
+use Rattle.kr_classes_table.specs.Table.{Table, Class, Parameter, Method, table_of, class_at, own_methods, method_on, method_named, ancestors, line_of, is_among, is_below, is_assignable}
 use Rattle.kr_classes_table.specs.Rules.{break_if, repeated, same_types, overrides, result_fits}
 use Rattle.kr_classes_table.specs.Ancestors.{IsWhole}
 use Rattle.kr_classes_table.proofs.Tables.{table_law, unbroken as not_broken}
@@ -35,10 +36,12 @@ find_split {A} test (x ∷ xs) ys = go (test x) (find_split test xs ys)
 record Stands (t : Table) (k m : Method) : Type 0 where
   parameters : types_in k.parameters ≡ types_in m.parameters
   static : k.is_static ≡ m.is_static
-  result : is_subtype t k.result m.result ≡ true
+  result : is_assignable t k.result m.result ≡ true
 
-assignable_same : (t : Table) (s : JavaType) → is_subtype t s s ≡ true
+assignable_same : (t : Table) (s : JavaType) → is_assignable t s s ≡ true
 assignable_same t NullType = refl
+assignable_same t (NumberType Bits32) = refl
+assignable_same t (NumberType Bits64) = refl
 assignable_same t (ClassType c) = below_itself t c
 assignable_same t (SetType InferredType) = refl
 assignable_same t (SetType s) = type_same (SetType s)
@@ -57,12 +60,12 @@ static_same true b e = sym e
 static_same false false e = refl
 static_same false true e = absurd (cc (e))
 
-result_same : (t : Table) (s u : JavaType) → result_fits t s u ≡ true → is_subtype t s u ≡ true
-result_same t s u e = go (or_cases (is_same s u) (is_reference s && is_reference u && is_subtype t s u) e)
+result_same : (t : Table) (s u : JavaType) → result_fits t s u ≡ true → is_assignable t s u ≡ true
+result_same t s u e = go (or_cases (is_same s u) (is_reference s && is_reference u && is_assignable t s u) e)
   where
-    go : (is_same s u ≡ true) ⊎ ((is_reference s && is_reference u && is_subtype t s u) ≡ true) → is_subtype t s u ≡ true
-    go (inl h) = ap (is_subtype t s) (sym (same_type s u h)) ∙ assignable_same t s
-    go (inr h) = (and_parts (is_reference s && is_reference u) (is_subtype t s u) h).1
+    go : (is_same s u ≡ true) ⊎ ((is_reference s && is_reference u && is_assignable t s u) ≡ true) → is_assignable t s u ≡ true
+    go (inl h) = ap (is_assignable t s) (sym (same_type s u h)) ∙ assignable_same t s
+    go (inr h) = (and_parts (is_reference s && is_reference u) (is_assignable t s u) h).1
 
 not_false : (b : Bool) → not b ≡ false → b ≡ true
 not_false true e = refl
@@ -146,7 +149,7 @@ module _ (t : Table) (rules : Unbroken t) (whole : IsWhole t) where
           instance = k.2.static ∙ static;
           below = ap (λ (x : Table). is_below x d k.0.class) e ∙ there.0;
           parameters = k.2.parameters;
-          result = ap (λ (x : Table). is_subtype x k.0.result m.result) e ∙ k.2.result;
+          result = ap (λ (x : Table). is_assignable x k.0.result m.result) e ∙ k.2.result;
         },
       )
 

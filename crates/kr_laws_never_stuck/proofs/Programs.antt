@@ -32,7 +32,7 @@ use Rattle.kr_laws_never_stuck.proofs.Members.{member_of, statements_unbroken, I
 use Rattle.kr_laws_never_stuck.proofs.Initials.{expression_same, IsGoodField, field_good, declaring_constant, IsGoodConstant, constant_good}
 use Rattle.kr_value.specs.declared.value.Value.{Value}
 use Rattle.kr_laws_never_stuck.proofs.Evaluated.{IsConstantOf, constant_kept, AreKnown, evaluated_kept, Gives, IsAlone, all_known}
-use Rattle.kr_classes_table.specs.Constants.{constant_in, constant_only, constants_in, placed, in_order, evaluated, value_at, known_value, values_of}
+use Rattle.kr_classes_table.specs.Constants.{constant_in, constant_only, constants_in, placed, in_order, evaluated, is_constant, value_at, known_value, values_of}
 use Rattle.kr_classes_table.specs.Rules.{is_earlier}
 use Rattle.kr_laws_types.specs.Types.{HasVariables}
 use Rattle.kr_laws_types.specs.Expressions.{plain, IsTyped}
@@ -203,7 +203,7 @@ module _ (files : List Tree) (arrays : List JavaType) (shapes : AreFiles files) 
 
   gives : (c : ℕ) (d : Class) → class_at t.classes c ≡ Some d → (g : Field) → IsOneOf g d.fields → g.is_static ≡ true → Gives t follows.below g
   unfolding evaluated
-  gives c d q g i static known v k e = go (is_nil g.initial) refl
+  gives c d q g i static known v k m e = go (is_nil g.initial) refl
     where
       absent : (z : Tree) → z ≡ trees.Nil → evaluated t known g.class z ≡ Some v → ⊥
       absent z n e = cc (ap (evaluated t known g.class) (sym n) ∙ e)
@@ -214,7 +214,7 @@ module _ (files : List Tree) (arrays : List JavaType) (shapes : AreFiles files) 
           let z = good_constant c d q g i static in
           let x = constant_typed c d q g i static n in
           widened t follows.below [] x.type g.type v (z.fits x.type x.known).0
-          (evaluated_kept t follows.below known c (inside c g z.final) g.initial x.type v k (refl, refl, refl, refl) x.known (ap (λ (n : ℕ). evaluated t known n g.initial) (sym z.class) ∙ e))
+          (evaluated_kept t follows.below known c (inside c g z.final) g.initial x.type v k (refl, refl, refl, refl) x.known (ap (λ (n : ℕ). is_constant t known n g.initial) (sym z.class) ∙ m) (ap (λ (n : ℕ). evaluated t known n g.initial) (sym z.class) ∙ e))
 
   alone : (c : ℕ) (d : Class) → class_at t.classes c ≡ Some d → (g : Field) → IsOneOf g d.fields → IsAlone t follows.below g
   alone c d q g i h k same =

@@ -11,7 +11,7 @@ use Rattle.kr_lex.specs.Characters.{is_start, is_white, is_line_end, begins_char
 use Rattle.kr_lex.specs.Lexemes.{Lexeme}
 use Rattle.kr_lex.specs.Places.{line_after, column_after, place_after}
 use Rattle.kr_lex.specs.Spelling.{spelling}
-use Rattle.kr_lex.specs.Words.{IsName, IsToken, name, number, fixed}
+use Rattle.kr_lex.specs.Words.{IsName, IsToken, name, number, long_number, fixed}
 use Rattle.kr_lex.specs.ContractLines.{contract_spelling, head_of, IsContractToken}
 use Rattle.kr_lex.specs.Spells.{IsTokenHere, anywhere, within, token_behind, Reaches, here, gap, token, contract}
 use Rattle.kr_lex.specs.declared.kind.Kind.{Kind}
@@ -215,6 +215,7 @@ named_no_star inside kind text rest (anywhere t) i = of_token t.token
     of_token : IsToken kind text rest → star text ≡ 0
     of_token (name e h n) = no_star text rest h
     of_token (number e h n) = absurd (cc (e, i))
+    of_token (long_number e h n) = absurd (cc (e, i))
     of_token (fixed l e) = absurd (omega (arith, l, ap length (e ∙ ap spelling i)))
 named_no_star inside kind text rest (within b t) i = go t.one_of
   where

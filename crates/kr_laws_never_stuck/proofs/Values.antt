@@ -1,10 +1,12 @@
 -- The values that a document gives are of the types that their keys require.
 use Rattle.std.proofs.Common.{◌≡◌, ℕ, suc, ◌+◌, ◌<◌, ◌≤◌, ℤ, pos, negsuc, Bool, true, false, not, ◌||◌, cond, List, [], ◌∷◌, ◌++◌, length, map, Option, Some, None, refl, sym, ap, ◌∙◌, subst, arith}
-use Rattle.std.specs.Prelude.{unwrap_or}
+use Rattle.std.specs.Prelude.{◌&&◌, unwrap_or}
 use Rattle.std.specs.Int.Signed.{le_z}
 use Rattle.std.specs.List.{AllByRecursion, list_any}
-use Rattle.kr_classes_table.specs.Types.{JavaType, int_type, BooleanType, ClassType, is_same}
-use Rattle.kr_classes_table.specs.Table.{Table, is_subtype}
+use Rattle.std.proofs.lemmas.Bool.{and_parts}
+use Rattle.kr_classes_table.specs.Numbers.{Width, Bits32, is_within}
+use Rattle.kr_classes_table.specs.Types.{JavaType, NumberType, BooleanType, ClassType, is_same}
+use Rattle.kr_classes_table.specs.Table.{Table, is_assignable}
 use Rattle.kr_value.specs.declared.value.Value.TheVariants.{Int, Bool as Truth, Null}
 use Rattle.kr_mean.specs.Problem.{Problem, DomainItem, Domain, Plain, Objects, domain_at}
 use Rattle.kr_space_layout.specs.Items.{integers}
@@ -15,15 +17,13 @@ use Rattle.kr_fin.specs.declared.document.Item.TheVariants.{Number, Range, Truth
 use Rattle.kr_space_meaning.specs.Names.{Meant, NoReference, Unknown, meant}
 use Rattle.kr_space_meaning.specs.Names as names
 use Rattle.kr_space_meaning.specs.Bounds.{Setting, all_of, bound_number, given, object_number, width_for, meant_values, item_values, values_with, values_of, lengths_in, lengths_of, greatest, values_given}
-use Rattle.kr_space_meaning.specs.Faults.{meant_fits, fits, is_unfit}
+use Rattle.kr_space_meaning.specs.Faults.{meant_fits, number_fits, fits, is_unfit}
 use Rattle.kr_space_meaning.specs.Limits.{IsSmall, AreLengths}
 use Rattle.kr_space_meaning.proofs.Each.{each_of_both}
-use Rattle.kr_classes_table.specs.Numbers.{Bits32}
-use Rattle.kr_classes_table.specs.Operators.{number}
 use Rattle.kr_laws_safety.specs.Fits.{IsWithin}
 use Rattle.kr_laws_safety.specs.Domains.{class_type, IsDomainOf}
 use Rattle.kr_laws_safety.proofs.Heaps.{same_type}
-use Rattle.kr_laws_never_stuck.proofs.Integers.{is_int, range_ints, none_between, IsShort, is_short, range_short}
+use Rattle.kr_laws_never_stuck.proofs.Integers.{within_is, range_within, none_between, IsShort, is_short, range_short}
 
 -- ---- lengths
 
@@ -74,21 +74,30 @@ module _ (problem : Problem) (setting : Setting) (has : HasDomains problem setti
   both t [] ys h k = k
   both t (x ∷ xs) ys h k = (h.0, both t xs ys h.1 k)
 
-  integers_of : (t : JavaType) (zs : List ℤ) → t ≡ int_type → AllByRecursion (IsWithin Bits32) zs → IsDomainOf problem t (map (λ z. Plain (number Bits32 z)) zs)
-  integers_of t [] e h = tt
-  integers_of t (z ∷ zs) e h = ((e, h.0), integers_of t zs e h.1)
+  integers_of : (t : JavaType) (w : Width) (zs : List ℤ) → t ≡ NumberType w → AllByRecursion (IsWithin w) zs → IsDomainOf problem t (map (λ z. Plain (Int z)) zs)
+  integers_of t w [] e h = tt
+  integers_of t w (z ∷ zs) e h = ((w, e, h.0), integers_of t w zs e h.1)
 
-  objects_of : (t u : JavaType) (d : ℕ) → d < length problem.domains → class_type problem.program (domain_at problem d).class ≡ u → is_subtype setting.table u t ≡ true → IsDomainOf problem t (Objects d ∷ [])
-  objects_of t u d l c a = ((l, ap (λ (x : Table). is_subtype x (class_type problem.program (domain_at problem d).class) t) has.table ∙ (ap (λ (x : JavaType). is_subtype setting.table x t) c ∙ a)), tt)
+  -- a number that fits is of a width
+  number_of : (t : JavaType) (z : ℤ) → number_fits t z ≡ true → (w : Width) × (t ≡ NumberType w) × IsWithin w z
+  number_of (NumberType w) z e = (w, refl, within_is w z e)
+  number_of _ z e = absurd (cc (e))
 
-  named_of : (t : JavaType) (name : List ℕ) (c : ℕ) → is_subtype setting.table (ClassType c) t ≡ true → IsDomainOf problem t (all_of (object_number 0 setting.objects name c))
+  ends_of : (t : JavaType) (from to : ℤ) → (number_fits t from && number_fits t to) ≡ true → (w : Width) × (t ≡ NumberType w) × IsWithin w from × IsWithin w to
+  ends_of (NumberType w) from to e = let r = and_parts (is_within w from) (is_within w to) e in (w, refl, within_is w from r.0, within_is w to r.1)
+  ends_of _ from to e = absurd (cc (e))
+
+  objects_of : (t u : JavaType) (d : ℕ) → d < length problem.domains → class_type problem.program (domain_at problem d).class ≡ u → is_assignable setting.table u t ≡ true → IsDomainOf problem t (Objects d ∷ [])
+  objects_of t u d l c a = ((l, ap (λ (x : Table). is_assignable x (class_type problem.program (domain_at problem d).class) t) has.table ∙ (ap (λ (x : JavaType). is_assignable setting.table x t) c ∙ a)), tt)
+
+  named_of : (t : JavaType) (name : List ℕ) (c : ℕ) → is_assignable setting.table (ClassType c) t ≡ true → IsDomainOf problem t (all_of (object_number 0 setting.objects name c))
   named_of t name c a = go (object_number 0 setting.objects name c) refl
     where
       go : (o : Option ℕ) → object_number 0 setting.objects name c ≡ o → IsDomainOf problem t (all_of o)
       go None e = tt
       go (Some d) e = let h = has.objects name c d e in objects_of t (ClassType c) d h.0 h.1 a
 
-  arrays_of : (t u : JavaType) (d : ℕ) (bounds : List (JavaType × ArrayBound)) → AreArrays problem d bounds → is_subtype setting.table u t ≡ true → IsDomainOf problem t (all_of (bound_number d bounds u))
+  arrays_of : (t u : JavaType) (d : ℕ) (bounds : List (JavaType × ArrayBound)) → AreArrays problem d bounds → is_assignable setting.table u t ≡ true → IsDomainOf problem t (all_of (bound_number d bounds u))
   arrays_of t u d [] h a = tt
   arrays_of t u d (x ∷ bounds) h a = go (is_same x.0 u) refl (arrays_of t u (d + 1) bounds h.1 a)
     where
@@ -104,11 +113,11 @@ module _ (problem : Problem) (setting : Setting) (has : HasDomains problem setti
 
   item_of : (t : JavaType) (item : FinItem) → fits setting.table setting.document t item ≡ true → IsSmall item → IsDomainOf problem t (item_values setting (width_for (Some t)) item)
   unfolding width_for
-  item_of t (Number z) e s = ((same_type t int_type e, is_int z s), tt)
+  item_of t (Number z) e s = (number_of t z e, tt)
   item_of t (Range from to) e s = go (le_z from to) refl e
     where
-      go : (b : Bool) → le_z from to ≡ b → (not b || is_same t int_type) ≡ true → IsDomainOf problem t (map (λ z. Plain (Int z)) (integers from to))
-      go true q e = integers_of t (integers from to) (same_type t int_type e) (range_ints from to (is_int from s.0) (is_int to s.1))
+      go : (b : Bool) → le_z from to ≡ b → (not b || (number_fits t from && number_fits t to)) ≡ true → IsDomainOf problem t (map (λ z. Plain (Int z)) (integers from to))
+      go true q e = let r = ends_of t from to e in integers_of t r.0 (integers from to) r.1 (range_within r.0 from to r.2 r.3)
       go false q e = subst (λ (zs : List ℤ). IsDomainOf problem t (map (λ z. Plain (Int z)) zs)) (sym (none_between from to q)) tt
   item_of t (FinTruth b) e s = (same_type t BooleanType e, tt)
   item_of t (Name n) e s = meant_of t n (meant setting.table.headings setting.document n) e

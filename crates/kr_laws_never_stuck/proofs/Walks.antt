@@ -28,6 +28,7 @@ use Rattle.kr_laws_types.proofs.Typed.{front_none, back_none, below_none}
 -- expressions leave their scope
 pub shaped_after : (s : Scope) (e : Tree) → Shaped false e → after s e ≡ s
 shaped_after s (trees.Number p n) h = refl
+shaped_after s (trees.LongNumber p n) h = refl
 shaped_after s (trees.Truth p b) h = refl
 shaped_after s (trees.Null p) h = refl
 shaped_after s (trees.This p) h = refl
@@ -114,6 +115,7 @@ module _ (arrays : List JavaType) (hs : List Heading) where
 
     pub ensuring_code : (sort : Sort) (u : Scope) (e : Tree) → u.table.headings ≡ hs → Shape sort e → Numbered e → Gs u e → Ks u e → IsCode arrays olds sort (plain u) e
     ensuring_code (Expression m) u (trees.Number p n) q h a g k = tt
+    ensuring_code (Expression m) u (trees.LongNumber p n) q h a g k = tt
     ensuring_code (Expression m) u (trees.Truth p b) q h a g k = tt
     ensuring_code (Expression m) u (trees.Null p) q h a g k = tt
     ensuring_code (Expression m) u (trees.This p) q h a g k = tt
@@ -237,6 +239,7 @@ module _ (arrays : List JavaType) (hs : List Heading) where
   pub old_nodes : (sort : Sort) (u : Scope) (r : Role) (e : Tree) → IsNamed u → is_code u.part ≡ false → u.table.headings ≡ hs → Shape sort e → Numbered e → J r u e ≡ [] → Gs u e
   unfolding judged
   old_nodes (Expression m) u r (trees.Number p n) v c q h a f = (tt, tt)
+  old_nodes (Expression m) u r (trees.LongNumber p n) v c q h a f = (tt, tt)
   old_nodes (Expression m) u r (trees.Truth p b) v c q h a f = (tt, tt)
   old_nodes (Expression m) u r (trees.Null p) v c q h a f = (tt, tt)
   old_nodes (Expression m) u r (trees.This p) v c q h a f = (tt, tt)

@@ -8,7 +8,7 @@ use Rattle.kr_ast.specs.Tree as trees
 use Rattle.kr_ast.specs.Tree.{Tree}
 use Rattle.kr_classes_table.specs.Nodes.{nodes}
 use Rattle.kr_parse_grammar.specs.declared.value.Modifiers.{Modifiers}
-use Rattle.kr_parse_grammar.specs.Grammar.{Class, at, Modified, nothing, access, static, final, overriding, Der, absent, present, end, next, last, comma, simple_name, qualified_name, class_type, generic_type, array_type, primitive_type, reference_type, number, truth, falsity, null, this, result_value, old_value, parentheses, variable, call, super_call, creation, generic_creation, diamond_creation, primitive_array, class_array, field_access, method_call, array_access, primary, stepped_behind, postfix, complement, primitive_cast, reference_cast, unsigned, sign, stepped_before, operand, binary, instance_of, operation, choice, assign, compound, conditional, assignment, declarator, initialised, local, final_local, assigns, steps, is_stepped, invokes, evaluated, local_statement, statement, block, empty, evaluate, return, break, continue, if_then, if_else, while, do_while, for, for_local, for_expressions, parameter, final_parameter, void, result, calls_super, nested, field, precondition, postcondition, method, constructor, no_member, skip_member, member, not_extended, extended, class, no_class, skip_class, another, Dotted, no_more, dot, Imports, no_import, import, Heading, unpackaged, packaged, Derives}
+use Rattle.kr_parse_grammar.specs.Grammar.{Class, at, Modified, nothing, access, static, final, overriding, Der, absent, present, end, next, last, comma, simple_name, qualified_name, class_type, generic_type, array_type, primitive_type, reference_type, number, long_number, truth, falsity, null, this, result_value, old_value, parentheses, variable, call, super_call, creation, generic_creation, diamond_creation, primitive_array, class_array, field_access, method_call, array_access, primary, stepped_behind, postfix, complement, primitive_cast, reference_cast, unsigned, sign, stepped_before, operand, binary, instance_of, operation, choice, assign, compound, conditional, assignment, declarator, initialised, local, final_local, assigns, steps, is_stepped, invokes, evaluated, local_statement, statement, block, empty, evaluate, return, break, continue, if_then, if_else, while, do_while, for, for_local, for_expressions, parameter, final_parameter, void, result, calls_super, nested, field, precondition, postcondition, method, constructor, no_member, skip_member, member, not_extended, extended, class, no_class, skip_class, another, Dotted, no_more, dot, Imports, no_import, import, Heading, unpackaged, packaged, Derives}
 
 module _ (declared : Place → List ℕ → ℕ) (held : Place → ℕ) where
   -- ---- nodes
@@ -84,6 +84,7 @@ module _ (declared : Place → List ℕ → ℕ) (held : Place → ℕ) where
   less (reference_type d) = less d
   -- primary expressions
   less (number _ _) = omega arith
+  less (long_number _ _) = omega arith
   less (truth _ _) = omega arith
   less (falsity _ _) = omega arith
   less (null _ _) = omega arith

@@ -3,7 +3,7 @@ use Rattle.std.specs.Prelude.{◌≡◌, ℕ, true, false, List, Some, None}
 use Rattle.kr_ast.specs.Tree.{Tree}
 use Rattle.kr_value.specs.declared.object.Class.TheVariants.{Object}
 use Rattle.kr_classes_table.specs.Types.{JavaType}
-use Rattle.kr_classes_table.specs.Table.{Field, Method, table_of, line_of, is_below, is_subtype, field_named, method_named}
+use Rattle.kr_classes_table.specs.Table.{Field, Method, table_of, line_of, is_below, is_assignable, field_named, method_named}
 use Rattle.kr_classes_table.specs.Rules.{class_fault}
 use Rattle.kr_mean.specs.Program.{Program, program_with, overriding}
 use Rattle.kr_laws_safety.specs.Steps.{HasField}
@@ -23,7 +23,7 @@ pub record IsOverrider (program : Program) (d : ℕ) (m k : Method) : Type 0 whe
   pub instance : k.is_static ≡ false
   pub below : is_below program.table d k.class ≡ true
   pub parameters : types_in k.parameters ≡ types_in m.parameters
-  pub result : is_subtype program.table k.result m.result ≡ true
+  pub result : is_assignable program.table k.result m.result ≡ true
 
 -- Ancestors of ancestors are ancestors, and lines of classes are whole. A field is at one place of all objects that have it,
 -- and a method is overridden only by methods that may replace it.

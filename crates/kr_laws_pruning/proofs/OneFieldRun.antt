@@ -9,7 +9,7 @@ use Rattle.kr_mean.specs.declared.kind.Stop.TheVariants.{Stuck}
 use Rattle.kr_mean.specs.Heaps.{distinct, value_at, heap_of, walk}
 use Rattle.kr_ast.specs.declared.node.BinaryOperator.{BinaryOperator}
 use Rattle.kr_ast.specs.declared.node.BinaryOperator.TheVariants.{Less, LessOrEqual, Greater, GreaterOrEqual, Equal, NotEqual}
-use Rattle.kr_classes_table.specs.Numbers.{Width, Bits32}
+use Rattle.kr_classes_table.specs.Numbers.{Width}
 use Rattle.kr_mean.specs.Operators.{said, is_comparison, holds_of, operated, binary_operation}
 use Rattle.kr_classes_table.specs.Table.{table_of}
 use Rattle.kr_classes_table.specs.Constants.{values_of}
@@ -67,14 +67,14 @@ looks_at_both width Equal e m n = refl
 looks_at_both width NotEqual e m n = refl
 looks_at_both width _ e m n = absurd (cc (e))
 
-both_operands : (width : Width) (test : BinaryOperator) → is_comparison test ≡ true → (m n : Run Value) → binary width test m n ≡ (m >>= (λ v. n >>= (λ w. say (answered width test v w))))
-both_operands width test e m n = looks_at_both width test e m n ∙ ap (λ (f : Value → Value → Result Value Stop). m >>= (λ v. n >>= (λ w. say (f v w)))) (answers_all width test e)
+both_operands : (test : BinaryOperator) → is_comparison test ≡ true → (width : Width) (m n : Run Value) → binary width test m n ≡ (m >>= (λ v. n >>= (λ w. say (answered width test v w))))
+both_operands test e width m n = looks_at_both width test e m n ∙ ap (λ (f : Value → Value → Result Value Stop). m >>= (λ v. n >>= (λ w. say (f v w)))) (answers_all width test e)
 
 -- `this.repOk()` answers the comparison, for six units, and reads the field
 rep_ok_is : (form : Form) (i : ℕ) (z : ℤ) → value_at (problem_of form) (0 ∷ i ∷ []) 1 ≡ Int z
     → value (problem_of form).program (class_scope (problem_of form).program 0) rep_ok (start (problem_of form) (0 ∷ i ∷ [])) ≡ record { said = Ok (Truth (says form (Int z))); after = record (start (problem_of form) (0 ∷ i ∷ [])) { fuel = form.spare }; reads = At 0 (Field 0) ∷ [] }
 unfolding table_of values_of judged heap_of bind eval exec value
-rep_ok_is form i z v = rw (both_operands Bits32 form.test form.compares, found form.field_name, found form.field_name, v, small_is form.number form.small) refl
+rep_ok_is form i z v = rw (both_operands form.test form.compares, found form.field_name, found form.field_name, v, small_is form.number form.small) refl
 
 -- the run when a condition gives this
 run_for : State → Bool → Outcome Bool

@@ -2,6 +2,7 @@
 use Rattle.std.proofs.Common.{◌≡◌, ℕ, zero, suc, inl, inr, Bool, true, false, List, [], ◌∷◌, ◌++◌, length, Option, Some, None, refl, subst}
 use Rattle.std.specs.Prelude.{ℤ, pos, flat_map, map, codes, bytes_eq, option_and_then, option_to_list, if◌then◌else◌}
 use Rattle.kr_base.specs.declared.place.Place.{Place}
+use Rattle.kr_ast.specs.declared.node.UnaryOperator.TheVariants.{Plus}
 use Rattle.kr_ast.specs.declared.node.BinaryOperator.{BinaryOperator}
 use Rattle.kr_ast.specs.declared.node.BinaryOperator.TheVariants.{And, Or}
 use Rattle.kr_ast.specs.Tree as trees
@@ -14,7 +15,7 @@ use Rattle.kr_value.specs.declared.object.Spot.TheVariants.{Field as FieldSpot, 
 use Rattle.kr_classes_table.specs.Types.{JavaType, NumberType, BooleanType, NullType, VoidType, ClassType, ArrayType, SetType, ListType, InferredType, UnknownType, AppliedType, is_void}
 use Rattle.kr_classes_table.specs.Table.{Field, Method, Constructor, items, fields_of, line_of, method_named}
 use Rattle.kr_classes_table.specs.Constants.{constant_in, constant_of, value_at}
-use Rattle.kr_classes_table.specs.Numbers.{Width, Bits32, wrap}
+use Rattle.kr_classes_table.specs.Numbers.{Width, Bits32, Bits64, wrap}
 use Rattle.kr_types_meaning.specs.Scopes.{Scope, Meant, LocalName, FieldName, NoName, written, after, meant, class_before, static_only, method_meant, bind_local as with_local}
 use Rattle.kr_mean.specs.declared.kind.Kind.TheVariants.{NullPointerException, ClassCastException, NoReturn}
 use Rattle.kr_mean.specs.declared.kind.Stop.{Stop}
@@ -24,10 +25,10 @@ use Rattle.kr_mean.specs.Steps.{Run, say, give, stop, given, not_null, ◌>>=◌
 use Rattle.kr_mean.specs.declared.operations.BinaryOperation.{BinaryOperation}
 use Rattle.kr_mean.specs.declared.operations.UnaryOperation.{UnaryOperation}
 use Rattle.kr_mean.specs.declared.operations.StepOperation.{StepOperation}
-use Rattle.kr_mean.specs.Operators.{operated, operated_alone, binary_operation, unary_operation, step_operation, step_binary, gives_old}
+use Rattle.kr_mean.specs.Operators.{operated, operated_alone, binary_operation, compound_operation, unary_operation, step_operation, step_binary, gives_old}
 use Rattle.kr_mean.specs.declared.flow.Flow.{Flow}
 use Rattle.kr_mean.specs.declared.flow.Flow.TheVariants.{Next, Broke, Continued, Left, Gave}
-use Rattle.kr_mean.specs.Meaning.{Parts, Target, LocalTarget, OwnField, FieldOf, ElementOf, NoTarget, Change, then_on, then_round, then_update, returned, completed, choose, values_of, all, updates, condition, rounds, constant, read_name, access, typed_method, run_body, run_method, run_chosen, own_call, called, method_call, super_method, super_arguments, initialised, all_initialised, constructed_by, constructed, create, create_array, target_of, assigned, changed, compound, change_from, stepped, binary, cast, is_primitive, instance, value_of, initial_value, declared, all_declared, declaring_locals, flow_of, statement, spent, parts_within, eval, exec, width_at, width_of}
+use Rattle.kr_mean.specs.Meaning.{Parts, Target, LocalTarget, OwnField, FieldOf, ElementOf, NoTarget, Change, then_on, then_round, then_update, returned, completed, choose, values_of, all, updates, condition, rounds, constant, read_name, access, typed_method, run_body, run_method, run_chosen, own_call, called, method_call, super_method, super_arguments, initialised, all_initialised, constructed_by, constructed, create, create_array, target_of, assigned, changed, compound, change_from, stepped, binary, cast, is_primitive, instance, value_of, initial_value, declared, all_declared, declaring_locals, flow_of, statement, spent, parts_within, eval, exec, primitive_cast, width_at, width_of, operand_width}
 use Rattle.kr_mean.specs.Code.{Node, code, code_of_all, code_of_method, code_of_constructor, code_of_class, overriders, runnable, runnable_behind, methods_run, classes_run, code_run}
 use Rattle.kr_mean.specs.Purity.{IsOneOf, written_by}
 use Rattle.kr_laws_runs.proofs.Overriders.{overrider_in}
@@ -263,6 +264,10 @@ module _ (program : Program) (MayStore : Field → Type 0) (MayPut : JavaType �
       go true = l.gives_ l.R v w r
       go false = l.stops l.R (Trapped ClassCastException)
 
+  converts : (t : JavaType) (m m' : Run Value) → l.Rel l.R m m' → l.Rel l.R (primitive_cast t m) (primitive_cast t m')
+  converts (NumberType w) m m' p = l.binds _ _ _ _ _ _ p (λ v v' r. l.operates_alone (unary_operation w Plus) v v' r)
+  converts _ m m' p = p
+
   instances : (t : JavaType) (c d : Option Class) → d ≡ c → l.Rel l.R (give (instance program t c)) (give (instance program t d))
   instances t None d e = rw e (l.gives_ l.R _ _ (l.truths false))
   instances t (Some c) d e = rw e (l.gives_ l.R _ _ (l.truths (is_of_type program t c)))
@@ -485,12 +490,13 @@ module _ (program : Program) (MayStore : Field → Type 0) (MayPut : JavaType �
     classes_coded node h =
         all_parts Q (code_of_class program) (classes_run program node.scope node.tree) (all_back Q (flat_map (code_of_method program) (methods_run program node.scope node.tree)) (flat_map (code_of_class program) (classes_run program node.scope node.tree)) (closed.runs node h))
 
-    casts_by : (s : Scope) (t e : Tree) → Coded s e → (b : Bool) → l.Rel l.R (if b then p.value s e else (p.value s e >>= (λ v. class_or_null v >>= cast program (written s t) v))) (if b then p'.value s e else (p'.value s e >>= (λ v. class_or_null v >>= cast program (written s t) v)))
-    casts_by s t e h true = q.value s e h
+    casts_by : (s : Scope) (t e : Tree) → Coded s e → (b : Bool) → l.Rel l.R (if b then primitive_cast (written s t) (p.value s e) else (p.value s e >>= (λ v. class_or_null v >>= cast program (written s t) v))) (if b then primitive_cast (written s t) (p'.value s e) else (p'.value s e >>= (λ v. class_or_null v >>= cast program (written s t) v)))
+    casts_by s t e h true = converts (written s t) _ _ (q.value s e h)
     casts_by s t e h false = l.binds _ _ _ _ _ _ (q.value s e h) (λ v w r. l.binds _ _ _ _ _ _ (l.classes v w r) (λ c d i. casts (written s t) v w c d r i))
 
     pub values : RunsAlike l.R (value_of program p) (value_of program p')
     values s (trees.Number _ n) h = l.gives_ l.R _ _ (l.ints (wrap Bits32 (pos n)))
+    values s (trees.LongNumber _ n) h = l.gives_ l.R _ _ (l.ints (wrap Bits64 (pos n)))
     values s (trees.Truth _ b) h = l.gives_ l.R _ _ (l.truths b)
     values s (trees.Null _) h = l.gives_ l.R _ _ l.nulls
     values s (trees.This _) h = l.gets_this
@@ -503,7 +509,7 @@ module _ (program : Program) (MayStore : Field → Type 0) (MayPut : JavaType �
         l.binds _ _ _ _ _ _ l.gets_this (λ o o' k. l.binds _ _ _ _ _ _ (valuess s (items es) (each_item s es h.1)) (λ vs ws u. runs_method o o' vs ws (super_method s n) (methods_coded (record { scope = s; tree = trees.SuperCall r n es }) h.0) k u))
     values s (trees.ObjectCreation r t es) h = l.binds _ _ _ _ _ _ (valuess s (items es) (each_item s es h.1)) (λ vs ws u. creates (written s t) (classes_coded (record { scope = s; tree = trees.ObjectCreation r t es }) h.0) vs ws u)
     values s (trees.ArrayCreation _ t e) h = l.binds _ _ _ _ _ _ (q.value s e h.1) (λ v w r. l.makes_array (written s t) v w r)
-    values s (trees.Unary _ o e) h = l.binds _ _ _ _ _ _ (q.value s e h.1) (λ v w r. l.operates_alone (unary_operation (width_at s e) o) v w r)
+    values s (trees.Unary _ o e) h = l.binds _ _ _ _ _ _ (q.value s e h.1) (λ v w r. l.operates_alone (unary_operation (operand_width s o e) o) v w r)
     values s (trees.Step r o e) h = let c = step_operation (width_at s e) o in changeds s (target_of s e) (target_coded s e h.1) (closed.writes (record { scope = s; tree = trees.Step r o e }) h.0) (stepped c) (stepped c) (steps_alike c)
     values s (trees.Binary _ o a b) h = binaries (width_of s o a b) o _ _ _ _ (q.value s a (all_front Q (code s a) (code s b) h.1)) (q.value s b (all_back Q (code s a) (code s b) h.1))
     values s (trees.InstanceOf _ e t) h = l.binds _ _ _ _ _ _ (q.value s e h.1) (λ v w r. l.binds _ _ _ _ _ _ (l.classes v w r) (λ c d i. instances (written s t) c d i))
@@ -514,7 +520,7 @@ module _ (program : Program) (MayStore : Field → Type 0) (MayPut : JavaType �
     values s (trees.Assignment r a e) h =
         assigneds s (target_of s a) (target_coded s a (all_front Q (code s a) (code s e) h.1)) (closed.writes (record { scope = s; tree = trees.Assignment r a e }) h.0) _ _ (q.value s e (all_back Q (code s a) (code s e) h.1))
     values s (trees.CompoundAssignment r o a e) h =
-        changeds s (target_of s a) (target_coded s a (all_front Q (code s a) (code s e) h.1)) (closed.writes (record { scope = s; tree = trees.CompoundAssignment r o a e }) h.0) _ _ (compounds (binary_operation (width_of s o a e) o) _ _ (q.value s e (all_back Q (code s a) (code s e) h.1)))
+        changeds s (target_of s a) (target_coded s a (all_front Q (code s a) (code s e) h.1)) (closed.writes (record { scope = s; tree = trees.CompoundAssignment r o a e }) h.0) _ _ (compounds (compound_operation (width_at s a) (width_of s o a e) o) _ _ (q.value s e (all_back Q (code s a) (code s e) h.1)))
     values s (trees.Result _) h = l.gets_result
     values s (trees.Old r e) h = l.gets_old r
     values s _ h = l.stops l.R Stuck

@@ -8,7 +8,7 @@ use Rattle.kr_value.specs.declared.value.Value.{Value}
 use Rattle.kr_value.specs.declared.value.Value.TheVariants.{Null, Ref as Reference}
 use Rattle.kr_value.specs.declared.object.Class.{Class}
 use Rattle.kr_classes_table.specs.Types.{JavaType, ClassType, is_void, is_known}
-use Rattle.kr_classes_table.specs.Table.{Table, Parameter, Method, items, method_named, is_subtype}
+use Rattle.kr_classes_table.specs.Table.{Table, Parameter, Method, items, method_named, is_assignable}
 use Rattle.kr_types_meaning.specs.Scopes.{Scope, Local, after}
 use Rattle.kr_types_meaning.specs.Rules as rules
 use Rattle.kr_types_meaning.specs.Rules.{Typed, Values, Untyped, Judgement, takes, arguments_fit}
@@ -67,7 +67,7 @@ joined_is Untyped y ts e = absurd (cc (e))
 -- as many arguments as parameters, each of which takes its argument
 abbrev pub Fit : Table → List JavaType → List JavaType → Type 0
 Fit table [] [] = Unit {0}
-Fit table (a ∷ more) (t ∷ ts) = (is_subtype table a t ≡ true) × Fit table more ts
+Fit table (a ∷ more) (t ∷ ts) = (is_assignable table a t ≡ true) × Fit table more ts
 Fit table _ _ = ⊥
 
 pub arguments_are : (s : Scope) (ts : List JavaType) (ps : List Parameter) → AreAllVariables (types_in ps) → arguments_fit s ts ps ≡ true → Fit s.table ts (types_in ps)
@@ -76,7 +76,7 @@ arguments_are s (a ∷ more) (p ∷ ps) v e =
     let h = Rattle.std.proofs.lemmas.Bool.and_parts (takes s p.type a) (arguments_fit s more ps) e in
     (taken (is_known p.type) (variable_known p.type v.0) h.0, arguments_are s more ps v.1 h.1)
   where
-    taken : (b : Bool) → b ≡ true → (not b || is_subtype s.table a p.type) ≡ true → is_subtype s.table a p.type ≡ true
+    taken : (b : Bool) → b ≡ true → (not b || is_assignable s.table a p.type) ≡ true → is_assignable s.table a p.type ≡ true
     taken true k e = e
     taken false k e = absurd (cc (k))
 arguments_are s [] (p ∷ ps) v e = absurd (cc (e))
@@ -189,7 +189,7 @@ module _ (program : Program) (fixed : Fixed) (facts : IsTypedProgram program) (p
   overridden_run types this ls c n m o vs class e static seen j =
       let d = class_below program (type_at types seen.0) class c seen.4 seen.3 in
       let k = facts.overridden c n m d.0 e static d.3 in
-      let i : IsOf program.table types (ClassType k.0.class) (Reference seen.0) = (seen.2, ap (λ (t : JavaType). is_subtype program.table t (ClassType k.0.class)) d.2 ∙ k.1.below) in
+      let i : IsOf program.table types (ClassType k.0.class) (Reference seen.0) = (seen.2, ap (λ (t : JavaType). is_assignable program.table t (ClassType k.0.class)) d.2 ∙ k.1.below) in
       let this' = subst (λ (b : Bool). IsThis program.table types (if b then None else Some k.0.class) o) (sym k.1.instance) (seen.0, seen.1, i) in
       subst (λ (x : Option Method). Safe program fixed types this ls (run_method program p o vs x) (GivesAs program ls m.result)) (sym (ap (overriding program m) d.1 ∙ k.1.found))
       (safe_as_result program fixed facts.below types this ls (run_method program p o vs (Some k.0)) k.0.result m.result k.1.result (method_run types this ls k.0 o vs k.1.method this' (subst (λ (ts : List JavaType). AreOf program.table types ts vs) (sym k.1.parameters) j)))

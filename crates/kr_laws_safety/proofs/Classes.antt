@@ -6,8 +6,9 @@ use Rattle.kr_value.specs.declared.value.Value.TheVariants.{Int, Bool as Truth, 
 use Rattle.kr_value.specs.declared.object.Class.{Class}
 use Rattle.kr_value.specs.declared.object.Class.TheVariants.{Object, Array, Set, List as ListClass}
 use Rattle.kr_value.specs.declared.object.Spot.TheVariants.{Length}
+use Rattle.kr_classes_table.specs.Numbers.{Bits32}
 use Rattle.kr_classes_table.specs.Types.{JavaType, int_type, BooleanType, VoidType, ClassType, ArrayType, SetType, ListType, InferredType, is_same, is_reference}
-use Rattle.kr_classes_table.specs.Table.{is_below, is_subtype}
+use Rattle.kr_classes_table.specs.Table.{is_below, is_assignable}
 use Rattle.kr_mean.specs.declared.kind.Kind.TheVariants.{NullPointerException, ClassCastException}
 use Rattle.kr_mean.specs.declared.kind.Stop.TheVariants.{Trapped, Stuck}
 use Rattle.kr_mean.specs.Program.{Program, is_array_of, is_of_type}
@@ -25,10 +26,10 @@ use Rattle.kr_laws_safety.proofs.Glue.{safe_next}
 
 -- an object of the class that is seen
 abbrev pub IsSeenAs : Program → List JavaType → JavaType → Value → Class → Type 0
-IsSeenAs program types t v class = (o : ℕ) × (v ≡ Reference o) × (o < length types) × (is_subtype program.table (type_at types o) t ≡ true) × IsClassOf program (type_at types o) class
+IsSeenAs program types t v class = (o : ℕ) × (v ≡ Reference o) × (o < length types) × (is_assignable program.table (type_at types o) t ≡ true) × IsClassOf program (type_at types o) class
 
 -- of a class or one below it
-pub class_below : (program : Program) (u : JavaType) (class : Class) (c : ℕ) → IsClassOf program u class → is_subtype program.table u (ClassType c) ≡ true → (d : ℕ) × (class ≡ Object d) × (u ≡ ClassType d) × (is_below program.table d c ≡ true)
+pub class_below : (program : Program) (u : JavaType) (class : Class) (c : ℕ) → IsClassOf program u class → is_assignable program.table u (ClassType c) ≡ true → (d : ℕ) × (class ≡ Object d) × (u ≡ ClassType d) × (is_below program.table d c ≡ true)
 class_below program (ClassType d) class c h e = (d, h, refl, e)
 class_below program (ArrayType t) class c h e = absurd (cc (e))
 class_below program (SetType InferredType) class c h e = absurd (cc (e))
@@ -37,7 +38,7 @@ class_below program (ListType InferredType) class c h e = absurd (cc (e))
 class_below program (ListType t) class c h e = absurd (cc (e))
 class_below program _ class c h e = absurd h
 
-pub array_class : (program : Program) (u : JavaType) (class : Class) (t : JavaType) → IsClassOf program u class → is_subtype program.table u (ArrayType t) ≡ true → is_array_of program t class ≡ true
+pub array_class : (program : Program) (u : JavaType) (class : Class) (t : JavaType) → IsClassOf program u class → is_assignable program.table u (ArrayType t) ≡ true → is_array_of program t class ≡ true
 array_class program (ClassType d) class t h e = absurd (cc (e))
 array_class program (ArrayType a) class t h e = subst (λ (x : JavaType). OfArray x) (same_type (ArrayType a) (ArrayType t) e) h
   where
@@ -51,7 +52,7 @@ array_class program (ListType a) class t h e = absurd (cc (e))
 array_class program _ class t h e = absurd h
 
 -- a cast that the object's class passes
-pub type_passed : (program : Program) (u : JavaType) (class : Class) (to : JavaType) → IsClassOf program u class → is_of_type program to class ≡ true → is_subtype program.table u to ≡ true
+pub type_passed : (program : Program) (u : JavaType) (class : Class) (to : JavaType) → IsClassOf program u class → is_of_type program to class ≡ true → is_assignable program.table u to ≡ true
 type_passed program (ClassType c) class (ClassType d) h e = subst (λ (k : Class). is_of_type program (ClassType d) k ≡ true) h e
 type_passed program (ClassType c) class (ArrayType a) h e = absurd (cc (subst (λ (k : Class). is_array_of program a k ≡ true) h e))
 type_passed program (ArrayType a) (Array k) (ArrayType b) h e = go (same_type (get_or program.arrays k VoidType) (ArrayType a) h) (same_type (get_or program.arrays k VoidType) (ArrayType b) e)
@@ -93,7 +94,7 @@ module _ (program : Program) (fixed : Fixed) where
   safe_length_named types this ls t n v e i = safe_next program fixed types this ls (class_of v) (load_in program v n) _ _ (safe_class types this ls (ArrayType t) v refl i) (λ more class x h. go more class x (array_class program (type_at more h.0) class t h.4 h.3))
     where
       go : (more : List JavaType) (class : Class) → Extends types more → is_array_of program t class ≡ true → Safe program fixed more this ls (load_in program v n class) (Gives program ls int_type)
-      go more (Array k) x h = subst (λ (b : Bool). Safe program fixed more this ls (if b then load v Length else stop Stuck) (Gives program ls int_type)) (sym e) (safe_map program fixed more this ls (load v Length) _ _ (safe_length program fixed more this ls t v (Rattle.kr_laws_safety.proofs.Heaps.value_more program.table types more (ArrayType t) v x i)) (λ others ms w h. (h.0, subst (λ (y : Value). IsOf program.table others int_type y) (sym h.2) (refl, h.3))))
+      go more (Array k) x h = subst (λ (b : Bool). Safe program fixed more this ls (if b then load v Length else stop Stuck) (Gives program ls int_type)) (sym e) (safe_map program fixed more this ls (load v Length) _ _ (safe_length program fixed more this ls t v (Rattle.kr_laws_safety.proofs.Heaps.value_more program.table types more (ArrayType t) v x i)) (λ others ms w h. (h.0, subst (λ (y : Value). IsOf program.table others int_type y) (sym h.2) (Bits32, refl, h.3))))
       go more (Object c) x h = absurd (cc (h))
       go more Set x h = absurd (cc (h))
       go more ListClass x h = absurd (cc (h))

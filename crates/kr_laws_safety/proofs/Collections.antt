@@ -7,6 +7,7 @@ use Rattle.kr_value.specs.declared.value.Value.TheVariants.{Int, Bool as Truth, 
 use Rattle.kr_value.specs.declared.object.Class.{Class}
 use Rattle.kr_value.specs.declared.object.Class.TheVariants.{List as ListClass}
 use Rattle.kr_value.specs.Heaps.{object_in}
+use Rattle.kr_classes_table.specs.Numbers.{Bits32}
 use Rattle.kr_classes_table.specs.Types.{JavaType, int_type, BooleanType, ListType, is_element}
 use Rattle.kr_mean.specs.declared.kind.Kind.{Kind as TrapKind}
 use Rattle.kr_mean.specs.declared.kind.Kind.TheVariants.{NoSuchElementException}
@@ -45,8 +46,8 @@ module _ (program : Program) (fixed : Fixed) where
 
   collect_by : (types : List JavaType) (this : Option ℕ) (ls : List JavaType) (k : Collection) (t u : JavaType) (n : List ℕ) (v : Value) (vs : List Value) → IsOf program.table types (type_with k t) v
       → ((ms : List Value) → AreAll program.table types t ms → Makes types t u (collected (class_with k) n vs ms)) → Safe program fixed types this ls (collect n v vs) (Gives program ls u)
-  collect_by types this ls Sets t u n (Int z) vs i f = absurd (cc (i.0))
-  collect_by types this ls Lists t u n (Int z) vs i f = absurd (cc (i.0))
+  collect_by types this ls Sets t u n (Int z) vs i f = absurd (cc (i.1))
+  collect_by types this ls Lists t u n (Int z) vs i f = absurd (cc (i.1))
   collect_by types this ls Sets t u n (Truth b) vs i f = absurd (cc (i))
   collect_by types this ls Lists t u n (Truth b) vs i f = absurd (cc (i))
   collect_by types this ls k t u n Null vs i f = record { by = λ s h. (types, ls, extends_self types, h, extends_self ls) }
@@ -118,8 +119,8 @@ module _ (program : Program) (fixed : Fixed) where
       small n = omega (arith, min-le_right n 2147483647)
 
       made : (k : Collection) (ms : List Value) → AreAll program.table types t ms → Makes types t int_type (collected (class_with k) (codes "size") [] ms)
-      made Sets ms a = record { collected_is = record { given = Ok (Int (pos (min (length ms) 2147483647))); members = ms }; is = refl; members = a; given = (refl, small (length ms)) }
-      made Lists ms a = record { collected_is = record { given = Ok (Int (pos (min (length ms) 2147483647))); members = ms }; is = refl; members = a; given = (refl, small (length ms)) }
+      made Sets ms a = record { collected_is = record { given = Ok (Int (pos (min (length ms) 2147483647))); members = ms }; is = refl; members = a; given = (Bits32, refl, small (length ms)) }
+      made Lists ms a = record { collected_is = record { given = Ok (Int (pos (min (length ms) 2147483647))); members = ms }; is = refl; members = a; given = (Bits32, refl, small (length ms)) }
 
   pub safe_is_empty : (types : List JavaType) (this : Option ℕ) (ls : List JavaType) (k : Collection) (t : JavaType) (v : Value) → IsOf program.table types (type_with k t) v → Safe program fixed types this ls (collect (codes "isEmpty") v []) (Gives program ls BooleanType)
   safe_is_empty types this ls k t v i = collect_by types this ls k t BooleanType (codes "isEmpty") v [] i (made k)

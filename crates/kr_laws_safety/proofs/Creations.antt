@@ -9,7 +9,7 @@ use Rattle.kr_value.specs.declared.value.Value.{Value}
 use Rattle.kr_value.specs.declared.value.Value.TheVariants.{Ref as Reference}
 use Rattle.kr_value.specs.declared.object.Class.TheVariants.{Object}
 use Rattle.kr_classes_table.specs.Types.{JavaType, VoidType, ClassType}
-use Rattle.kr_classes_table.specs.Table.{Table, Field, Parameter, Constructor, items, super_of, line_of, ancestors, is_among, fields_of, constructor_parameters, is_below, is_subtype}
+use Rattle.kr_classes_table.specs.Table.{Table, Field, Parameter, Constructor, items, super_of, line_of, ancestors, is_among, fields_of, constructor_parameters, is_below, is_assignable}
 use Rattle.kr_types_meaning.specs.Scopes.{Scope, after, super_parameters}
 use Rattle.kr_types_meaning.specs.Rules as rules
 use Rattle.kr_types_meaning.specs.Rules.{Typed, Values, Untyped, Fits, ask, arguments_fit, super_constructor_rule}
@@ -128,7 +128,7 @@ module _ (program : Program) (fixed : Fixed) (facts : IsTypedProgram program) (p
       front (x ∷ xs) ys (suc o) lt = front xs ys o (omega (arith, lt))
 
   new_of : (types : List JavaType) (o c d : ℕ) → IsNew types o c → is_below program.table c d ≡ true → IsOf program.table types (ClassType d) (Reference o)
-  new_of types o c d n b = (n.there, ap (λ (t : JavaType). is_subtype program.table t (ClassType d)) n.type ∙ b)
+  new_of types o c d n b = (n.there, ap (λ (t : JavaType). is_assignable program.table t (ClassType d)) n.type ∙ b)
 
   new_this : (types : List JavaType) (o c d : ℕ) → IsNew types o c → is_below program.table c d ≡ true → IsThis program.table types (Some d) (Reference o)
   new_this types o c d n b = (o, refl, new_of types o c d n b)

@@ -4,10 +4,10 @@ use Rattle.std.specs.Prelude.{if◌then◌else◌}
 use Rattle.kr_base.specs.declared.place.Place.{Place}
 use Rattle.kr_ast.specs.Tree.{Tree}
 use Rattle.kr_value.specs.declared.value.Value.{Value}
-use Rattle.kr_classes_table.specs.Numbers.{Bits32}
+use Rattle.kr_classes_table.specs.Numbers.{Width}
 use Rattle.kr_classes_table.specs.Types.{JavaType, NumberType, int_type, BooleanType}
 use Rattle.kr_classes_table.specs.Rules.{Fault}
-use Rattle.kr_classes_table.specs.Table.{Table, is_subtype}
+use Rattle.kr_classes_table.specs.Table.{Table, is_assignable}
 use Rattle.kr_types_meaning.specs.Scopes.{Scope}
 use Rattle.kr_types_meaning.specs.Rules as rules
 use Rattle.kr_types_meaning.specs.Promotion.{promoted_alone}
@@ -111,8 +111,8 @@ ruled_plainly b (Fits Untyped) t h r = absurd (cc (r.2, ap type_in (fits_same Un
 ruled_plainly b (Breaks n) t h r = absurd (cc (r.1))
 
 -- an operand that is promoted alone
-pub ruled_alone : (a t : JavaType) (r : ℕ) → Ruled (of_promoted (promoted_alone a) r) t → (a ≡ int_type) × (int_type ≡ t)
-ruled_alone (NumberType Bits32) t r h = (refl, ruled_value int_type t h)
+pub ruled_alone : (a t : JavaType) (r : ℕ) → Ruled (of_promoted (promoted_alone a) r) t → (w : Width) × (a ≡ NumberType w) × (NumberType w ≡ t)
+ruled_alone (NumberType w) t r h = (w, refl, ruled_value (NumberType w) t h)
 ruled_alone _ t r h = absurd (cc (h.1))
 
 pub int_is : (a : JavaType) → is_int a ≡ true → a ≡ int_type
@@ -135,11 +135,11 @@ module _ (program : Program) (fixed : Fixed) where
   safe_keep types this ls m f Q p q = safe_then program fixed types this ls m f _ Q p (λ more ms a x r. subst (λ (z : List JavaType). Safe program fixed more this z (f a) Q) (sym r) (q more a x))
 
   -- a value of a type is given as one to which it may be assigned
-  pub safe_as : (onward : IsOnward program.table) (types : List JavaType) (this : Option ℕ) (ls : List JavaType) (m : Run Value) (t u : JavaType) → is_subtype program.table t u ≡ true → Safe program fixed types this ls m (Gives program ls t) → Safe program fixed types this ls m (GivesAs program ls u)
+  pub safe_as : (onward : IsOnward program.table) (types : List JavaType) (this : Option ℕ) (ls : List JavaType) (m : Run Value) (t u : JavaType) → is_assignable program.table t u ≡ true → Safe program fixed types this ls m (Gives program ls t) → Safe program fixed types this ls m (GivesAs program ls u)
   safe_as onward types this ls m t u e p = safe_map program fixed types this ls m _ _ p (λ more ms v r. (r.0, λ g. widened program.table onward more t u v e r.1))
 
   -- so is one that may have none
-  pub safe_as_result : (onward : IsOnward program.table) (types : List JavaType) (this : Option ℕ) (ls : List JavaType) (m : Run Value) (t u : JavaType) → is_subtype program.table t u ≡ true → Safe program fixed types this ls m (GivesAs program ls t) → Safe program fixed types this ls m (GivesAs program ls u)
+  pub safe_as_result : (onward : IsOnward program.table) (types : List JavaType) (this : Option ℕ) (ls : List JavaType) (m : Run Value) (t u : JavaType) → is_assignable program.table t u ≡ true → Safe program fixed types this ls m (GivesAs program ls t) → Safe program fixed types this ls m (GivesAs program ls u)
   safe_as_result onward types this ls m t u e p = safe_map program fixed types this ls m _ _ p (λ more ms v r. (r.0, λ g. widened program.table onward more t u v e (r.1 (void_kept program.table onward t u e g))))
 
   -- ---- scopes

@@ -9,7 +9,7 @@ use Rattle.kr_value.specs.declared.value.Value.TheVariants.{Int, Bool as Truth, 
 use Rattle.kr_value.specs.Heaps.{HeapObject, object_in}
 use Rattle.kr_classes_table.proofs.Widths.{same_width}
 use Rattle.kr_classes_table.specs.Types.{JavaType, NumberType, BooleanType, NullType, VoidType, ClassType, ArrayType, SetType, ListType, InferredType, UnknownType, AppliedType, is_same}
-use Rattle.kr_classes_table.specs.Table.{Table, fields_of, is_subtype}
+use Rattle.kr_classes_table.specs.Table.{Table, fields_of, is_assignable}
 use Rattle.kr_mean.specs.Program.{Program}
 use Rattle.kr_laws_safety.specs.Fits.{IsOf, AreOf, AreAll, IsObjectOf, AreObjects, IsHeapOf, type_at}
 use Rattle.kr_laws_safety.specs.Triples.{Extends}
@@ -33,7 +33,7 @@ value_more table types more t (Truth b) x h = h
 value_more table types more t Null x h = h
 value_more table types more t (Reference o) x h =
     let e : type_at more o ≡ type_at types o = ap (λ (z : List JavaType). get_or z o VoidType) x.1 ∙ get_front types x.0 o h.0 in
-    (omega (arith, h.0, ap (λ (z : List JavaType). length z) x.1, length-append types x.0), ap (λ (u : JavaType). is_subtype table u t) e ∙ h.1)
+    (omega (arith, h.0, ap (λ (z : List JavaType). length z) x.1, length-append types x.0), ap (λ (u : JavaType). is_assignable table u t) e ∙ h.1)
 
 pub values_more : (table : Table) (types more : List JavaType) (ts : List JavaType) (vs : List Value) → Extends types more → AreOf table types ts vs → AreOf table more ts vs
 values_more table types more [] [] x h = tt

@@ -5,7 +5,7 @@ use Rattle.std.proofs.lemmas.Slice.Eq.{bytes_eq-Decides}
 use Rattle.std.proofs.lemmas.Bool.{and_parts, or_cases}
 use Rattle.kr_value.specs.declared.value.Value.{Value}
 use Rattle.kr_classes_table.specs.Types.{JavaType, NumberType, int_type, BooleanType, NullType, ClassType, ArrayType, SetType, ListType, InferredType, is_void, is_element, is_reference, is_collection}
-use Rattle.kr_classes_table.specs.Table.{is_subtype}
+use Rattle.kr_classes_table.specs.Table.{is_assignable}
 use Rattle.kr_types_meaning.specs.Scopes.{Scope}
 use Rattle.kr_types_meaning.specs.Rules as rules
 use Rattle.kr_types_meaning.specs.Rules.{Fits, ask, plain_call_rule, member_call_rule, collection_rule}
@@ -33,7 +33,7 @@ pub record Members (program : Program) (k : Collection) (e : JavaType) : Type 0 
   pub of : JavaType
   pub target : is_target (type_with k of) ≡ true
   pub given : is_void (type_with k of) ≡ false
-  pub fits : is_subtype program.table (type_with k e) (type_with k of) ≡ true
+  pub fits : is_assignable program.table (type_with k e) (type_with k of) ≡ true
   pub element : is_element of ≡ true
   pub variable : is_variable_type of ≡ true
   pub own : is_element e ≡ true → of ≡ e
@@ -49,7 +49,7 @@ members program Lists (ArrayType t) h = record { of = ArrayType t; target = h; g
 members program Lists _ h = absurd (cc (h))
 
 -- an added value is of the members' type
-element_of : (program : Program) (k : Collection) (x e : JavaType) → is_value_type x ≡ true → is_value_type (type_with k e) ≡ true → is_subtype program.table x e ≡ true → is_element e ≡ true
+element_of : (program : Program) (k : Collection) (x e : JavaType) → is_value_type x ≡ true → is_value_type (type_with k e) ≡ true → is_assignable program.table x e ≡ true → is_element e ≡ true
 element_of program k x (ClassType c) vx ve h = refl
 element_of program k x (ArrayType t) vx ve h = refl
 element_of program k NullType InferredType vx ve h = absurd (cc (h))
@@ -128,14 +128,14 @@ module _ (program : Program) (fixed : Fixed) where
       found (inr q) types this ls o v i = subst (λ (z : List ℕ). Run' z BooleanType types this ls o (v ∷ [])) (name_is n (codes "remove") q) (safe_remove program fixed types this ls k m.of o v i)
 
       go : (a : Bool) → bytes_eq n (codes "add") ≡ a
-          → Ruled (if a then ask (is_subtype program.table x e) 25 (Fits (rules.Value BooleanType)) else ask ((bytes_eq n (codes "contains") || bytes_eq n (codes "remove")) && is_reference x && not (is_collection x)) 25 (Fits (rules.Value BooleanType))) t → Call k e t m.of n (x ∷ [])
+          → Ruled (if a then ask (is_assignable program.table x e) 25 (Fits (rules.Value BooleanType)) else ask ((bytes_eq n (codes "contains") || bytes_eq n (codes "remove")) && is_reference x && not (is_collection x)) 25 (Fits (rules.Value BooleanType))) t → Call k e t m.of n (x ∷ [])
       go true q r =
-          let a = ruled_ask (is_subtype program.table x e) 25 (Fits (rules.Value BooleanType)) t r in
+          let a = ruled_ask (is_assignable program.table x e) 25 (Fits (rules.Value BooleanType)) t r in
           let own = m.own (element_of program k x e vx ve a.0) in
           record {
             takes = m.of ∷ [];
             used_as = ((variable_target m.of m.variable, variable_not_void m.of m.variable), tt);
-            fit = (ap (λ (z : JavaType). is_subtype program.table x z) own ∙ a.0, tt);
+            fit = (ap (λ (z : JavaType). is_assignable program.table x z) own ∙ a.0, tt);
             safe = λ types this ls o vs i j. let v = one types m.of vs j in subst (λ (z : List Value). Run' n t types this ls o z) (sym v.1) (subst (λ (z : List ℕ). Run' z t types this ls o (v.0 ∷ [])) (name_is n (codes "add") q) (subst (λ (z : JavaType). Run' (codes "add") z types this ls o (v.0 ∷ [])) (ruled_value BooleanType t a.1) (safe_add program fixed types this ls k m.of o v.0 i v.2)));
           }
       go false q r =

@@ -12,26 +12,27 @@ use Rattle.kr_ast.specs.Tree as trees
 use Rattle.kr_ast.specs.Tree.{Tree}
 use Rattle.kr_value.specs.declared.value.Value.{Value}
 use Rattle.kr_value.specs.declared.value.Value.TheVariants.{Int, Bool as Truth, Null}
-use Rattle.kr_classes_table.specs.Types.{JavaType, int_type, BooleanType, NullType, ClassType, ArrayType, SetType, ListType, UnknownType, AppliedType, is_void, is_known, is_reference}
-use Rattle.kr_classes_table.specs.Table.{Field, class_or, class_named, applied, field_named, is_subtype}
+use Rattle.kr_classes_table.specs.Types.{JavaType, NumberType, int_type, BooleanType, NullType, ClassType, ArrayType, SetType, ListType, UnknownType, AppliedType, is_void, is_known, is_reference, width_in}
+use Rattle.kr_classes_table.specs.Table.{Field, class_or, class_named, applied, field_named, is_assignable}
 use Rattle.kr_classes_table.specs.Constants.{constant_only, constant_of, field_meant, known_value as constant_value}
-use Rattle.kr_classes_table.specs.Numbers.{Width, Bits32, wrap}
+use Rattle.kr_classes_table.specs.Numbers.{Width, Bits32, Bits64, wrap}
+use Rattle.kr_classes_table.specs.Operators.{operator_width}
 use Rattle.kr_types_meaning.specs.Scopes.{Scope, Meant, LocalName, FieldName, NoName, value, under_minus, written, meant, class_before}
 use Rattle.kr_types_meaning.specs.Rules as rules
 use Rattle.kr_types_meaning.specs.Promotion.{are_numbers}
 use Rattle.kr_types_meaning.specs.Rules.{Untyped, Fits, ask, gives, both_boolean, number_rule, this_rule, name_rule, unary_rule, operator_rule, field_rule, access_rule, constant_rule, element_rule}
-use Rattle.kr_types_meaning.specs.Typing.{judge, on_one, on_two, field_of, judged, type_in}
+use Rattle.kr_types_meaning.specs.Typing.{judge, on_one, on_two, field_of, operand, judged, type_in}
 use Rattle.kr_types_meaning.proofs.Types.{types_law}
 use Rattle.kr_mean.specs.Program.{Program}
 use Rattle.kr_mean.specs.Steps.{Run, say, give, given, ◌>>=◌, get_this, load_field}
 use Rattle.kr_mean.specs.Operators.{operated, operated_alone, binary_operation, unary_operation}
-use Rattle.kr_mean.specs.Meaning.{Parts, constant, read_name, access, binary, is_primitive, value_of, width_at, width_of}
+use Rattle.kr_mean.specs.Meaning.{Parts, constant, read_name, access, binary, is_primitive, value_of, type_width, width_at, width_of, operand_width}
 use Rattle.kr_laws_safety.specs.Fits.{IsOf}
 use Rattle.kr_laws_safety.specs.Triples.{Fixed, Safe, Gives}
 use Rattle.kr_laws_safety.specs.Steps.{is_junction, HasField}
 use Rattle.kr_laws_safety.proofs.Heaps.{value_more}
 use Rattle.kr_laws_safety.proofs.Steps.{safe_give, safe_map, safe_choose, safe_this, safe_local, safe_load_field, safe_element}
-use Rattle.kr_laws_safety.proofs.Operators.{whole_within, Use, ints, booleans, references, used as used_by, reference_known, said, references_good, safe_operated, safe_operated_alone}
+use Rattle.kr_laws_safety.proofs.Operators.{whole_within, Use, numbers, booleans, references, used as used_by, reference_known, said, references_good, safe_operated, safe_operated_alone}
 use Rattle.kr_laws_types.specs.Types.{is_value_type, HasVariables}
 use Rattle.kr_laws_types.specs.Shapes.{Expression}
 use Rattle.kr_laws_shapes.specs.Expressions.{IsWritten}
@@ -42,7 +43,7 @@ use Rattle.kr_laws_safety.specs.Typed.{IsField, IsTypedProgram}
 use Rattle.kr_laws_safety.specs.Claims.{this_of, types_of, is_target, GivesAs, IsScope, Coded, PartsSafe}
 use Rattle.kr_laws_safety.proofs.Targets.{not_true, assignable_itself, Used, used}
 use Rattle.kr_laws_safety.proofs.Glue.{Ruled, ruled_alone, ruled, ruled_one, ruled_two, ruled_ask, same_types, ruled_value, ruled_variable, ruled_gives, ruled_varies, ruled_plainly, int_is, boolean_is, safe_next, safe_as, settled, typed_at, has_variables}
-use Rattle.kr_laws_safety.proofs.Scoping.{meant_is, field_found, class_plain}
+use Rattle.kr_laws_safety.proofs.Scoping.{meant_is, field_found, class_plain, type_plain, operand_plain}
 use Rattle.kr_laws_safety.proofs.Classes.{safe_length_named}
 use Rattle.kr_laws_types.proofs.Typed.{front_none, back_none, below_none}
 
@@ -80,6 +81,7 @@ written_reference s _ f h e = absurd h
 -- a primitive type is no reference
 pub primitive_plain : (s : Scope) (t : Tree) → IsWritten t → is_primitive t ≡ true → is_reference (written s t) ≡ false
 primitive_plain s (trees.PrimitiveType p primitives.Int) h e = refl
+primitive_plain s (trees.PrimitiveType p primitives.Long) h e = refl
 primitive_plain s (trees.PrimitiveType p primitives.Boolean) h e = refl
 primitive_plain s (trees.PrimitiveType p primitives.Void) h e = absurd h
 primitive_plain s _ h e = absurd (cc (e))
@@ -95,7 +97,7 @@ written_is s t u h e = go (is_known (written s t)) (ap type_in (sym (types_law s
 module _ (program : Program) (fixed : Fixed) (facts : IsTypedProgram program) (p : Parts) (q : PartsSafe program fixed p) where
   -- an expression used as a type
   abbrev pub Goal : Scope → Tree → Type 0
-  Goal s e = (types : List JavaType) (t u : JavaType) → type_in (judged s e).typed ≡ Some t → is_target u ≡ true → is_subtype program.table t u ≡ true → Safe program fixed types (this_of s) (types_of s.locals) (value_of program p (plain s) e) (GivesAs program (types_of s.locals) u)
+  Goal s e = (types : List JavaType) (t u : JavaType) → type_in (judged s e).typed ≡ Some t → is_target u ≡ true → is_assignable program.table t u ≡ true → Safe program fixed types (this_of s) (types_of s.locals) (value_of program p (plain s) e) (GivesAs program (types_of s.locals) u)
 
   -- ---- parts
 
@@ -111,11 +113,19 @@ module _ (program : Program) (fixed : Fixed) (facts : IsTypedProgram program) (p
 
   -- ---- literals
 
+  number_by : (s : Scope) (pl : Place) (w : Width) (n : ℕ) (t u : JavaType) → (judge pl (number_rule s w n) []).faults ≡ [] → type_in (judge pl (number_rule s w n) []).typed ≡ Some t → is_assignable program.table t u ≡ true → (types : List JavaType)
+      → Safe program fixed types (this_of s) (types_of s.locals) (give (Int (wrap w (pos n)))) (GivesAs program (types_of s.locals) u)
+  number_by s pl w n t u f r a types =
+      let is = ruled_value (NumberType w) t (ruled_ask _ 6 (Fits (rules.Value (NumberType w))) t (ruled pl (number_rule s w n) [] t f r)).1 in
+      safe_as program fixed facts.below types (this_of s) (types_of s.locals) _ t u a (safe_give program fixed types (this_of s) (types_of s.locals) (Int (wrap w (pos n))) _ (refl, (w, sym is, whole_within w _)))
+
   pub number : (s : Scope) (pl : Place) (n : ℕ) → (judged s (trees.Number pl n)).faults ≡ [] → Goal s (trees.Number pl n)
   unfolding judged
-  number s pl n f types t u r g a =
-      let is = ruled_value int_type t (ruled_ask _ 6 (Fits (rules.Value int_type)) t (ruled pl (number_rule s n) [] t f r)).1 in
-      safe_as program fixed facts.below types (this_of s) (types_of s.locals) _ t u a (safe_give program fixed types (this_of s) (types_of s.locals) (Int (wrap Bits32 (pos n))) _ (refl, (sym is, whole_within Bits32 _)))
+  number s pl n f types t u r g a = number_by s pl Bits32 n t u f r a types
+
+  pub long_number : (s : Scope) (pl : Place) (n : ℕ) → (judged s (trees.LongNumber pl n)).faults ≡ [] → Goal s (trees.LongNumber pl n)
+  unfolding judged
+  long_number s pl n f types t u r g a = number_by s pl Bits64 n t u f r a types
 
   pub truth : (s : Scope) (pl : Place) (b : Bool) → Goal s (trees.Truth pl b)
   unfolding judged
@@ -135,7 +145,7 @@ module _ (program : Program) (fixed : Fixed) (facts : IsTypedProgram program) (p
   unfolding judged
   this_object s pl f types t u r g a =
       let h = ruled_ask (not s.is_static) 5 (Fits (rules.Value (ClassType s.class))) t (ruled pl (this_rule s) [] t f r) in
-      safe_as program fixed facts.below types (this_of s) (types_of s.locals) _ (ClassType s.class) u (subst (λ (x : JavaType). is_subtype program.table x u ≡ true) (sym (ruled_value (ClassType s.class) t h.1)) a) (safe_here s types (not_true s.is_static h.0))
+      safe_as program fixed facts.below types (this_of s) (types_of s.locals) _ (ClassType s.class) u (subst (λ (x : JavaType). is_assignable program.table x u ≡ true) (sym (ruled_value (ClassType s.class) t h.1)) a) (safe_here s types (not_true s.is_static h.0))
 
   -- ---- names
 
@@ -226,7 +236,7 @@ module _ (program : Program) (fixed : Fixed) (facts : IsTypedProgram program) (p
           let x = constant_ruled c n t (ruled pl (constant_rule (field_named program.table c n)) [] t f r) in
           let only : constant_of program.table (Some c) n ≡ Some x.0 = ap (λ (y : Option Field). option_and_then constant_only y) x.1 ∙ ap (λ (b : Bool). if b then Some x.0 else None) x.2 in
           subst (λ (y : Option Field). Safe program fixed types (this_of s) (types_of s.locals) (constant (plain (settled program fixed s)) y) (GivesAs program (types_of s.locals) u)) (sym only)
-          (safe_as program fixed facts.below types (this_of s) (types_of s.locals) _ x.0.type u (subst (λ (y : JavaType). is_subtype program.table y u ≡ true) (sym x.3) a) (safe_constant (settled program fixed s) types c n x.0 refl (facts.fields c n x.0 x.1) x.2))
+          (safe_as program fixed facts.below types (this_of s) (types_of s.locals) _ x.0.type u (subst (λ (y : JavaType). is_assignable program.table y u ≡ true) (sym x.3) a) (safe_constant (settled program fixed s) types c n x.0 refl (facts.fields c n x.0 x.1) x.2))
       go None f r =
           let below = below_none pl (on_one (access_rule (settled program fixed s) n) (judged (value (settled program fixed s)) e).typed) (judged (value (settled program fixed s)) e).faults f in
           let x = typed_at program fixed facts (value (settled program fixed s)) e k h below in
@@ -258,33 +268,37 @@ module _ (program : Program) (fixed : Fixed) (facts : IsTypedProgram program) (p
 
   -- ---- operators
 
-  unary_in : (w : Scope) (pl : Place) (o : UnaryOperator) (e : Tree) → IsScope program fixed w → Coded program fixed (Expression false) w e → (judge pl (on_one (unary_rule o) (judged w e).typed) (judged w e).faults).faults ≡ [] → (types : List JavaType) (t u : JavaType)
-      → type_in (judge pl (on_one (unary_rule o) (judged w e).typed) (judged w e).faults).typed ≡ Some t → is_subtype program.table t u ≡ true
-      → Safe program fixed types (this_of w) (types_of w.locals) (p.value (plain w) e >>= (λ v. say (operated_alone (unary_operation (width_at (plain w) e) o) v))) (GivesAs program (types_of w.locals) u)
-  unary_in w pl o e k h f types t u r a =
+  -- the width by which an operator works is that of its operand's type
+  operand_wide : (s : Scope) (o : UnaryOperator) (e : Tree) (x : JavaType) → type_in (judged (operand o s) e).typed ≡ Some x → operand_width (plain s) o e ≡ width_in x
+  operand_wide s o e x k = ap type_width (operand_plain s o e ∙ k)
+
+  unary_in : (w : Scope) (pl : Place) (o : UnaryOperator) (e : Tree) (width : Width) → ((x : JavaType) → type_in (judged w e).typed ≡ Some x → width ≡ width_in x) → IsScope program fixed w → Coded program fixed (Expression false) w e → (judge pl (on_one (unary_rule o) (judged w e).typed) (judged w e).faults).faults ≡ [] → (types : List JavaType) (t u : JavaType)
+      → type_in (judge pl (on_one (unary_rule o) (judged w e).typed) (judged w e).faults).typed ≡ Some t → is_assignable program.table t u ≡ true
+      → Safe program fixed types (this_of w) (types_of w.locals) (p.value (plain w) e >>= (λ v. say (operated_alone (unary_operation width o) v))) (GivesAs program (types_of w.locals) u)
+  unary_in w pl o e width wide k h f types t u r a =
       let below = below_none pl (on_one (unary_rule o) (judged w e).typed) (judged w e).faults f in
       let x = typed_at program fixed facts w e k h below in
       let rule = ruled_one pl (unary_rule o) (judged w e) x.type t x.known f r in
       let is = unary_is o x.type t rule in
       safe_as program fixed facts.below types (this_of w) (types_of w.locals) _ t u a
       (safe_next program fixed types (this_of w) (types_of w.locals) (p.value (plain w) e) _ _ _ (part_as w e k h below types x.type x.known is.0 is.1)
-      (λ more v y i. safe_operated_alone program fixed more (this_of w) (types_of w.locals) (width_at (plain w) e) o x.type t v (ruled_plainly false (unary_rule o x.type) t (unary_fine (record w { role = Rattle.kr_types_meaning.specs.Scopes.AsValue }) (subst HasVariables (sym k.0) (has_variables program fixed facts)) o x.type) rule) i))
+      (λ more v y i. safe_operated_alone program fixed more (this_of w) (types_of w.locals) width o x.type t v (ruled_plainly false (unary_rule o x.type) t (unary_fine (record w { role = Rattle.kr_types_meaning.specs.Scopes.AsValue }) (subst HasVariables (sym k.0) (has_variables program fixed facts)) o x.type) rule) (wide x.type x.known) i))
     where
-      int_target : (c : JavaType) → c ≡ int_type → (is_target c ≡ true) × (is_void c ≡ false)
-      int_target c e = subst (λ (z : JavaType). (is_target z ≡ true) × (is_void z ≡ false)) (sym e) (refl, refl)
+      number_target : (v : Width) (c : JavaType) → c ≡ NumberType v → (is_target c ≡ true) × (is_void c ≡ false)
+      number_target v c e = subst (λ (z : JavaType). (is_target z ≡ true) × (is_void z ≡ false)) (sym e) (refl, refl)
 
       unary_is : (o : UnaryOperator) (c t : JavaType) → Ruled (unary_rule o c) t → (is_target c ≡ true) × (is_void c ≡ false)
       unary_is unaries.Not c t r = subst (λ (z : JavaType). (is_target z ≡ true) × (is_void z ≡ false)) (sym (boolean_is c (ruled_ask (rules.is_boolean c) 13 (Fits (rules.Value BooleanType)) t r).0)) (refl, refl)
-      unary_is unaries.Plus c t r = int_target c (ruled_alone c t 14 r).0
-      unary_is unaries.Minus c t r = int_target c (ruled_alone c t 14 r).0
-      unary_is unaries.Complement c t r = int_target c (ruled_alone c t 14 r).0
+      unary_is unaries.Plus c t r = let n = ruled_alone c t 14 r in number_target n.0 c n.1
+      unary_is unaries.Minus c t r = let n = ruled_alone c t 14 r in number_target n.0 c n.1
+      unary_is unaries.Complement c t r = let n = ruled_alone c t 14 r in number_target n.0 c n.1
 
   pub unary : (s : Scope) (pl : Place) (o : UnaryOperator) (e : Tree) → IsScope program fixed s → Coded program fixed (Expression false) s e → (judged s (trees.Unary pl o e)).faults ≡ [] → Goal s (trees.Unary pl o e)
   unfolding judged
-  unary s pl unaries.Minus e k h f types t u r g a = unary_in (under_minus s) pl unaries.Minus e k h f types t u r a
-  unary s pl unaries.Plus e k h f types t u r g a = unary_in (value s) pl unaries.Plus e k h f types t u r a
-  unary s pl unaries.Complement e k h f types t u r g a = unary_in (value s) pl unaries.Complement e k h f types t u r a
-  unary s pl unaries.Not e k h f types t u r g a = unary_in (value s) pl unaries.Not e k h f types t u r a
+  unary s pl unaries.Minus e k h f types t u r g a = unary_in (under_minus s) pl unaries.Minus e (operand_width (plain s) unaries.Minus e) (operand_wide s unaries.Minus e) k h f types t u r a
+  unary s pl unaries.Plus e k h f types t u r g a = unary_in (value s) pl unaries.Plus e (operand_width (plain s) unaries.Plus e) (operand_wide s unaries.Plus e) k h f types t u r a
+  unary s pl unaries.Complement e k h f types t u r g a = unary_in (value s) pl unaries.Complement e (operand_width (plain s) unaries.Complement e) (operand_wide s unaries.Complement e) k h f types t u r a
+  unary s pl unaries.Not e k h f types t u r g a = unary_in (value s) pl unaries.Not e (operand_width (plain s) unaries.Not e) (operand_wide s unaries.Not e) k h f types t u r a
 
   -- on ints, on booleans, on references
   operands : (s : Scope) (o : BinaryOperator) (b c : Tree) → IsScope program fixed s → Coded program fixed (Expression false) s b → Coded program fixed (Expression false) s c → (judged (value s) b).faults ≡ [] → (judged (value s) c).faults ≡ [] → (types : List JavaType) (x y t : JavaType)
@@ -292,14 +306,19 @@ module _ (program : Program) (fixed : Fixed) (facts : IsTypedProgram program) (p
       → Safe program fixed types (this_of s) (types_of s.locals) (p.value (plain s) b >>= (λ v. p.value (plain s) c >>= (λ w. say (operated (binary_operation (width_of (plain s) o b c) o) v w)))) (Gives program (types_of s.locals) t)
   operands s o b c k h l f d types x y t j vx vy rx ry e way = go way
     where
+      wide : (z w : JavaType) → x ≡ z → y ≡ w → width_of (plain s) o b c ≡ operator_width o (width_in z) (width_in w)
+      wide z w ez ew =
+          ap (λ (n : Width). operator_width o n (width_at (plain s) c)) (ap type_width (type_plain s b ∙ (rx ∙ ap (λ (n : JavaType). Some n) ez)))
+          ∙ ap (λ (n : Width). operator_width o (width_in z) n) (ap type_width (type_plain s c ∙ (ry ∙ ap (λ (n : JavaType). Some n) ew)))
+
       both : (z w : JavaType) → is_target z ≡ true → is_void z ≡ false → is_target w ≡ true → is_void w ≡ false → x ≡ z → y ≡ w → operator_rule s o z w ≡ Fits (rules.Value t) → Safe program fixed types (this_of s) (types_of s.locals) (p.value (plain s) b >>= (λ v. p.value (plain s) c >>= (λ w. say (operated (binary_operation (width_of (plain s) o b c) o) v w)))) (Gives program (types_of s.locals) t)
       both z w tz gz tw gw ez ew e =
           safe_next program fixed types (this_of s) (types_of s.locals) (p.value (plain s) b) _ _ _ (part_as (value s) b k h f types z (rx ∙ ap (λ (n : JavaType). Some n) ez) tz gz)
           (λ more v q i. safe_next program fixed more (this_of s) (types_of s.locals) (p.value (plain s) c) _ _ _ (part_as (value s) c k l d more w (ry ∙ ap (λ (n : JavaType). Some n) ew) tw gw)
-          (λ others u m n. safe_operated program fixed others (this_of s) (types_of s.locals) s (width_of (plain s) o b c) o z w t v u j e (value_more program.table more others z v m i) n))
+          (λ others u m n. safe_operated program fixed others (this_of s) (types_of s.locals) s (width_of (plain s) o b c) o z w t v u j e (wide z w ez ew) (value_more program.table more others z v m i) n))
 
       go : Use o x y t → Safe program fixed types (this_of s) (types_of s.locals) (p.value (plain s) b >>= (λ v. p.value (plain s) c >>= (λ w. say (operated (binary_operation (width_of (plain s) o b c) o) v w)))) (Gives program (types_of s.locals) t)
-      go (ints ex ey z) = both int_type int_type refl refl refl refl ex ey (ap (λ (n : JavaType). operator_rule s o n int_type) (sym ex) ∙ (ap (λ (n : JavaType). operator_rule s o x n) (sym ey) ∙ e))
+      go (numbers m n ex ey z) = both (NumberType m) (NumberType n) refl refl refl refl ex ey (ap (λ (k : JavaType). operator_rule s o k (NumberType n)) (sym ex) ∙ (ap (λ (k : JavaType). operator_rule s o x k) (sym ey) ∙ e))
       go (booleans ex ey z m) = both BooleanType BooleanType refl refl refl refl ex ey (ap (λ (n : JavaType). operator_rule s o n BooleanType) (sym ex) ∙ (ap (λ (n : JavaType). operator_rule s o x n) (sym ey) ∙ e))
       go (references rx' ry' z m) =
           let ux = used program.table x vx in

@@ -132,7 +132,7 @@ module _ (program : Program) (fixed : Fixed) where
     where_unstuck : (types : List JavaType) (this : Option ℕ) (ls : List JavaType) (v : Value) (m : Run Bool) → IsOf program.table types BooleanType v → Unstuck program fixed types this ls m → Unstuck program fixed types this ls (where_true v m)
     where_unstuck types this ls (Truth true) m i p = p
     where_unstuck types this ls (Truth false) m i p = record { by = λ s h e. cc (e) }
-    where_unstuck types this ls (Int z) m i p = absurd (cc (i.0))
+    where_unstuck types this ls (Int z) m i p = absurd (cc (i.1))
     where_unstuck types this ls Null m i p = absurd (cc (i))
     where_unstuck types this ls (Reference o) m i p = record { by = λ s h e. no_boolean program fixed types s o h.heap i }
 

@@ -2,14 +2,15 @@
 use Rattle.std.proofs.Common.{◌≡◌, ℕ, zero, suc, Bool, true, false, List, [], ◌∷◌, ◌++◌, length, Option, Some, None, refl, sym, ap, ◌∙◌, arith}
 use Rattle.std.specs.Prelude.{bytes_eq, if◌then◌else◌, option_and_then}
 use Rattle.std.proofs.lemmas.List.{length-append}
+use Rattle.kr_ast.specs.declared.node.UnaryOperator.{UnaryOperator}
 use Rattle.kr_ast.specs.Tree as trees
 use Rattle.kr_ast.specs.Tree.{Tree}
 use Rattle.kr_classes_table.specs.Types.{JavaType}
 use Rattle.kr_classes_table.specs.Table.{Table, Field, Method, field_named, method_named}
 use Rattle.kr_classes_table.specs.Constants.{constant_only, or_else, outer_class, field_meant}
 use Rattle.kr_types_meaning.specs.Scopes.{Scope, Local, Declaring, Locals, Fields, Constants, Meant, LocalName, FieldName, NoName, meant_by, class_before, static_only, method_meant, after, declaring, bind_as, written}
-use Rattle.kr_types_meaning.specs.Typing.{type_of}
-use Rattle.kr_laws_types.proofs.Loops.{running_same}
+use Rattle.kr_types_meaning.specs.Typing.{operand, judged, type_in, type_of}
+use Rattle.kr_laws_types.proofs.Loops.{running_same, operand_running}
 use Rattle.kr_laws_safety.specs.Triples.{Extends, type_of_local}
 use Rattle.kr_laws_safety.proofs.Heaps.{extends_self, extends_twice, one_more}
 use Rattle.kr_laws_types.specs.Shapes.{Statement, IsCode}
@@ -103,6 +104,10 @@ class_plain s _ = refl
 -- nor to types
 pub type_plain : (s : Scope) (e : Tree) → type_of (plain s) e ≡ type_of s e
 type_plain s e = sym (running_same (plain s) e).type ∙ (running_same s e).type
+
+-- nor to those of operands
+pub operand_plain : (s : Scope) (o : UnaryOperator) (e : Tree) → type_in (judged (operand o (plain s)) e).typed ≡ type_in (judged (operand o s) e).typed
+operand_plain s o e = sym (operand_running (plain s) o e) ∙ operand_running s o e
 
 bind_plain : (what : Declaring) (n : List ℕ) (s : Scope) → bind_as what n (plain s) ≡ plain (bind_as what n s)
 bind_plain Locals n s = refl

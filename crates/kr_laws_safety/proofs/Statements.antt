@@ -7,7 +7,7 @@ use Rattle.kr_ast.specs.Tree.{Tree}
 use Rattle.kr_value.specs.declared.value.Value.{Value}
 use Rattle.kr_value.specs.declared.value.Value.TheVariants.{Bool as Truth}
 use Rattle.kr_classes_table.specs.Types.{JavaType, BooleanType, VoidType, is_void, is_known}
-use Rattle.kr_classes_table.specs.Table.{Table, items, is_subtype}
+use Rattle.kr_classes_table.specs.Table.{Table, items, is_assignable}
 use Rattle.kr_classes_table.specs.Rules.{Fault}
 use Rattle.kr_types_meaning.specs.Scopes.{Scope, Locals, after, written, value, statement, in_loop, declaring, bind_local}
 use Rattle.kr_types_meaning.specs.Rules as rules
@@ -62,10 +62,10 @@ asked : (b : Bool) (r : ℕ) (v : Judgement) (x : Typed) → ask b r v ≡ Fits 
 asked true r v x e = (refl, e)
 asked false r v x e = absurd (cc (e))
 
-taken : (s : Scope) (to from : JavaType) → is_known to ≡ true → takes s to from ≡ true → is_subtype s.table from to ≡ true
+taken : (s : Scope) (to from : JavaType) → is_known to ≡ true → takes s to from ≡ true → is_assignable s.table from to ≡ true
 taken s to from k e = go (is_known to) k e
   where
-    go : (b : Bool) → b ≡ true → (not b || is_subtype s.table from to) ≡ true → is_subtype s.table from to ≡ true
+    go : (b : Bool) → b ≡ true → (not b || is_assignable s.table from to) ≡ true → is_assignable s.table from to ≡ true
     go true k e = e
     go false k e = absurd (cc (k))
 
@@ -128,7 +128,7 @@ module _ (program : Program) (fixed : Fixed) (facts : IsTypedProgram program) (p
   as_statement s e k h f types = let x = typed_at program fixed facts (statement s) e k h f in go x.type x.known (is_void x.type) refl x.kind
     where
       go : (t : JavaType) → type_in (judged (statement s) e).typed ≡ Some t → (b : Bool) → is_void t ≡ b → (b || is_value_type t) ≡ true → Safe program fixed types (this_of s) (types_of s.locals) (p.value (plain s) e) (Keeps (types_of s.locals))
-      go t r true b v = safe_map program fixed types (this_of s) (types_of s.locals) (p.value (plain s) e) _ _ (q.value (statement s) e k h f types t VoidType r refl (ap (λ (z : JavaType). is_subtype program.table z VoidType) (void_is t b))) (λ more ms w x. x.0)
+      go t r true b v = safe_map program fixed types (this_of s) (types_of s.locals) (p.value (plain s) e) _ _ (q.value (statement s) e k h f types t VoidType r refl (ap (λ (z : JavaType). is_assignable program.table z VoidType) (void_is t b))) (λ more ms w x. x.0)
       go t r false b v = let u = used program.table t v in safe_map program fixed types (this_of s) (types_of s.locals) (p.value (plain s) e) _ _ (q.value (statement s) e k h f types t u.type r u.target u.fits) (λ more ms w x. x.0)
 
   -- a condition
@@ -140,7 +140,7 @@ module _ (program : Program) (fixed : Fixed) (facts : IsTypedProgram program) (p
       let x = typed_at program fixed facts s c k h fc in
       let rule = kept pl v ((judged s c).faults ++ more) f in
       let b = asked (rules.is_boolean x.type) 28 fine rule.0 (sym (on_type condition_rule (judged s c).typed x.type x.known) ∙ rule.1) in
-      q.value s c k h fc types x.type BooleanType x.known refl (ap (λ (z : JavaType). is_subtype program.table z BooleanType) (boolean_is x.type b.0))
+      q.value s c k h fc types x.type BooleanType x.known refl (ap (λ (z : JavaType). is_assignable program.table z BooleanType) (boolean_is x.type b.0))
 
   choose_boolean : (types : List JavaType) (this : Option ℕ) (ls : List JavaType) (c : Run Value) (m n : Run Flow) (Q : List JavaType → List JavaType → Flow → Type 0) → Safe program fixed types this ls c (GivesAs program ls BooleanType) → ((more : List JavaType) → Safe program fixed more this ls m Q) → ((more : List JavaType) → Safe program fixed more this ls n Q)
       → Safe program fixed types this ls (c >>= (λ v. choose v m n)) Q
@@ -171,7 +171,7 @@ module _ (program : Program) (fixed : Fixed) (facts : IsTypedProgram program) (p
           let rule = kept pl verdict (judged inside e).faults f in
           let new = asked (rules.is_new (declares w s) n (Rattle.kr_types_meaning.specs.Scopes.meant (declares w s) n)) 4 (ask (initial_fits (declares w s) (Some x.type)) 29 fine) rule.0 (sym (on_present (declaration_rule (declares w s) Locals pl n) (judged inside e).typed x.type x.known) ∙ rule.1) in
           let fits = asked (takes (declares w s) w x.type) 29 fine rule.0 new.1 in
-          let fit = subst (λ (z : Table). is_subtype z x.type w ≡ true) k.0 (taken (declares w s) w x.type (variable_known w v) fits.0) in
+          let fit = subst (λ (z : Table). is_assignable z x.type w ≡ true) k.0 (taken (declares w s) w x.type (variable_known w v) fits.0) in
           subst (λ (z : Run (Unit {0})). Safe program fixed types (this_of s) (types_of s.locals ++ w ∷ []) z (Keeps (types_of s.locals ++ w ∷ []))) (sym (initial_present p (plain inside) (length s.locals) e b))
           (safe_next program fixed types (this_of s) (types_of s.locals ++ w ∷ []) (p.value (plain inside) e) _ _ _ (q.value inside e scope coded fe types x.type w x.known (variable_target w v) fit)
           (λ more y z i. safe_assign program fixed more (this_of s) (types_of s.locals ++ w ∷ []) (length s.locals) w y (last_local (types_of s.locals) w (length s.locals) (sym (types_long s.locals))) (i (variable_not_void w v))))
@@ -245,16 +245,16 @@ module _ (program : Program) (fixed : Fixed) (facts : IsTypedProgram program) (p
           let x = typed_at program fixed facts s e k coded fe in
           let rule = kept pl verdict (judged s e).faults f in
           let fits = asked (takes s s.result x.type) 30 fine rule.0 (sym (on_present (return_rule s) (judged s e).typed x.type x.known) ∙ rule.1) in
-          let fit = subst (λ (z : Table). is_subtype z x.type s.result ≡ true) k.0 (taken s s.result x.type (result_known s.result k.3) fits.0) in
+          let fit = subst (λ (z : Table). is_assignable z x.type s.result ≡ true) k.0 (taken s s.result x.type (result_known s.result k.3) fits.0) in
           let kind = subst (λ (z : Bool). is_expression_type z x.type ≡ true) r x.kind in
           let gives = not_void (is_void s.result) refl x.type (value_not_void x.type kind) fit in
           subst (λ (z : Run Flow). Safe program fixed types (this_of s) (types_of s.locals) z (Leads program.table s.result s.is_in_loop (types_of s.locals) (types_of s.locals))) (sym (return_present program p (plain s) pl e b))
           (safe_next program fixed types (this_of s) (types_of s.locals) (p.value (plain s) e) _ (λ more v. is_void s.result ≡ false → IsOf program.table more s.result v) _ (q.value s e k coded fe types x.type s.result x.known (result_target s.result k.3) fit)
           (λ more v y i. safe_give program fixed more (this_of s) (types_of s.locals) (Gave v) _ (refl, gives, i gives)))
         where
-          not_void : (b : Bool) → is_void s.result ≡ b → (t : JavaType) → is_void t ≡ false → is_subtype program.table t s.result ≡ true → is_void s.result ≡ false
+          not_void : (b : Bool) → is_void s.result ≡ b → (t : JavaType) → is_void t ≡ false → is_assignable program.table t s.result ≡ true → is_void s.result ≡ false
           not_void false b t n a = b
-          not_void true b t n a = absurd (cc (n, void_from program.table t (subst (λ (z : JavaType). is_subtype program.table t z ≡ true) (void_is s.result b) a)))
+          not_void true b t n a = absurd (cc (n, void_from program.table t (subst (λ (z : JavaType). is_assignable program.table t z ≡ true) (void_is s.result b) a)))
 
   -- a test and what follows
   tested : (s : Scope) (pl : Place) (c : Tree) (more : List Fault) → (judge pl (on_one condition_rule (judged s c).typed) ((judged s c).faults ++ more)).faults ≡ [] → more ≡ []

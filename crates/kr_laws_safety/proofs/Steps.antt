@@ -11,8 +11,9 @@ use Rattle.kr_value.specs.declared.object.Class.{Class}
 use Rattle.kr_value.specs.declared.object.Class.TheVariants.{Object, Array, Set, List as ListClass}
 use Rattle.kr_value.specs.declared.object.Spot.TheVariants.{Field as FieldSpot, Length}
 use Rattle.kr_value.specs.Heaps.{HeapObject, object_in, has_spot, has_spot_of}
-use Rattle.kr_classes_table.specs.Types.{JavaType, int_type, BooleanType, VoidType, ClassType, ArrayType, SetType, ListType, is_element, is_reference}
-use Rattle.kr_classes_table.specs.Table.{Table, Field, ancestors, is_among, is_below, is_subtype}
+use Rattle.kr_classes_table.specs.Numbers.{Width, Bits32}
+use Rattle.kr_classes_table.specs.Types.{JavaType, NumberType, int_type, BooleanType, VoidType, ClassType, ArrayType, SetType, ListType, is_element, is_reference}
+use Rattle.kr_classes_table.specs.Table.{Table, Field, ancestors, is_among, is_below, is_assignable}
 use Rattle.kr_classes_table.specs.Constants.{is_at_place}
 use Rattle.kr_mean.specs.declared.kind.Kind.{Kind}
 use Rattle.kr_mean.specs.declared.kind.Stop.{Stop}
@@ -47,7 +48,7 @@ object_type program types _ o h = absurd h
 abbrev pub Assigned : Table → JavaType → JavaType → Type 0
 Assigned table u t = (u ≡ t) ⊎ ((c : ℕ) × (d : ℕ) × (u ≡ ClassType c) × (t ≡ ClassType d) × (is_below table c d ≡ true))
 
-pub assigned : (table : Table) (u t : JavaType) → IsObjectType u → is_subtype table u t ≡ true → Assigned table u t
+pub assigned : (table : Table) (u t : JavaType) → IsObjectType u → is_assignable table u t ≡ true → Assigned table u t
 assigned table (ClassType c) (ClassType d) h e = inr (c, d, refl, refl, e)
 assigned table (ClassType c) t h e = inl (same_type (ClassType c) t e)
 assigned table (ArrayType s) t h e = inl (same_type (ArrayType s) t e)
@@ -142,14 +143,14 @@ module _ (program : Program) (fixed : Fixed) where
   pub safe_choose : (types : List JavaType) (this : Option ℕ) (ls : List JavaType) {A : Type 0} (v : Value) (m n : Run A) (Q : List JavaType → List JavaType → A → Type 0) → IsOf program.table types BooleanType v → Safe program fixed types this ls m Q → Safe program fixed types this ls n Q → Safe program fixed types this ls (choose v m n) Q
   safe_choose types this ls (Truth true) m n Q i p q = p
   safe_choose types this ls (Truth false) m n Q i p q = q
-  safe_choose types this ls (Int z) m n Q i p q = absurd (cc (i.0))
+  safe_choose types this ls (Int z) m n Q i p q = absurd (cc (i.1))
   safe_choose types this ls Null m n Q i p q = absurd (cc (i))
   safe_choose types this ls (Reference o) m n Q i p q = record { by = λ s h. no_boolean s h }
     where
       no_boolean : (s : State) → IsStateOf program fixed types this ls s → ⊥
       no_boolean s h = go (type_at types o) (object_type program types (type_at types o) (object_in s.heap o) (object_found program types types s.heap o h.heap i.0)) i.1
         where
-          go : (u : JavaType) → IsObjectType u → is_subtype program.table u BooleanType ≡ true → ⊥
+          go : (u : JavaType) → IsObjectType u → is_assignable program.table u BooleanType ≡ true → ⊥
           go u k e = no_assigned u (assigned program.table u BooleanType k e) k
             where
               no_assigned : (u : JavaType) → Assigned program.table u BooleanType → IsObjectType u → ⊥
@@ -264,7 +265,7 @@ module _ (program : Program) (fixed : Fixed) where
 
   -- ---- the class of a reference
 
-  class_is : (types : List JavaType) (t u : JavaType) (x : HeapObject) → is_reference t ≡ true → is_subtype program.table u t ≡ true → IsObjectOf program types u x → IsClassOf program u x.class
+  class_is : (types : List JavaType) (t u : JavaType) (x : HeapObject) → is_reference t ≡ true → is_assignable program.table u t ≡ true → IsObjectOf program types u x → IsClassOf program u x.class
   class_is types t (ClassType c) x r a h = h.0
   class_is types t (ArrayType e) x r a h = h.0
   class_is types t (SetType e) x r a h = h.0
@@ -273,7 +274,7 @@ module _ (program : Program) (fixed : Fixed) where
   class_is types t _ x r a h = absurd h
 
   pub safe_see : (types : List JavaType) (this : Option ℕ) (ls : List JavaType) (t : JavaType) (v : Value) → is_reference t ≡ true → IsOf program.table types t v → Safe program fixed types this ls (class_or_null v) (λ more after seen. (after ≡ ls) × (more ≡ types) × IsSeen program types v seen)
-  safe_see types this ls t (Int z) r i = absurd (cc (r, ap is_reference i.0))
+  safe_see types this ls t (Int z) r i = absurd (cc (r, ap is_reference i.1))
   safe_see types this ls t (Truth b) r i = absurd (cc (r, ap is_reference i))
   safe_see types this ls t Null r i = record { by = λ s h. (types, ls, extends_self types, h, (refl, refl, refl), extends_self ls) }
   safe_see types this ls t (Reference o) r i = record { by = λ s h. (types, ls, extends_self types, h, (refl, refl, ((object_in s.heap o).class, refl, class_is types t (type_at types o) (object_in s.heap o) r i.1 (object_found program types types s.heap o h.heap i.0))), extends_self ls) }
@@ -287,7 +288,7 @@ module _ (program : Program) (fixed : Fixed) where
     where
       go : Assigned program.table (type_at types o) (ClassType c) → (d : ℕ) × (type_at types o ≡ ClassType d) × (is_below program.table d c ≡ true)
       go (inl e) = (c, e, below_itself program.table c)
-      go (inr r) = (r.0, r.2, ap (λ (x : JavaType). is_subtype program.table (ClassType r.0) x) r.3 ∙ r.4)
+      go (inr r) = (r.0, r.2, ap (λ (x : JavaType). is_assignable program.table (ClassType r.0) x) r.3 ∙ r.4)
 
   pub array_known : (types : List JavaType) (s : State) (o : ℕ) (t : JavaType) → IsHeapOf program types s.heap → IsOf program.table types (ArrayType t) (Reference o) → type_at types o ≡ ArrayType t
   array_known types s o t h i = go (type_known types s o (ArrayType t) h i)
@@ -302,7 +303,7 @@ module _ (program : Program) (fixed : Fixed) where
   -- reads a field of an object
   pub safe_load_field : (types : List JavaType) (this : Option ℕ) (ls : List JavaType) (c : ℕ) (n : List ℕ) (t : JavaType) (v : Value) → HasField program c n t → IsOf program.table types (ClassType c) v → Safe program fixed types this ls (load_field program n v) (Gives program ls t)
   unfolding bind
-  safe_load_field types this ls c n t (Int z) f i = absurd (cc (i.0))
+  safe_load_field types this ls c n t (Int z) f i = absurd (cc (i.1))
   safe_load_field types this ls c n t (Truth b) f i = absurd (cc (i))
   safe_load_field types this ls c n t Null f i = record { by = λ s h. (types, ls, extends_self types, h, extends_self ls) }
   safe_load_field types this ls c n t (Reference o) f i = record { by = λ s h. go s h (class_known types s o c h.heap i) }
@@ -340,17 +341,20 @@ module _ (program : Program) (fixed : Fixed) where
       go false q f = absurd (cc (f))
   index_below (negsuc i) n k e = absurd (cc (e))
 
-  -- an object is no int
-  pub no_int : (types : List JavaType) (s : State) (o : ℕ) → IsHeapOf program types s.heap → IsOf program.table types int_type (Reference o) → ⊥
-  no_int types s o h i = go (type_at types o) (type_known types s o int_type h i) (object_type program types (type_at types o) (object_in s.heap o) (object_found program types types s.heap o h i.0))
+  -- an object is no number
+  pub no_number : (types : List JavaType) (s : State) (w : Width) (o : ℕ) → IsHeapOf program types s.heap → IsOf program.table types (NumberType w) (Reference o) → ⊥
+  no_number types s w o h i = go (type_at types o) (type_known types s o (NumberType w) h i) (object_type program types (type_at types o) (object_in s.heap o) (object_found program types types s.heap o h i.0))
     where
-      go : (u : JavaType) → Assigned program.table u int_type → IsObjectType u → ⊥
+      go : (u : JavaType) → Assigned program.table u (NumberType w) → IsObjectType u → ⊥
       go u (inl e) k = subst IsObjectType e k
       go u (inr r) k = absurd (cc (r.3))
 
+  pub no_int : (types : List JavaType) (s : State) (o : ℕ) → IsHeapOf program types s.heap → IsOf program.table types int_type (Reference o) → ⊥
+  no_int types s o h i = no_number types s Bits32 o h i
+
   -- the length of an array
   pub safe_length : (types : List JavaType) (this : Option ℕ) (ls : List JavaType) (t : JavaType) (v : Value) → IsOf program.table types (ArrayType t) v → Safe program fixed types this ls (load v Length) (λ more after x. (after ≡ ls) × (n : ℕ) × (x ≡ Int (pos n)) × IsLength n)
-  safe_length types this ls t (Int z) i = absurd (cc (i.0))
+  safe_length types this ls t (Int z) i = absurd (cc (i.1))
   safe_length types this ls t (Truth b) i = absurd (cc (i))
   safe_length types this ls t Null i = record { by = λ s h. (types, ls, extends_self types, h, extends_self ls) }
   safe_length types this ls t (Reference o) i = record { by = λ s h. go s h (array_of_type types s o t h.heap i.0 (array_known types s o t h.heap i)) }
@@ -361,7 +365,7 @@ module _ (program : Program) (fixed : Fixed) where
 
   -- an element
   pub safe_element : (types : List JavaType) (this : Option ℕ) (ls : List JavaType) (t : JavaType) (v w : Value) → IsOf program.table types (ArrayType t) v → IsOf program.table types int_type w → Safe program fixed types this ls (element v w) (Gives program ls t)
-  safe_element types this ls t (Int z) w i j = absurd (cc (i.0))
+  safe_element types this ls t (Int z) w i j = absurd (cc (i.1))
   safe_element types this ls t (Truth b) w i j = absurd (cc (i))
   safe_element types this ls t Null (Int z) i j = record { by = λ s h. (types, ls, extends_self types, h, extends_self ls) }
   safe_element types this ls t Null (Truth b) i j = absurd (cc (j))
@@ -386,7 +390,7 @@ module _ (program : Program) (fixed : Fixed) where
 
   -- writes an element
   pub safe_store_element : (types : List JavaType) (this : Option ℕ) (ls : List JavaType) (t : JavaType) (v w x : Value) → IsOf program.table types (ArrayType t) v → IsOf program.table types int_type w → IsOf program.table types t x → Safe program fixed types this ls (store_element program t v w x) (Keeps ls)
-  safe_store_element types this ls t (Int z) w x i j y = absurd (cc (i.0))
+  safe_store_element types this ls t (Int z) w x i j y = absurd (cc (i.1))
   safe_store_element types this ls t (Truth b) w x i j y = absurd (cc (i))
   safe_store_element types this ls t Null (Int z) x i j y = record { by = λ s h. (types, ls, extends_self types, h, extends_self ls) }
   safe_store_element types this ls t Null (Truth b) x i j y = absurd (cc (j))
@@ -416,7 +420,7 @@ module _ (program : Program) (fixed : Fixed) where
   -- writes a field of an object
   pub safe_store : (types : List JavaType) (this : Option ℕ) (ls : List JavaType) (f : Field) (c : ℕ) (v x : Value) → HasField program c f.name f.type → is_below program.table c f.class ≡ true
       → ((d : ℕ) → is_below program.table d c ≡ true → is_below program.table d f.class ≡ true) → IsOf program.table types (ClassType c) v → IsOf program.table types f.type x → Safe program fixed types this ls (store program f v x) (Keeps ls)
-  safe_store types this ls f c (Int z) x has b up i y = absurd (cc (i.0))
+  safe_store types this ls f c (Int z) x has b up i y = absurd (cc (i.1))
   safe_store types this ls f c (Truth z) x has b up i y = absurd (cc (i))
   safe_store types this ls f c Null x has b up i y = record { by = λ s h. (types, ls, extends_self types, h, extends_self ls) }
   safe_store types this ls f c (Reference o) x has b up i y = record { by = λ s h. go s h (class_known types s o c h.heap i) }

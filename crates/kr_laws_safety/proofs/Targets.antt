@@ -1,14 +1,13 @@
 -- Types to which others are assignable, and the values of these.
-use Rattle.std.proofs.Common.{◌≡◌, ℕ, Bool, true, false, List, refl, sym, ap, subst}
-use Rattle.std.specs.Prelude.{not}
+use Rattle.std.proofs.Common.{◌≡◌, ℕ, Bool, true, false, List, refl, sym, ap, subst, arith}
+use Rattle.std.specs.Prelude.{ℤ, pos, negsuc, not}
 use Rattle.kr_value.specs.declared.value.Value.{Value}
 use Rattle.kr_value.specs.declared.value.Value.TheVariants.{Int, Bool as Truth, Null, Ref as Reference}
-use Rattle.kr_classes_table.specs.Numbers.{Bits32}
-use Rattle.kr_classes_table.proofs.Widths.{width_itself}
-use Rattle.kr_classes_table.specs.Types.{JavaType, NumberType, int_type, BooleanType, NullType, VoidType, ClassType, ArrayType, SetType, ListType, InferredType, is_void, is_reference}
-use Rattle.kr_classes_table.specs.Table.{Table, is_below, is_subtype}
+use Rattle.kr_classes_table.specs.Numbers.{Width, Bits32, Bits64}
+use Rattle.kr_classes_table.specs.Types.{JavaType, NumberType, BooleanType, NullType, VoidType, ClassType, ArrayType, SetType, ListType, InferredType, is_void, is_reference}
+use Rattle.kr_classes_table.specs.Table.{Table, is_below, is_assignable}
 use Rattle.kr_mean.specs.Program.{default_of}
-use Rattle.kr_laws_safety.specs.Fits.{IsOf, type_at}
+use Rattle.kr_laws_safety.specs.Fits.{IsWithin, IsOf, type_at}
 use Rattle.kr_laws_safety.proofs.Heaps.{same_type}
 use Rattle.kr_laws_safety.proofs.Vectors.{type_same}
 use Rattle.kr_laws_safety.proofs.Steps.{below_itself}
@@ -54,10 +53,11 @@ void_is t e = same_type t VoidType e
 
 -- the value that a variable begins with
 pub default_is : (table : Table) (types : List JavaType) (t : JavaType) → is_variable_type t ≡ true → IsOf table types t (default_of t)
-default_is table types (NumberType Bits32) e = (refl, small)
+default_is table types (NumberType w) e = (w, refl, small w)
   where
-    small : Rattle.kr_laws_safety.specs.Fits.IsWithin Rattle.kr_classes_table.specs.Numbers.Bits32 (Rattle.std.specs.Prelude.pos 0)
-    small = omega Rattle.std.proofs.Common.arith
+    small : (w : Width) → IsWithin w (pos 0)
+    small Bits32 = omega arith
+    small Bits64 = omega arith
 default_is table types BooleanType e = refl
 default_is table types (ClassType c) e = refl
 default_is table types (ArrayType t) e = refl
@@ -65,9 +65,14 @@ default_is table types (SetType t) e = refl
 default_is table types (ListType t) e = refl
 default_is table types _ e = absurd (cc (e))
 
+-- an int is a long
+pub long_within : (z : ℤ) → IsWithin Bits32 z → IsWithin Bits64 z
+long_within (pos n) h = omega (arith, h)
+long_within (negsuc n) h = omega (arith, h)
+
 -- ---- assignability
 
-pub assignable_reference : (table : Table) (t u : JavaType) → is_reference t ≡ true → is_subtype table t u ≡ true → is_reference u ≡ true
+pub assignable_reference : (table : Table) (t u : JavaType) → is_reference t ≡ true → is_assignable table t u ≡ true → is_reference u ≡ true
 assignable_reference table NullType u r e = e
 assignable_reference table (ClassType c) (ClassType d) r e = refl
 assignable_reference table (ClassType c) u r e = absurd (cc (e))
@@ -78,10 +83,11 @@ assignable_reference table (ListType InferredType) (ListType u) r e = refl
 assignable_reference table (ListType t) u r e = ap is_reference (sym (same_type (ListType t) u e))
 assignable_reference table _ u r e = absurd (cc (r))
 
-pub assignable_itself : (table : Table) (t : JavaType) → is_target t ≡ true → is_subtype table t t ≡ true
+pub assignable_itself : (table : Table) (t : JavaType) → is_target t ≡ true → is_assignable table t t ≡ true
 assignable_itself table NullType e = refl
 assignable_itself table (ClassType c) e = below_itself table c
-assignable_itself table (NumberType w) e = width_itself w
+assignable_itself table (NumberType Bits32) e = refl
+assignable_itself table (NumberType Bits64) e = refl
 assignable_itself table BooleanType e = refl
 assignable_itself table VoidType e = refl
 assignable_itself table (ArrayType t) e = type_same (ArrayType t)
@@ -94,7 +100,7 @@ assignable_itself table (ListType _) e = absurd (cc (e))
 assignable_itself table _ e = absurd (cc (e))
 
 -- only what has no value is assignable to what has none
-pub void_from : (table : Table) (t : JavaType) → is_subtype table t VoidType ≡ true → is_void t ≡ true
+pub void_from : (table : Table) (t : JavaType) → is_assignable table t VoidType ≡ true → is_void t ≡ true
 void_from table NullType e = absurd (cc (e))
 void_from table (ClassType c) e = absurd (cc (e))
 void_from table (SetType InferredType) e = absurd (cc (e))
@@ -107,32 +113,44 @@ abbrev pub IsOnward : Table → Type 0
 IsOnward table = (c d e : ℕ) → is_below table c d ≡ true → is_below table d e ≡ true → is_below table c e ≡ true
 
 module _ (table : Table) (onward : IsOnward table) where
-  pub assignable_through : (a b c : JavaType) → is_subtype table a b ≡ true → is_subtype table b c ≡ true → is_subtype table a c ≡ true
+  pub assignable_through : (a b c : JavaType) → is_assignable table a b ≡ true → is_assignable table b c ≡ true → is_assignable table a c ≡ true
+  assignable_through (NumberType Bits32) (NumberType Bits32) c e f = f
+  assignable_through (NumberType Bits32) (NumberType Bits64) (NumberType Bits64) e f = refl
+  assignable_through (NumberType Bits32) (NumberType Bits64) c e f = absurd (cc (f))
+  assignable_through (NumberType Bits64) (NumberType Bits64) c e f = f
+  assignable_through (NumberType w) b c e f = absurd (cc (e))
   assignable_through NullType b c e f = assignable_reference table b c e f
   assignable_through (ClassType x) (ClassType y) (ClassType z) e f = onward x y z e f
   assignable_through (ClassType x) (ClassType y) c e f = absurd (cc (f))
   assignable_through (ClassType x) b c e f = absurd (cc (e))
   assignable_through (SetType InferredType) (SetType InferredType) (SetType z) e f = refl
   assignable_through (SetType InferredType) (SetType InferredType) c e f = f
-  assignable_through (SetType InferredType) (SetType y) c e f = subst (λ (k : JavaType). is_subtype table (SetType InferredType) k ≡ true) (same_type (SetType y) c f) refl
+  assignable_through (SetType InferredType) (SetType y) c e f = subst (λ (k : JavaType). is_assignable table (SetType InferredType) k ≡ true) (same_type (SetType y) c f) refl
   assignable_through (SetType InferredType) b c e f = absurd (cc (e))
-  assignable_through (SetType t) b c e f = subst (λ (k : JavaType). is_subtype table k c ≡ true) (sym (same_type (SetType t) b e)) f
+  assignable_through (SetType t) b c e f = subst (λ (k : JavaType). is_assignable table k c ≡ true) (sym (same_type (SetType t) b e)) f
   assignable_through (ListType InferredType) (ListType InferredType) (ListType z) e f = refl
   assignable_through (ListType InferredType) (ListType InferredType) c e f = f
-  assignable_through (ListType InferredType) (ListType y) c e f = subst (λ (k : JavaType). is_subtype table (ListType InferredType) k ≡ true) (same_type (ListType y) c f) refl
+  assignable_through (ListType InferredType) (ListType y) c e f = subst (λ (k : JavaType). is_assignable table (ListType InferredType) k ≡ true) (same_type (ListType y) c f) refl
   assignable_through (ListType InferredType) b c e f = absurd (cc (e))
-  assignable_through (ListType t) b c e f = subst (λ (k : JavaType). is_subtype table k c ≡ true) (sym (same_type (ListType t) b e)) f
-  assignable_through a b c e f = subst (λ (k : JavaType). is_subtype table k c ≡ true) (sym (same_type a b e)) f
+  assignable_through (ListType t) b c e f = subst (λ (k : JavaType). is_assignable table k c ≡ true) (sym (same_type (ListType t) b e)) f
+  assignable_through a b c e f = subst (λ (k : JavaType). is_assignable table k c ≡ true) (sym (same_type a b e)) f
+
+  -- a number of a width is one of those that are wider
+  number_widened : (types : List JavaType) (z : ℤ) (w : Width) (u : JavaType) → is_assignable table (NumberType w) u ≡ true → IsWithin w z → IsOf table types u (Int z)
+  number_widened types z Bits32 (NumberType Bits32) e h = (Bits32, refl, h)
+  number_widened types z Bits32 (NumberType Bits64) e h = (Bits64, refl, long_within z h)
+  number_widened types z Bits64 (NumberType Bits64) e h = (Bits64, refl, h)
+  number_widened types z w u e h = absurd (cc (e))
 
   -- a value of a type is one of those to which it may be assigned
-  pub widened : (types : List JavaType) (t u : JavaType) (v : Value) → is_subtype table t u ≡ true → IsOf table types t v → IsOf table types u v
-  widened types t u (Int z) e i = (sym (same_type int_type u (subst (λ (k : JavaType). is_subtype table k u ≡ true) i.0 e)), i.1)
-  widened types t u (Truth b) e i = sym (same_type BooleanType u (subst (λ (k : JavaType). is_subtype table k u ≡ true) i e))
+  pub widened : (types : List JavaType) (t u : JavaType) (v : Value) → is_assignable table t u ≡ true → IsOf table types t v → IsOf table types u v
+  widened types t u (Int z) e i = number_widened types z i.0 u (subst (λ (k : JavaType). is_assignable table k u ≡ true) i.1 e) i.2
+  widened types t u (Truth b) e i = sym (same_type BooleanType u (subst (λ (k : JavaType). is_assignable table k u ≡ true) i e))
   widened types t u Null e i = assignable_reference table t u i e
   widened types t u (Reference o) e i = (i.0, assignable_through (type_at types o) t u i.1 e)
 
   -- a type that is assignable to a type of values has values
-  pub void_kept : (t u : JavaType) → is_subtype table t u ≡ true → is_void u ≡ false → is_void t ≡ false
+  pub void_kept : (t u : JavaType) → is_assignable table t u ≡ true → is_void u ≡ false → is_void t ≡ false
   void_kept VoidType u e f = absurd (cc (ap is_void (same_type VoidType u e), f))
   void_kept _ u e f = refl
 
@@ -141,7 +159,7 @@ module _ (table : Table) (onward : IsOnward table) where
 pub record Used (table : Table) (t : JavaType) : Type 0 where
   pub type : JavaType
   pub target : is_target type ≡ true
-  pub fits : is_subtype table t type ≡ true
+  pub fits : is_assignable table t type ≡ true
   pub given : is_void type ≡ false
   pub reference : is_reference t ≡ true → is_reference type ≡ true
 

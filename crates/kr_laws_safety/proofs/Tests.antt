@@ -5,8 +5,8 @@ use Rattle.std.proofs.lemmas.Bool.{and_parts, or_cases}
 use Rattle.kr_base.specs.declared.place.Place.{Place}
 use Rattle.kr_ast.specs.Tree as trees
 use Rattle.kr_ast.specs.Tree.{Tree}
-use Rattle.kr_classes_table.specs.Types.{JavaType, int_type, BooleanType, ArrayType, is_void, is_reference, is_collection, is_element}
-use Rattle.kr_classes_table.specs.Table.{is_subtype, are_related}
+use Rattle.kr_classes_table.specs.Types.{JavaType, NumberType, int_type, BooleanType, ArrayType, is_void, is_reference, is_collection, is_element}
+use Rattle.kr_classes_table.specs.Table.{is_assignable, are_related}
 use Rattle.kr_types_meaning.specs.Scopes.{Scope, value, in_old, written}
 use Rattle.kr_types_meaning.specs.Rules as rules
 use Rattle.kr_types_meaning.specs.Promotion.{are_numbers}
@@ -14,17 +14,17 @@ use Rattle.kr_types_meaning.specs.Rules.{Fits, gives, both_boolean, related_refe
 use Rattle.kr_types_meaning.specs.Typing.{on_one, on_two, judged, type_in}
 use Rattle.kr_mean.specs.Program.{Program}
 use Rattle.kr_mean.specs.Steps.{give, ◌>>=◌, class_or_null}
-use Rattle.kr_mean.specs.Meaning.{Parts, cast, instance, create_array, is_primitive}
+use Rattle.kr_mean.specs.Meaning.{Parts, cast, instance, create_array, is_primitive, primitive_cast}
 use Rattle.kr_laws_safety.specs.Triples.{Fixed, Safe, Gives, type_of_old}
 use Rattle.kr_laws_safety.proofs.Steps.{safe_choose, safe_result, safe_old}
-use Rattle.kr_laws_safety.proofs.Operators.{safe_create_array}
+use Rattle.kr_laws_safety.proofs.Operators.{safe_create_array, safe_number_cast}
 use Rattle.kr_laws_types.specs.Types.{is_value_type, is_variable_type}
 use Rattle.kr_laws_types.specs.Shapes.{Expression, HasNumber}
 use Rattle.kr_laws_shapes.specs.Expressions.{IsWritten}
 use Rattle.kr_laws_types.specs.Expressions.{plain}
 use Rattle.kr_laws_types.proofs.Expressions.{written_variable}
 use Rattle.kr_laws_safety.specs.Typed.{IsTypedProgram}
-use Rattle.kr_laws_safety.specs.Claims.{this_of, types_of, is_target, IsScope, Coded, PartsSafe}
+use Rattle.kr_laws_safety.specs.Claims.{this_of, types_of, IsScope, Coded, PartsSafe}
 use Rattle.kr_laws_safety.proofs.Targets.{not_true, default_is, assignable_through, used}
 use Rattle.kr_laws_safety.proofs.Promoted.{numbers_are}
 use Rattle.kr_laws_safety.proofs.Glue.{ruled, ruled_as, ruled_two, ruled_ask, ruled_value, ruled_gives, on_type, int_is, boolean_is, safe_next, safe_as, settled, typed_at}
@@ -35,14 +35,6 @@ use Rattle.kr_laws_types.proofs.Typed.{front_none, back_none, below_none}
 
 module _ (program : Program) (fixed : Fixed) (facts : IsTypedProgram program) (p : Parts) (q : PartsSafe program fixed p) where
   -- ---- casts
-
-  -- between primitive types a cast changes nothing
-  primitive_is : (s : Scope) (to from : JavaType) → (are_numbers to from || both_boolean to from) ≡ true → (from ≡ to) × (is_target to ≡ true) × (is_void to ≡ false)
-  primitive_is s to from e = go (or_cases (are_numbers to from) (both_boolean to from) e)
-    where
-      go : (are_numbers to from ≡ true) ⊎ (both_boolean to from ≡ true) → (from ≡ to) × (is_target to ≡ true) × (is_void to ≡ false)
-      go (inl i) = let h = numbers_are to from i in (h.1 ∙ sym h.0, ap is_target h.0, ap is_void h.0)
-      go (inr i) = let h = and_parts (rules.is_boolean to) (rules.is_boolean from) i in (boolean_is from h.1 ∙ sym (boolean_is to h.0), ap is_target (boolean_is to h.0), ap is_void (boolean_is to h.0))
 
   references_are : (s : Scope) (to from : JavaType) → (related_references s from to && not (is_collection to) && not (is_collection from)) ≡ true → (is_reference from ≡ true) × (is_reference to ≡ true)
   references_are s to from e =
@@ -64,14 +56,25 @@ module _ (program : Program) (fixed : Fixed) (facts : IsTypedProgram program) (p
       safe_as program fixed facts.below types (this_of s) (types_of s.locals) _ t u a (go to.0 (written_is s w to.0 i to.1) x.type x.known x.kind back is (or_cases (are_numbers to.0 x.type || both_boolean to.0 x.type) _ asked.0) (is_primitive w) refl)
     where
       Cast : Bool → Type 0
-      Cast b = Safe program fixed types (this_of s) (types_of s.locals) (if b then p.value (plain s) e else (p.value (plain s) e >>= (λ v. class_or_null v >>= cast program (written s w) v))) (Gives program (types_of s.locals) t)
+      Cast b = Safe program fixed types (this_of s) (types_of s.locals) (if b then primitive_cast (written s w) (p.value (plain s) e) else (p.value (plain s) e >>= (λ v. class_or_null v >>= cast program (written s w) v))) (Gives program (types_of s.locals) t)
+
+      -- a number is converted, a boolean stays
+      primitive : (to : JavaType) → to ≡ written s w → (from : JavaType) → type_in (judged (value s) e).typed ≡ Some from → (judged (value s) e).faults ≡ [] → to ≡ t → (are_numbers to from ≡ true) ⊎ (both_boolean to from ≡ true) → Cast true
+      primitive to ew from rx back is (inl z) =
+          let n = numbers_are to from z in
+          subst (λ (y : JavaType). Safe program fixed types (this_of s) (types_of s.locals) (primitive_cast y (p.value (plain s) e)) (Gives program (types_of s.locals) t)) (sym n.2 ∙ ew)
+          (subst (λ (y : JavaType). Safe program fixed types (this_of s) (types_of s.locals) (primitive_cast (NumberType n.0) (p.value (plain s) e)) (Gives program (types_of s.locals) y)) (sym n.2 ∙ is)
+          (safe_next program fixed types (this_of s) (types_of s.locals) (p.value (plain s) e) _ _ _ (part_as program fixed facts p q (value s) e k h back types (NumberType n.1) (rx ∙ ap (λ (y : JavaType). Some y) n.3) refl refl)
+          (λ more v m j. safe_number_cast program fixed more (this_of s) (types_of s.locals) n.0 n.1 v j)))
+      primitive to ew from rx back is (inr z) =
+          let n = and_parts (rules.is_boolean to) (rules.is_boolean from) z in
+          subst (λ (y : JavaType). Safe program fixed types (this_of s) (types_of s.locals) (primitive_cast y (p.value (plain s) e)) (Gives program (types_of s.locals) t)) (sym (boolean_is to n.0) ∙ ew)
+          (subst (λ (y : JavaType). Safe program fixed types (this_of s) (types_of s.locals) (p.value (plain s) e) (Gives program (types_of s.locals) y)) (sym (boolean_is to n.0) ∙ is)
+          (part_as program fixed facts p q (value s) e k h back types BooleanType (rx ∙ ap (λ (y : JavaType). Some y) (boolean_is from n.1)) refl refl))
 
       go : (to : JavaType) → to ≡ written s w → (from : JavaType) → type_in (judged (value s) e).typed ≡ Some from → is_value_type from ≡ true → (judged (value s) e).faults ≡ [] → to ≡ t
           → ((are_numbers to from || both_boolean to from) ≡ true) ⊎ ((related_references s from to && not (is_collection to) && not (is_collection from)) ≡ true) → (b : Bool) → is_primitive w ≡ b → Cast b
-      go to ew from rx vx back is (inl z) true b =
-          let y = primitive_is s to from z in
-          subst (λ (n : JavaType). Safe program fixed types (this_of s) (types_of s.locals) (p.value (plain s) e) (Gives program (types_of s.locals) n)) is
-          (part_as program fixed facts p q (value s) e k h back types to (rx ∙ ap (λ (n : JavaType). Some n) y.0) y.1 y.2)
+      go to ew from rx vx back is (inl z) true b = primitive to ew from rx back is (or_cases (are_numbers to from) (both_boolean to from) z)
       go to ew from rx vx back is (inr z) true b =
           let y = references_are s to from z in
           absurd (cc (ap is_reference ew ∙ primitive_plain s w i b, y.1))
@@ -122,15 +125,15 @@ module _ (program : Program) (fixed : Fixed) (facts : IsTypedProgram program) (p
       let y = typed_at program fixed facts (value S) b k hb fb in
       let z = typed_at program fixed facts (value S) d k hd fd in
       let rule = ruled_as v (choice_rule S x.type y.type z.type) t (on_type (λ n. on_two (choice_rule S n) jb.typed jd.typed) jc.typed x.type x.known ∙ (on_type (λ n. on_one (choice_rule S x.type n) jd.typed) jb.typed y.type y.known ∙ on_type (choice_rule S x.type y.type) jd.typed z.type z.known)) (ruled pl v (jc.faults ++ jb.faults ++ jd.faults) t f r) in
-      let asked = ruled_ask (rules.is_boolean x.type && are_related program.table y.type z.type) 15 (Fits (rules.Value (if is_subtype program.table y.type z.type then z.type else y.type))) t rule in
+      let asked = ruled_ask (rules.is_boolean x.type && are_related program.table y.type z.type) 15 (Fits (rules.Value (if is_assignable program.table y.type z.type then z.type else y.type))) t rule in
       let both = and_parts (rules.is_boolean x.type) (are_related program.table y.type z.type) asked.0 in
-      let arms = go y.type z.type (is_subtype program.table y.type z.type) refl (ruled_value (if is_subtype program.table y.type z.type then z.type else y.type) t asked.1) both.1 in
+      let arms = go y.type z.type (is_assignable program.table y.type z.type) refl (ruled_value (if is_assignable program.table y.type z.type then z.type else y.type) t asked.1) both.1 in
       safe_next program fixed types (this_of s) (types_of s.locals) (p.value (plain S) c) _ _ _ (part_as program fixed facts p q (value S) c k hc fc types BooleanType (x.known ∙ ap (λ (n : JavaType). Some n) (boolean_is x.type both.0)) refl refl)
       (λ more v m i. safe_choose program fixed more (this_of s) (types_of s.locals) v (p.value (plain S) b) (p.value (plain S) d) _ i (q.value (value S) b k hb fb more y.type u y.known g arms.0) (q.value (value S) d k hd fd more z.type u z.known g arms.1))
     where
-      go : (y z : JavaType) (n : Bool) → is_subtype program.table y z ≡ n → (if n then z else y) ≡ t → (n || is_subtype program.table z y) ≡ true → (is_subtype program.table y u ≡ true) × (is_subtype program.table z u ≡ true)
-      go y z true e i h = let j = subst (λ (n : JavaType). is_subtype program.table n u ≡ true) (sym i) a in (assignable_through program.table facts.below y z u e j, j)
-      go y z false e i h = let j = subst (λ (n : JavaType). is_subtype program.table n u ≡ true) (sym i) a in (j, assignable_through program.table facts.below z y u h j)
+      go : (y z : JavaType) (n : Bool) → is_assignable program.table y z ≡ n → (if n then z else y) ≡ t → (n || is_assignable program.table z y) ≡ true → (is_assignable program.table y u ≡ true) × (is_assignable program.table z u ≡ true)
+      go y z true e i h = let j = subst (λ (n : JavaType). is_assignable program.table n u ≡ true) (sym i) a in (assignable_through program.table facts.below y z u e j, j)
+      go y z false e i h = let j = subst (λ (n : JavaType). is_assignable program.table n u ≡ true) (sym i) a in (j, assignable_through program.table facts.below z y u h j)
 
   -- ---- new arrays
 

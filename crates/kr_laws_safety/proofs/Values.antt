@@ -9,7 +9,7 @@ use Rattle.kr_value.specs.declared.value.Value.{Value}
 use Rattle.kr_value.specs.declared.value.Value.TheVariants.{Null, Ref as Reference}
 use Rattle.kr_value.specs.declared.object.Class.TheVariants.{Set, List as ListClass}
 use Rattle.kr_classes_table.specs.Types.{JavaType, ClassType, ArrayType, SetType, ListType, InferredType, AppliedType, is_void, is_element}
-use Rattle.kr_classes_table.specs.Table.{Table, Method, applied, items, ancestors, super_of, constructor_parameters, method_named, is_below, is_subtype}
+use Rattle.kr_classes_table.specs.Table.{Table, Method, applied, items, ancestors, super_of, constructor_parameters, method_named, is_below, is_assignable}
 use Rattle.kr_types_meaning.specs.Scopes.{Scope, value, written, class_before, static_only, method_meant, super_class}
 use Rattle.kr_types_meaning.specs.Rules as rules
 use Rattle.kr_types_meaning.specs.Rules.{Typed, Values, Untyped, Judgement, Fits, Breaks, ask, gives, arguments_fit, is_none_of, is_statement, result_rule, arguments_rule, call_rule, static_rule, above_rule, super_rule, method_rule, object_call_rule, collection_rule, creation_fits, creation_rule, diamond_rule}
@@ -35,7 +35,7 @@ use Rattle.kr_laws_safety.proofs.Targets.{not_true, widened}
 use Rattle.kr_laws_safety.proofs.Glue.{Ruled, ruled, ruled_as, ruled_ask, same_types, ruled_value, ruled_gives, on_type, safe_next, safe_as, safe_as_result, settled, settle, typed_at, has_variables}
 use Rattle.kr_laws_safety.proofs.Scoping.{method_found, class_plain, type_plain}
 use Rattle.kr_laws_safety.proofs.Classes.{safe_class}
-use Rattle.kr_laws_safety.proofs.Operands.{written_is, Goal, part_as, number, truth, null, safe_here, this_object, variable, field_access, array_access, unary, operation}
+use Rattle.kr_laws_safety.proofs.Operands.{written_is, Goal, part_as, number, long_number, truth, null, safe_here, this_object, variable, field_access, array_access, unary, operation}
 use Rattle.kr_laws_safety.proofs.Tests.{conversion, test, choice, array_made, result, before}
 use Rattle.kr_laws_safety.proofs.Writes.{assignment, compound_assignment, step}
 use Rattle.kr_laws_safety.proofs.Calls.{ruled_list, Fit, variables_used, arguments_are, Given, arguments, method_run, static_run, overridden_run, chosen_run}
@@ -82,8 +82,8 @@ module _ (program : Program) (fixed : Fixed) (facts : IsTypedProgram program) (p
   given s es m ts k h f e table v fit types = arguments program fixed facts p q (value s) es k h f ts (types_in m.parameters) e (subst (λ (z : Table). Fit z ts (types_in m.parameters)) table (arguments_are s ts m.parameters v fit)) (variables_used (types_in m.parameters) v) types
 
   -- the type of a result as what it is used as
-  as_used : (types : List JavaType) (this : Option ℕ) (ls : List JavaType) (m : Run Value) (r t u : JavaType) → r ≡ t → is_subtype program.table t u ≡ true → Safe program fixed types this ls m (GivesAs program ls r) → Safe program fixed types this ls m (GivesAs program ls u)
-  as_used types this ls m r t u e a s = safe_as_result program fixed facts.below types this ls m r u (subst (λ (n : JavaType). is_subtype program.table n u ≡ true) (sym e) a) s
+  as_used : (types : List JavaType) (this : Option ℕ) (ls : List JavaType) (m : Run Value) (r t u : JavaType) → r ≡ t → is_assignable program.table t u ≡ true → Safe program fixed types this ls m (GivesAs program ls r) → Safe program fixed types this ls m (GivesAs program ls u)
+  as_used types this ls m r t u e a s = safe_as_result program fixed facts.below types this ls m r u (subst (λ (n : JavaType). is_assignable program.table n u ≡ true) (sym e) a) s
 
   -- ---- calls without an object
 
@@ -184,7 +184,7 @@ module _ (program : Program) (fixed : Fixed) (facts : IsTypedProgram program) (p
   abbrev Called : Scope → Tree → List ℕ → Tree → List JavaType → JavaType → Option ℕ → Type 0
   Called s e n es types u c = Safe program fixed types (this_of s) (types_of s.locals) (method_call program p (plain (settled program fixed s)) e n (items es) c) (GivesAs program (types_of s.locals) u)
 
-  behind_class : (s : Scope) (pl : Place) (e : Tree) (n : List ℕ) (es : Tree) (types : List JavaType) (t u : JavaType) (c : ℕ) → IsScope program fixed (settled program fixed s) → Coded program fixed Expressions (settled program fixed s) es → is_subtype program.table t u ≡ true
+  behind_class : (s : Scope) (pl : Place) (e : Tree) (n : List ℕ) (es : Tree) (types : List JavaType) (t u : JavaType) (c : ℕ) → IsScope program fixed (settled program fixed s) → Coded program fixed Expressions (settled program fixed s) es → is_assignable program.table t u ≡ true
       → (judged (value (settled program fixed s)) es).faults ≡ [] → Ruled (on_list (static_rule (settled program fixed s) (method_named program.table c n)) (judged (value (settled program fixed s)) es).typed) t → Called s e n es types u (Some c)
   behind_class s pl e n es types t u c k h a b r = let list = ruled_list (static_rule (settled program fixed s) (method_named program.table c n)) (judged (value (settled program fixed s)) es).typed t r in go (method_named program.table c n) refl list.0 list.1 list.2
     where
@@ -204,7 +204,7 @@ module _ (program : Program) (fixed : Fixed) (facts : IsTypedProgram program) (p
   values_typed s es ts k h e = subst (λ (z : Typed). AllGood z) e (good program.arrays (type_of_old fixed.olds) Expressions (value s) es (subst Rattle.kr_laws_types.specs.Types.HasVariables (sym k.0) (has_variables program fixed facts), k.2, k.3) h refl)
 
   -- of an object of a class
-  on_class : (s : Scope) (e : Tree) (n : List ℕ) (es : Tree) (types : List JavaType) (t u : JavaType) (c : ℕ) → IsScope program fixed (settled program fixed s) → Coded program fixed (Expression false) (settled program fixed s) e → Coded program fixed Expressions (settled program fixed s) es → is_subtype program.table t u ≡ true
+  on_class : (s : Scope) (e : Tree) (n : List ℕ) (es : Tree) (types : List JavaType) (t u : JavaType) (c : ℕ) → IsScope program fixed (settled program fixed s) → Coded program fixed (Expression false) (settled program fixed s) e → Coded program fixed Expressions (settled program fixed s) es → is_assignable program.table t u ≡ true
       → (judged (value (settled program fixed s)) e).faults ≡ [] → (judged (value (settled program fixed s)) es).faults ≡ [] → type_in (judged (value (settled program fixed s)) e).typed ≡ Some (ClassType c) → (ts : List JavaType) → (judged (value (settled program fixed s)) es).typed ≡ Values ts
       → Ruled (method_rule (settled program fixed s) (method_named program.table c n) ts) t → Called s e n es types u None
   on_class s e n es types t u c k h l a fe fl known ts j r = go (method_named program.table c n) refl r
@@ -221,7 +221,7 @@ module _ (program : Program) (fixed : Fixed) (facts : IsTypedProgram program) (p
           (as_used others (this_of s) (types_of s.locals) _ m.result t u fit.1 a (chosen_run program fixed facts p q others (this_of s) (types_of s.locals) c n m o vs y (value_more program.table more others (ClassType c) o z i) w))))
 
   -- of a collection
-  on_collection : (s : Scope) (c : Collection) (e : Tree) (n : List ℕ) (es : Tree) (types : List JavaType) (t u w : JavaType) → IsScope program fixed (settled program fixed s) → Coded program fixed (Expression false) (settled program fixed s) e → Coded program fixed Expressions (settled program fixed s) es → is_subtype program.table t u ≡ true
+  on_collection : (s : Scope) (c : Collection) (e : Tree) (n : List ℕ) (es : Tree) (types : List JavaType) (t u w : JavaType) → IsScope program fixed (settled program fixed s) → Coded program fixed (Expression false) (settled program fixed s) e → Coded program fixed Expressions (settled program fixed s) es → is_assignable program.table t u ≡ true
       → (judged (value (settled program fixed s)) e).faults ≡ [] → (judged (value (settled program fixed s)) es).faults ≡ [] → type_in (judged (value (settled program fixed s)) e).typed ≡ Some (type_with c w) → is_value_type (type_with c w) ≡ true → method_of_type program.table n (Some (type_with c w)) ≡ None
       → (ts : List JavaType) → (judged (value (settled program fixed s)) es).typed ≡ Values ts → Ruled (collection_rule (settled program fixed s) (is_list c) w n ts) t → Called s e n es types u None
   on_collection s c e n es types t u w k h l a fe fl known kind absent ts j r =
@@ -263,40 +263,40 @@ module _ (program : Program) (fixed : Fixed) (facts : IsTypedProgram program) (p
   -- ---- creations
 
   -- a new collection is of the type that it is used as
-  sets_used : (w u : JavaType) → is_target u ≡ true → is_subtype program.table (SetType w) u ≡ true → (x : JavaType) × (u ≡ SetType x) × (is_element x ≡ true)
+  sets_used : (w u : JavaType) → is_target u ≡ true → is_assignable program.table (SetType w) u ≡ true → (x : JavaType) × (u ≡ SetType x) × (is_element x ≡ true)
   sets_used w (SetType (ClassType c)) g a = (ClassType c, refl, refl)
   sets_used w (SetType (ArrayType t)) g a = (ArrayType t, refl, refl)
   sets_used w (SetType _) g a = absurd (cc (g))
   sets_used InferredType _ g a = absurd (cc (a))
   sets_used w _ g a = absurd (cc (a))
 
-  lists_used : (w u : JavaType) → is_target u ≡ true → is_subtype program.table (ListType w) u ≡ true → (x : JavaType) × (u ≡ ListType x) × (is_element x ≡ true)
+  lists_used : (w u : JavaType) → is_target u ≡ true → is_assignable program.table (ListType w) u ≡ true → (x : JavaType) × (u ≡ ListType x) × (is_element x ≡ true)
   lists_used w (ListType (ClassType c)) g a = (ClassType c, refl, refl)
   lists_used w (ListType (ArrayType t)) g a = (ArrayType t, refl, refl)
   lists_used w (ListType _) g a = absurd (cc (g))
   lists_used InferredType _ g a = absurd (cc (a))
   lists_used w _ g a = absurd (cc (a))
 
-  new_set : (types : List JavaType) (this : Option ℕ) (ls : List JavaType) (w u : JavaType) (vs : List Value) → is_target u ≡ true → is_subtype program.table (SetType w) u ≡ true → AreOf program.table types [] vs → Safe program fixed types this ls (create program p (SetType w) vs) (GivesAs program ls u)
+  new_set : (types : List JavaType) (this : Option ℕ) (ls : List JavaType) (w u : JavaType) (vs : List Value) → is_target u ≡ true → is_assignable program.table (SetType w) u ≡ true → AreOf program.table types [] vs → Safe program fixed types this ls (create program p (SetType w) vs) (GivesAs program ls u)
   new_set types this ls w u (v ∷ vs) g a j = absurd j
   new_set types this ls w u [] g a j =
       let x = sets_used w u g a in
       safe_map program fixed types this ls (make Set []) _ _ (safe_make program fixed types this ls (SetType x.0) Set [] (refl, x.2, tt))
-      (λ more ms v h. (h.0, λ d. subst (λ (z : Value). IsOf program.table more u z) (sym h.2) (h.3, ap (λ (n : JavaType). is_subtype program.table n u) h.4 ∙ (ap (λ (n : JavaType). is_subtype program.table (SetType x.0) n) x.1 ∙ same x.0 x.2))))
+      (λ more ms v h. (h.0, λ d. subst (λ (z : Value). IsOf program.table more u z) (sym h.2) (h.3, ap (λ (n : JavaType). is_assignable program.table n u) h.4 ∙ (ap (λ (n : JavaType). is_assignable program.table (SetType x.0) n) x.1 ∙ same x.0 x.2))))
     where
-      same : (x : JavaType) → is_element x ≡ true → is_subtype program.table (SetType x) (SetType x) ≡ true
+      same : (x : JavaType) → is_element x ≡ true → is_assignable program.table (SetType x) (SetType x) ≡ true
       same (ClassType c) e = type_same (SetType (ClassType c))
       same (ArrayType t) e = type_same (SetType (ArrayType t))
       same _ e = absurd (cc (e))
 
-  new_list : (types : List JavaType) (this : Option ℕ) (ls : List JavaType) (w u : JavaType) (vs : List Value) → is_target u ≡ true → is_subtype program.table (ListType w) u ≡ true → AreOf program.table types [] vs → Safe program fixed types this ls (create program p (ListType w) vs) (GivesAs program ls u)
+  new_list : (types : List JavaType) (this : Option ℕ) (ls : List JavaType) (w u : JavaType) (vs : List Value) → is_target u ≡ true → is_assignable program.table (ListType w) u ≡ true → AreOf program.table types [] vs → Safe program fixed types this ls (create program p (ListType w) vs) (GivesAs program ls u)
   new_list types this ls w u (v ∷ vs) g a j = absurd j
   new_list types this ls w u [] g a j =
       let x = lists_used w u g a in
       safe_map program fixed types this ls (make ListClass []) _ _ (safe_make program fixed types this ls (ListType x.0) ListClass [] (refl, x.2, tt))
-      (λ more ms v h. (h.0, λ d. subst (λ (z : Value). IsOf program.table more u z) (sym h.2) (h.3, ap (λ (n : JavaType). is_subtype program.table n u) h.4 ∙ (ap (λ (n : JavaType). is_subtype program.table (ListType x.0) n) x.1 ∙ same x.0 x.2))))
+      (λ more ms v h. (h.0, λ d. subst (λ (z : Value). IsOf program.table more u z) (sym h.2) (h.3, ap (λ (n : JavaType). is_assignable program.table n u) h.4 ∙ (ap (λ (n : JavaType). is_assignable program.table (ListType x.0) n) x.1 ∙ same x.0 x.2))))
     where
-      same : (x : JavaType) → is_element x ≡ true → is_subtype program.table (ListType x) (ListType x) ≡ true
+      same : (x : JavaType) → is_element x ≡ true → is_assignable program.table (ListType x) (ListType x) ≡ true
       same (ClassType c) e = type_same (ListType (ClassType c))
       same (ArrayType t) e = type_same (ListType (ArrayType t))
       same _ e = absurd (cc (e))
@@ -313,7 +313,7 @@ module _ (program : Program) (fixed : Fixed) (facts : IsTypedProgram program) (p
       let list = ruled_list (creation_rule S part.0) je.typed t part.2 in
       let asked = ruled_ask (creation_fits S part.0 list.0) 26 (ask (rules.is_code s.part) 39 (Fits (rules.Value part.0))) t list.2 in
       let is = ruled_value part.0 t (ruled_ask (rules.is_code s.part) 39 (Fits (rules.Value part.0)) t asked.1).1 in
-      subst (λ (z : JavaType). Creates z) (made_is S w part.0 i part.1) (go part.0 list.0 list.1 (back_none jw.faults je.faults below) asked.0 (subst (λ (z : JavaType). is_subtype program.table z u ≡ true) (sym is) a))
+      subst (λ (z : JavaType). Creates z) (made_is S w part.0 i part.1) (go part.0 list.0 list.1 (back_none jw.faults je.faults below) asked.0 (subst (λ (z : JavaType). is_assignable program.table z u ≡ true) (sym is) a))
     where
       Creates : JavaType → Type 0
       Creates z = Safe program fixed types (this_of s) (types_of s.locals) (values_of p (plain (settled program fixed s)) (items es) >>= create program p z) (GivesAs program (types_of s.locals) u)
@@ -322,7 +322,7 @@ module _ (program : Program) (fixed : Fixed) (facts : IsTypedProgram program) (p
       none [] e = tt
       none (t ∷ ts) e = absurd (cc (e))
 
-      go : (c : JavaType) (ts : List JavaType) → (judged (value (settled program fixed s)) es).typed ≡ Values ts → (judged (value (settled program fixed s)) es).faults ≡ [] → creation_fits (settled program fixed s) c ts ≡ true → is_subtype program.table c u ≡ true → Creates c
+      go : (c : JavaType) (ts : List JavaType) → (judged (value (settled program fixed s)) es).typed ≡ Values ts → (judged (value (settled program fixed s)) es).faults ≡ [] → creation_fits (settled program fixed s) c ts ≡ true → is_assignable program.table c u ≡ true → Creates c
       go (ClassType c) ts j fl e a =
           let variables = taken_variables program fixed facts p q c in
           safe_next program fixed types (this_of s) (types_of s.locals) (values_of p (plain (settled program fixed s)) (items es)) _ _ _
@@ -343,6 +343,7 @@ module _ (program : Program) (fixed : Fixed) (facts : IsTypedProgram program) (p
 
   by_kind : (s : Scope) (e : Tree) → Kind (settled program fixed s) e
   by_kind s (trees.Number pl n) k h f = number program fixed facts p q (settled program fixed s) pl n f
+  by_kind s (trees.LongNumber pl n) k h f = long_number program fixed facts p q (settled program fixed s) pl n f
   by_kind s (trees.Truth pl b) k h f = truth program fixed facts p q (settled program fixed s) pl b
   by_kind s (trees.Null pl) k h f = null program fixed facts p q (settled program fixed s) pl
   by_kind s (trees.This pl) k h f = this_object program fixed facts p q (settled program fixed s) pl f

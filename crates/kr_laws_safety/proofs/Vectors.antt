@@ -12,7 +12,7 @@ use Rattle.kr_value.specs.declared.object.Class.{Class}
 use Rattle.kr_value.specs.declared.object.Class.TheVariants.{Object, Array, Set, List as ListClass}
 use Rattle.kr_classes_table.proofs.Widths.{width_itself}
 use Rattle.kr_classes_table.specs.Types.{JavaType, NumberType, BooleanType, NullType, VoidType, ClassType, ArrayType, SetType, ListType, InferredType, UnknownType, AppliedType, is_same}
-use Rattle.kr_classes_table.specs.Table.{ancestors, is_among, is_below, is_subtype, fields_of}
+use Rattle.kr_classes_table.specs.Table.{ancestors, is_among, is_below, is_assignable, fields_of}
 use Rattle.kr_mean.specs.Program.{is_array_of}
 use Rattle.kr_mean.specs.Problem.{Problem, DomainItem, Plain, Objects, Domain, Spotted, Slot, DomainObject, Choice, all_objects, heap_number, objects_of_domain, item_choices, choices_in, object_choice, domain_at, slots, slot_at}
 use Rattle.kr_mean.specs.Space.{space_of, no_choice, IsVector}
@@ -97,7 +97,7 @@ module _ (problem : Problem) (w : IsWellFormed problem) (h : HaveDomainsTypes pr
   item_typed t (Objects d) i =
       all_map (λ (c : Choice). Of t c.value) (object_choice problem) (objects_of_domain d (domain_at problem d))
       (all_range (λ (o : DomainObject). Of t (object_choice problem o).value) (λ k. object d k) 0 (count_at problem d)
-      (λ k l m. let r = object_typed d k i.0 (omega (arith, m)) in (r.0, ap (λ (u : JavaType). is_subtype problem.program.table u t) r.1 ∙ i.1)))
+      (λ k l m. let r = object_typed d k i.0 (omega (arith, m)) in (r.0, ap (λ (u : JavaType). is_assignable problem.program.table u t) r.1 ∙ i.1)))
 
   domain_typed : (t : JavaType) (is : Domain) → IsDomainOf problem t is → AllOf (λ (c : Choice). Of t c.value) (choices_in problem is)
   domain_typed t [] i = tt
@@ -207,7 +207,7 @@ module _ (problem : Problem) (w : IsWellFormed problem) (h : HaveDomainsTypes pr
   this_typed =
       let r = root_object problem v iv in
       let t = object_typed problem.root (get_or v 0 0) w.root r.number_in in
-      (heap_number problem (object problem.root (get_or v 0 0)), ap (λ (c : Choice). c.value) r.choice, (t.0, ap (λ (u : JavaType). is_subtype problem.program.table u (ClassType (root_class problem))) (t.1 ∙ ap (class_type problem.program) h.root) ∙ below_itself (root_class problem)))
+      (heap_number problem (object problem.root (get_or v 0 0)), ap (λ (c : Choice). c.value) r.choice, (t.0, ap (λ (u : JavaType). is_assignable problem.program.table u (ClassType (root_class problem))) (t.1 ∙ ap (class_type problem.program) h.root) ∙ below_itself (root_class problem)))
 
   -- the parameters' slots follow that of `this`
   parameters_typed : (ts : List JavaType) (ds : List Domain) (a : ℕ) → AreDomainsOf problem ts ds → HaveSlots (a + 1) ds → AreOf problem.program.table (object_types problem) ts (map (λ i. value_at problem v (i + 1)) (range_with_len a (length ds)))

@@ -127,6 +127,7 @@ IsExpressions sort = false
 nodes_within : (arrays : List JavaType) (olds : Place → Option JavaType) (sort : Sort) (s u : Scope) (e : Tree) → IsCode arrays olds sort u e → IsExpressions sort ≡ true → AllWithin s (code s e)
 nodes_within arrays olds (Expression m) s u trees.Nil h i = tt
 nodes_within arrays olds (Expression m) s u (trees.Number p n) h i = (refl, tt)
+nodes_within arrays olds (Expression m) s u (trees.LongNumber p n) h i = (refl, tt)
 nodes_within arrays olds (Expression m) s u (trees.Truth p b) h i = (refl, tt)
 nodes_within arrays olds (Expression m) s u (trees.Null p) h i = (refl, tt)
 nodes_within arrays olds (Expression m) s u (trees.This p) h i = (refl, tt)

@@ -1,7 +1,6 @@
 -- Assignments, compound assignments, `++` and `--`.
 use Rattle.std.proofs.Common.{◌≡◌, ℕ, inl, inr, Bool, true, false, List, [], ◌++◌, Option, Some, None, refl, sym, ap, ◌∙◌, arith, subst}
 use Rattle.std.specs.Prelude.{pos, not, bytes_eq, codes, if◌then◌else◌, option_and_then}
-use Rattle.std.proofs.lemmas.Bool.{and_parts}
 use Rattle.kr_base.specs.declared.place.Place.{Place}
 use Rattle.kr_ast.specs.declared.node.BinaryOperator.{BinaryOperator}
 use Rattle.kr_ast.specs.declared.node.BinaryOperator.TheVariants as operators
@@ -11,9 +10,10 @@ use Rattle.kr_ast.specs.Tree as trees
 use Rattle.kr_ast.specs.Tree.{Tree}
 use Rattle.kr_value.specs.declared.value.Value.{Value}
 use Rattle.kr_value.specs.declared.value.Value.TheVariants.{Int}
-use Rattle.kr_classes_table.specs.Numbers.{Bits32}
-use Rattle.kr_classes_table.specs.Types.{BooleanType, JavaType, NumberType, int_type, ClassType, ArrayType, is_void, is_known}
-use Rattle.kr_classes_table.specs.Table.{Field, field_named, is_below, is_subtype}
+use Rattle.kr_classes_table.specs.Numbers.{Width, Bits32, Bits64, wider}
+use Rattle.kr_classes_table.specs.Operators.{operator_width}
+use Rattle.kr_classes_table.specs.Types.{BooleanType, JavaType, NumberType, int_type, ClassType, ArrayType, is_void, is_known, width_in}
+use Rattle.kr_classes_table.specs.Table.{Field, field_named, is_below, is_assignable}
 use Rattle.kr_classes_table.specs.Constants.{field_meant}
 use Rattle.kr_types_meaning.specs.Scopes.{Scope, Meant, LocalName, FieldName, NoName, value, meant, class_before}
 use Rattle.kr_types_meaning.specs.Rules as rules
@@ -22,14 +22,14 @@ use Rattle.kr_types_meaning.specs.Rules.{Typed, Untyped, Judgement, Fits, ask, g
 use Rattle.kr_types_meaning.specs.Typing.{judge, on_one, on_two, field_of, judged, type_in, type_of}
 use Rattle.kr_mean.specs.Program.{Program}
 use Rattle.kr_mean.specs.Steps.{Run, say, get_this, read_local, assign, load_field, element, store, store_element}
-use Rattle.kr_mean.specs.Operators.{operated, binary_operation, step_operation, step_operator, gives_old}
-use Rattle.kr_mean.specs.Meaning.{Parts, Target, LocalTarget, OwnField, FieldOf, ElementOf, NoTarget, name_target, field_target, element_target, field_of_type, typed_field, target_of, assigned, changed, Change, change_to, change_from, compound, stepped, width_at, width_of}
-use Rattle.kr_laws_safety.specs.Fits.{IsOf}
+use Rattle.kr_mean.specs.Operators.{operated, binary_operation, compound_operation, step_operation, step_operator, gives_old}
+use Rattle.kr_mean.specs.Meaning.{Parts, Target, LocalTarget, OwnField, FieldOf, ElementOf, NoTarget, name_target, field_target, element_target, field_of_type, typed_field, target_of, assigned, changed, Change, change_to, change_from, compound, stepped, type_width, width_at, width_of}
+use Rattle.kr_laws_safety.specs.Fits.{IsWithin, IsOf}
 use Rattle.kr_laws_safety.specs.Triples.{Fixed, Safe, Gives, Keeps, type_of_local}
 use Rattle.kr_laws_safety.specs.Steps.{is_junction, HasField}
 use Rattle.kr_laws_safety.proofs.Heaps.{value_more}
 use Rattle.kr_laws_safety.proofs.Steps.{safe_give, safe_map, safe_local, safe_assign, safe_load_field, safe_element, safe_store, safe_store_element}
-use Rattle.kr_laws_safety.proofs.Operators.{Use, ints, booleans, references, used as used_by, safe_operated}
+use Rattle.kr_laws_safety.proofs.Operators.{Use, numbers, booleans, references, used as used_by, safe_operated, safe_compound}
 use Rattle.kr_laws_types.specs.Types.{is_value_type, is_variable_type}
 use Rattle.kr_laws_types.specs.Shapes.{Expression}
 use Rattle.kr_laws_shapes.specs.Expressions.{is_compound}
@@ -38,41 +38,39 @@ use Rattle.kr_laws_safety.specs.Typed.{IsTypedProgram}
 use Rattle.kr_laws_safety.specs.Claims.{this_of, types_of, is_target, IsScope, Coded, PartsSafe}
 use Rattle.kr_laws_safety.proofs.Targets.{not_true, variable_target, variable_not_void}
 use Rattle.kr_laws_safety.proofs.Promoted.{alone_is}
-use Rattle.kr_laws_safety.proofs.Glue.{Ruled, ruled, ruled_one, ruled_two, ruled_ask, ruled_value, ruled_variable, ruled_varies, on_type, int_is, boolean_is, safe_next, safe_keep, safe_as, settled, typed_at}
+use Rattle.kr_laws_safety.proofs.Glue.{Ruled, ruled, ruled_one, ruled_two, ruled_ask, ruled_value, ruled_variable, ruled_varies, on_type, int_is, safe_next, safe_keep, safe_as, settled, typed_at}
 use Rattle.kr_laws_safety.proofs.Scoping.{IsMeant, meant_is, field_found, type_plain}
 use Rattle.kr_laws_safety.proofs.Operands.{Goal, part_as, safe_here, field_ruled}
 use Rattle.kr_laws_types.proofs.Typed.{front_none, back_none, below_none}
 
--- ---- operators that give what they are assigned to
+-- ---- operators that take what they are assigned to
 
-numbers_kept : (a b : JavaType) (r : ℕ) → not (is_broken (of_promoted (promoted a b) r)) ≡ true → of_promoted (promoted a b) r ≡ Fits (rules.Value a)
-numbers_kept (NumberType Bits32) b r e = right b e
+-- a rule that isn't broken gives a type
+numbers_kept : (a b : JavaType) (r : ℕ) → not (is_broken (of_promoted (promoted a b) r)) ≡ true → (t : JavaType) × (of_promoted (promoted a b) r ≡ Fits (rules.Value t))
+numbers_kept a b r e = go (promoted a b) e
   where
-    right : (b : JavaType) → not (is_broken (of_promoted (promoted_alone b) r)) ≡ true → of_promoted (promoted_alone b) r ≡ Fits (rules.Value int_type)
-    right (NumberType Bits32) e = refl
-    right _ e = absurd (cc (e))
-numbers_kept _ b r e = absurd (cc (e))
+    go : (o : Option JavaType) → not (is_broken (of_promoted o r)) ≡ true → (t : JavaType) × (of_promoted o r ≡ Fits (rules.Value t))
+    go (Some t) e = (t, refl)
+    go None e = absurd (cc (e))
 
-shift_kept : (a b : JavaType) → not (is_broken (shift_rule a b)) ≡ true → shift_rule a b ≡ Fits (rules.Value a)
-shift_kept a b e = go (is_number b) e
+shift_kept : (a b : JavaType) → not (is_broken (shift_rule a b)) ≡ true → (t : JavaType) × (shift_rule a b ≡ Fits (rules.Value t))
+shift_kept a b e = go (is_number b) (promoted_alone a) e
   where
-    left : (a : JavaType) → not (is_broken (of_promoted (promoted_alone a) 8)) ≡ true → of_promoted (promoted_alone a) 8 ≡ Fits (rules.Value a)
-    left (NumberType w) e = refl
-    left _ e = absurd (cc (e))
+    go : (n : Bool) (o : Option JavaType) → not (is_broken (ask n 8 (of_promoted o 8))) ≡ true → (t : JavaType) × (ask n 8 (of_promoted o 8) ≡ Fits (rules.Value t))
+    go true (Some t) e = (t, refl)
+    go true None e = absurd (cc (e))
+    go false o e = absurd (cc (e))
 
-    go : (n : Bool) → not (is_broken (ask n 8 (of_promoted (promoted_alone a) 8))) ≡ true → ask n 8 (of_promoted (promoted_alone a) 8) ≡ Fits (rules.Value a)
-    go true e = left a e
-    go false e = absurd (cc (e))
-
-bits_kept : (a b : JavaType) → not (is_broken (bit_rule a b)) ≡ true → bit_rule a b ≡ Fits (rules.Value a)
-bits_kept a b e = go (both_boolean a b) refl e
+bits_kept : (a b : JavaType) → not (is_broken (bit_rule a b)) ≡ true → (t : JavaType) × (bit_rule a b ≡ Fits (rules.Value t))
+bits_kept a b e = go (both_boolean a b) (promoted a b) e
   where
-    go : (n : Bool) → both_boolean a b ≡ n → not (is_broken (if n then Fits (rules.Value BooleanType) else of_promoted (promoted a b) 11)) ≡ true
-        → (if n then Fits (rules.Value BooleanType) else of_promoted (promoted a b) 11) ≡ Fits (rules.Value a)
-    go true i e = ap (λ (t : JavaType). Fits (rules.Value t)) (sym (boolean_is a (and_parts (rules.is_boolean a) (rules.is_boolean b) i).0))
-    go false i e = numbers_kept a b 11 e
+    go : (n : Bool) (o : Option JavaType) → not (is_broken (if n then Fits (rules.Value BooleanType) else of_promoted o 11)) ≡ true
+        → (t : JavaType) × ((if n then Fits (rules.Value BooleanType) else of_promoted o 11) ≡ Fits (rules.Value t))
+    go true o e = (BooleanType, refl)
+    go false (Some t) e = (t, refl)
+    go false None e = absurd (cc (e))
 
-compound_gives : (s : Scope) (o : BinaryOperator) (a b : JavaType) → is_compound o ≡ true → not (is_broken (operator_rule s o a b)) ≡ true → operator_rule s o a b ≡ Fits (rules.Value a)
+compound_gives : (s : Scope) (o : BinaryOperator) (a b : JavaType) → is_compound o ≡ true → not (is_broken (operator_rule s o a b)) ≡ true → (t : JavaType) × (operator_rule s o a b ≡ Fits (rules.Value t))
 compound_gives s operators.Multiply a b c e = numbers_kept a b 7 e
 compound_gives s operators.Divide a b c e = numbers_kept a b 7 e
 compound_gives s operators.Remainder a b c e = numbers_kept a b 7 e
@@ -93,10 +91,15 @@ compound_plain _ c = refl
 
 -- the right operand is one that values are used as
 compound_operand : (o : BinaryOperator) (a b t : JavaType) → is_compound o ≡ true → Use o a b t → (is_target b ≡ true) × (is_void b ≡ false)
-compound_operand o a b t c (ints x y z) = (ap is_target y, ap is_void y)
+compound_operand o a b t c (numbers v w x y z) = (ap is_target y, ap is_void y)
 compound_operand o a b t c (booleans x y z w) = (ap is_target y, ap is_void y)
 compound_operand o a b t c (references x y (inl z) w) = absurd (cc (ap is_compound z, c))
 compound_operand o a b t c (references x y (inr z) w) = absurd (cc (ap is_compound z, c))
+
+-- one is an int
+wider_one : (w : Width) → wider w Bits32 ≡ w
+wider_one Bits32 = refl
+wider_one Bits64 = refl
 
 -- `++` and `--` are sums and differences
 step_plain : (o : StepOperator) → is_junction (step_operator o) ≡ false
@@ -105,11 +108,18 @@ step_plain steps.IncrementBehind = refl
 step_plain steps.DecrementBefore = refl
 step_plain steps.DecrementBehind = refl
 
-step_gives : (s : Scope) (o : StepOperator) → operator_rule s (step_operator o) int_type int_type ≡ Fits (rules.Value int_type)
-step_gives s steps.IncrementBefore = refl
-step_gives s steps.IncrementBehind = refl
-step_gives s steps.DecrementBefore = refl
-step_gives s steps.DecrementBehind = refl
+step_gives : (s : Scope) (o : StepOperator) (w : Width) → operator_rule s (step_operator o) (NumberType w) int_type ≡ Fits (rules.Value (NumberType w))
+step_gives s steps.IncrementBefore w = ap (λ (v : Width). Fits (rules.Value (NumberType v))) (wider_one w)
+step_gives s steps.IncrementBehind w = ap (λ (v : Width). Fits (rules.Value (NumberType v))) (wider_one w)
+step_gives s steps.DecrementBefore w = ap (λ (v : Width). Fits (rules.Value (NumberType v))) (wider_one w)
+step_gives s steps.DecrementBehind w = ap (λ (v : Width). Fits (rules.Value (NumberType v))) (wider_one w)
+
+-- they work at the width of the variable
+step_wide : (o : StepOperator) (w : Width) → w ≡ operator_width (step_operator o) w Bits32
+step_wide steps.IncrementBefore w = sym (wider_one w)
+step_wide steps.IncrementBehind w = sym (wider_one w)
+step_wide steps.DecrementBefore w = sym (wider_one w)
+step_wide steps.DecrementBehind w = sym (wider_one w)
 
 module _ (program : Program) (fixed : Fixed) (facts : IsTypedProgram program) (p : Parts) (q : PartsSafe program fixed p) where
   -- ---- targets
@@ -296,11 +306,11 @@ module _ (program : Program) (fixed : Fixed) (facts : IsTypedProgram program) (p
       let x = typed_at program fixed facts (value S) b k h front in
       let y = typed_at program fixed facts (value S) e k l back in
       let rule = ruled_two pl (assignment_rule S jb.typed) jb je x.type y.type t x.known y.known f r in
-      let asked = ruled_ask (is_subtype program.table y.type x.type) 16 (written_rule S jb.typed x.type) t rule in
+      let asked = ruled_ask (is_assignable program.table y.type x.type) 16 (written_rule S jb.typed x.type) t rule in
       let is = written_is S jb.typed x.type t asked.1 in
       let place = x.variable is.0 in
       let writes = target_writes s b x.type k h front x.known is.0 place.0 in
-      safe_as program fixed facts.below types (this_of s) (types_of s.locals) _ x.type u (subst (λ (n : JavaType). is_subtype program.table n u ≡ true) (sym is.1) a)
+      safe_as program fixed facts.below types (this_of s) (types_of s.locals) _ x.type u (subst (λ (n : JavaType). is_assignable program.table n u ≡ true) (sym is.1) a)
       (write S x.type (target_of (plain S) b) k writes (p.value (plain S) e)
       (λ more. safe_map program fixed more (this_of s) (types_of s.locals) (p.value (plain S) e) _ _ (q.value (value S) e k l back more y.type x.type y.known (variable_target x.type place.1) asked.0) (λ others ms v z. (z.0, z.1 (variable_not_void x.type place.1))))
       types)
@@ -323,11 +333,13 @@ module _ (program : Program) (fixed : Fixed) (facts : IsTypedProgram program) (p
       let place = x.variable is.0 in
       let writes = target_writes s b x.type k h front x.known is.0 place.0 in
       let rule' = compound_gives S o x.type y.type c asked.0 in
-      let operand = compound_operand o x.type y.type x.type c (used_by S o x.type y.type x.type (compound_plain o c) rule') in
-      safe_as program fixed facts.below types (this_of s) (types_of s.locals) _ x.type u (subst (λ (n : JavaType). is_subtype program.table n u ≡ true) (sym is.1) a)
-      (change S x.type (target_of (plain S) b) k writes (compound (binary_operation (width_of (plain S) o b e) o) (p.value (plain S) e))
+      let used = used_by S o x.type y.type rule'.0 (compound_plain o c) rule'.1 in
+      let operand = compound_operand o x.type y.type rule'.0 c used in
+      let to : width_at (plain S) b ≡ width_in x.type = ap type_width (type_plain S b ∙ x.known) in
+      safe_as program fixed facts.below types (this_of s) (types_of s.locals) _ x.type u (subst (λ (n : JavaType). is_assignable program.table n u ≡ true) (sym is.1) a)
+      (change S x.type (target_of (plain S) b) k writes (compound (compound_operation (width_at (plain S) b) (width_of (plain S) o b e) o) (p.value (plain S) e))
       (λ more v i. safe_next program fixed more (this_of s) (types_of s.locals) (p.value (plain S) e) _ _ _ (part_as program fixed facts p q (value S) e k l back more y.type y.known operand.0 operand.1)
-      (λ others w z j. safe_next program fixed others (this_of s) (types_of s.locals) (say (operated (binary_operation (width_of (plain S) o b e) o) v w)) _ _ _ (safe_operated program fixed others (this_of s) (types_of s.locals) S (width_of (plain S) o b e) o x.type y.type x.type v w (compound_plain o c) rule' (value_more program.table more others x.type v z i) j)
+      (λ others w z j. safe_next program fixed others (this_of s) (types_of s.locals) (say (operated (compound_operation (width_at (plain S) b) (width_of (plain S) o b e) o) v w)) _ _ _ (safe_compound program fixed others (this_of s) (types_of s.locals) (width_at (plain S) b) (width_of (plain S) o b e) o x.type y.type rule'.0 v w c used to (value_more program.table more others x.type v z i) j)
       (λ last n m d. safe_give program fixed last (this_of s) (types_of s.locals) (change_to n) _ (refl, (d, d)))))
       types)
 
@@ -342,17 +354,19 @@ module _ (program : Program) (fixed : Fixed) (facts : IsTypedProgram program) (p
       let asked = ruled_ask (is_number x.type) 18 (written_rule S jb.typed x.type) t rule in
       let is = written_is S jb.typed x.type t asked.1 in
       let place = x.variable is.0 in
-      let int = alone_is x.type asked.0 in
-      let writes = subst (λ (n : JavaType). Writes S n (target_of (plain S) b)) int (target_writes s b x.type k h below x.known is.0 place.0) in
-      safe_as program fixed facts.below types (this_of s) (types_of s.locals) _ int_type u (subst (λ (n : JavaType). is_subtype program.table n u ≡ true) (sym is.1 ∙ int) a)
-      (change S int_type (target_of (plain S) b) k writes (stepped (step_operation (width_at (plain S) b) o))
-      (λ more v i. safe_next program fixed more (this_of s) (types_of s.locals) (say (operated (binary_operation (width_at (plain S) b) (step_operator o)) v (Int (pos 1)))) _ _ _ (safe_operated program fixed more (this_of s) (types_of s.locals) S (width_at (plain S) b) (step_operator o) int_type int_type int_type v (Int (pos 1)) (step_plain o) (step_gives S o) i (refl, one))
-      (λ others w z j. safe_give program fixed others (this_of s) (types_of s.locals) (change_from (gives_old o) v w) _ (refl, from (gives_old o) others v w (value_more program.table more others int_type v z i) j)))
+      let number = alone_is x.type asked.0 in
+      let writes = subst (λ (n : JavaType). Writes S n (target_of (plain S) b)) number.1 (target_writes s b x.type k h below x.known is.0 place.0) in
+      let wide : width_at (plain S) b ≡ number.0 = ap type_width (type_plain S b ∙ (x.known ∙ ap (λ (n : JavaType). Some n) number.1)) in
+      safe_as program fixed facts.below types (this_of s) (types_of s.locals) _ (NumberType number.0) u (subst (λ (n : JavaType). is_assignable program.table n u ≡ true) (sym is.1 ∙ number.1) a)
+      (change S (NumberType number.0) (target_of (plain S) b) k writes (stepped (step_operation (width_at (plain S) b) o))
+      (λ more v i. safe_next program fixed more (this_of s) (types_of s.locals) (say (operated (binary_operation (width_at (plain S) b) (step_operator o)) v (Int (pos 1)))) _ _ _
+      (safe_operated program fixed more (this_of s) (types_of s.locals) S (width_at (plain S) b) (step_operator o) (NumberType number.0) int_type (NumberType number.0) v (Int (pos 1)) (step_plain o) (step_gives S o number.0) (wide ∙ step_wide o number.0) i (Bits32, refl, one))
+      (λ others w z j. safe_give program fixed others (this_of s) (types_of s.locals) (change_from (gives_old o) v w) _ (refl, from (NumberType number.0) (gives_old o) others v w (value_more program.table more others (NumberType number.0) v z i) j)))
       types)
     where
-      one : Rattle.kr_laws_safety.specs.Fits.IsWithin Rattle.kr_classes_table.specs.Numbers.Bits32 (pos 1)
+      one : IsWithin Bits32 (pos 1)
       one = omega arith
 
-      from : (n : Bool) (others : List JavaType) (v w : Value) → IsOf program.table others int_type v → IsOf program.table others int_type w → IsChange others int_type (change_from n v w)
-      from true others v w i j = (j, i)
-      from false others v w i j = (j, j)
+      from : (z : JavaType) (n : Bool) (others : List JavaType) (v w : Value) → IsOf program.table others z v → IsOf program.table others z w → IsChange others z (change_from n v w)
+      from z true others v w i j = (j, i)
+      from z false others v w i j = (j, j)

@@ -4,7 +4,7 @@ use Rattle.std.specs.Prelude.{◌≡◌, ℕ, Bool, true, false, if◌then◌els
 use Rattle.kr_ast.specs.Tree.{Tree}
 use Rattle.kr_value.specs.declared.value.Value.{Value}
 use Rattle.kr_classes_table.specs.Types.{JavaType, BooleanType, NullType, is_void}
-use Rattle.kr_classes_table.specs.Table.{Table, is_subtype}
+use Rattle.kr_classes_table.specs.Table.{Table, is_assignable}
 use Rattle.kr_types_meaning.specs.Scopes.{Scope, Local, after}
 use Rattle.kr_types_meaning.specs.Rules.{is_ensuring, is_statement}
 use Rattle.kr_types_meaning.specs.Typing.{judged, type_in}
@@ -66,7 +66,7 @@ LeadsOn table result loops before locals more after (Gave v) = Extends before af
 -- an expression without broken nodes, used as a type to which its own may be assigned
 abbrev pub ValuesSafe : Program → Fixed → (Scope → Tree → Run Value) → Type 0
 ValuesSafe program fixed f = (s : Scope) (e : Tree) → IsScope program fixed s → Coded program fixed (Expression false) s e → (judged s e).faults ≡ []
-    → (types : List JavaType) (t u : JavaType) → type_in (judged s e).typed ≡ Some t → is_target u ≡ true → is_subtype program.table t u ≡ true
+    → (types : List JavaType) (t u : JavaType) → type_in (judged s e).typed ≡ Some t → is_target u ≡ true → is_assignable program.table t u ≡ true
     → Safe program fixed types (this_of s) (types_of s.locals) (f (plain s) e) (GivesAs program (types_of s.locals) u)
 
 -- a statement without broken nodes

@@ -4,7 +4,7 @@ use Rattle.std.proofs.Common.{get_or}
 use Rattle.kr_value.specs.declared.object.Class.{Class}
 use Rattle.kr_value.specs.declared.object.Class.TheVariants.{Object, Array}
 use Rattle.kr_classes_table.specs.Types.{JavaType, VoidType, ClassType, ArrayType}
-use Rattle.kr_classes_table.specs.Table.{Method, fields_of, is_subtype}
+use Rattle.kr_classes_table.specs.Table.{Method, fields_of, is_assignable}
 use Rattle.kr_mean.specs.Program.{Program}
 use Rattle.kr_mean.specs.Problem.{Problem, DomainItem, Plain, Objects, Domain, Spotted, DomainObject, all_objects, domain_at}
 use Rattle.kr_mean.specs.Runs.{root_class, tested_method}
@@ -23,7 +23,7 @@ object_types problem = map (λ (o : DomainObject). class_type problem.program (d
 -- values of a type: a plain one, or all objects of a class domain
 abbrev pub IsItemOf : Problem → JavaType → DomainItem → Type 0
 IsItemOf problem t (Plain v) = IsOf problem.program.table [] t v
-IsItemOf problem t (Objects d) = (d < length problem.domains) × (is_subtype problem.program.table (class_type problem.program (domain_at problem d).class) t ≡ true)
+IsItemOf problem t (Objects d) = (d < length problem.domains) × (is_assignable problem.program.table (class_type problem.program (domain_at problem d).class) t ≡ true)
 
 abbrev pub IsDomainOf : Problem → JavaType → Domain → Type 0
 IsDomainOf problem t [] = Unit {0}

@@ -7,9 +7,9 @@ use Rattle.kr_value.specs.declared.value.Value.TheVariants.{Int, Bool as Truth, 
 use Rattle.kr_value.specs.declared.object.Class.{Class}
 use Rattle.kr_value.specs.declared.object.Class.TheVariants.{Object, Array, Set, List as ListClass}
 use Rattle.kr_value.specs.Heaps.{HeapObject}
-use Rattle.kr_classes_table.specs.Types.{JavaType, int_type, BooleanType, VoidType, ClassType, ArrayType, SetType, ListType, is_element, is_reference}
-use Rattle.kr_classes_table.specs.Table.{Table, fields_of, is_subtype}
-use Rattle.kr_classes_table.specs.Numbers.{Width, Bits32, half}
+use Rattle.kr_classes_table.specs.Types.{JavaType, NumberType, BooleanType, VoidType, ClassType, ArrayType, SetType, ListType, is_element, is_reference}
+use Rattle.kr_classes_table.specs.Table.{Table, fields_of, is_assignable}
+use Rattle.kr_classes_table.specs.Numbers.{Width, half}
 use Rattle.kr_mean.specs.Program.{Program, is_array_of}
 
 -- ---- values
@@ -23,12 +23,12 @@ IsWithin w (negsuc n) = n < half w
 abbrev pub type_at : List JavaType → ℕ → JavaType
 type_at types o = get_or types o VoidType
 
--- An int, a boolean; null is of each reference type, and an object of those to which its own may be assigned.
+-- A number within the width of its type, a boolean; null is of each reference type, and an object of those to which its own may be assigned.
 abbrev pub IsOf : Table → List JavaType → JavaType → Value → Type 0
-IsOf table types t (Int z) = (t ≡ int_type) × IsWithin Bits32 z
+IsOf table types t (Int z) = (w : Width) × (t ≡ NumberType w) × IsWithin w z
 IsOf table types t (Truth b) = t ≡ BooleanType
 IsOf table types t Null = is_reference t ≡ true
-IsOf table types t (Reference o) = (o < length types) × (is_subtype table (type_at types o) t ≡ true)
+IsOf table types t (Reference o) = (o < length types) × (is_assignable table (type_at types o) t ≡ true)
 
 -- values in order, each of its type
 abbrev pub AreOf : Table → List JavaType → List JavaType → List Value → Type 0

@@ -8,13 +8,14 @@ use Rattle.kr_value.specs.declared.value.Value.{Value}
 use Rattle.kr_value.specs.declared.value.Value.TheVariants.{Int, Ref as Reference}
 use Rattle.kr_value.specs.declared.object.Class.{Class}
 use Rattle.kr_value.specs.declared.object.Spot.TheVariants.{Length}
-use Rattle.kr_classes_table.specs.Types.{JavaType, int_type, BooleanType, ClassType, ArrayType, ListType, is_reference}
+use Rattle.kr_classes_table.specs.Types.{JavaType, int_type, BooleanType, ClassType, ArrayType, ListType, is_reference, width_in}
 use Rattle.kr_classes_table.specs.Table.{Field, is_below}
 use Rattle.kr_mean.specs.Program.{Program, default_of}
 use Rattle.kr_types_meaning.specs.Scopes.{Scope}
 use Rattle.kr_types_meaning.specs.Rules.{Fits, Value as Typed, operator_rule, unary_rule}
 use Rattle.kr_mean.specs.Steps.{Run, say, tick, get_this, read_local, declare, assign, get_result, get_old, within, scoped, class_or_null, load, load_field, store, store_new, element, store_element, make, collect}
 use Rattle.kr_classes_table.specs.Numbers.{Width}
+use Rattle.kr_classes_table.specs.Operators.{operator_width}
 use Rattle.kr_mean.specs.Operators.{operated, operated_alone, binary_operation, unary_operation}
 use Rattle.kr_mean.specs.declared.flow.Flow.{Flow}
 use Rattle.kr_mean.specs.Meaning.{create_array}
@@ -56,9 +57,9 @@ pub record KeepTypes (program : Program) (fixed : Fixed) : Type 0 where
   pub gives_is_empty : (types : List JavaType) (this : Option ℕ) (ls : List JavaType) (k : Collection) (t : JavaType) (v : Value) → IsOf program.table types (type_with k t) v → Safe program fixed types this ls (collect (codes "isEmpty") v []) (Gives program ls BooleanType)
   pub removes_first : (types : List JavaType) (this : Option ℕ) (ls : List JavaType) (t : JavaType) (v : Value) → IsOf program.table types (ListType t) v → Safe program fixed types this ls (collect (codes "removeFirst") v []) (Gives program ls t)
   -- operators on operands as the typing rules require them, and new arrays
-  pub operates : (types : List JavaType) (this : Option ℕ) (ls : List JavaType) (s : Scope) (width : Width) (o : BinaryOperator) (a b t : JavaType) (v w : Value) → is_junction o ≡ false → operator_rule s o a b ≡ Fits (Typed t) → IsOf program.table types a v → IsOf program.table types b w
+  pub operates : (types : List JavaType) (this : Option ℕ) (ls : List JavaType) (s : Scope) (width : Width) (o : BinaryOperator) (a b t : JavaType) (v w : Value) → is_junction o ≡ false → operator_rule s o a b ≡ Fits (Typed t) → width ≡ operator_width o (width_in a) (width_in b) → IsOf program.table types a v → IsOf program.table types b w
       → Safe program fixed types this ls (say (operated (binary_operation width o) v w)) (Gives program ls t)
-  pub operates_alone : (types : List JavaType) (this : Option ℕ) (ls : List JavaType) (width : Width) (o : UnaryOperator) (a t : JavaType) (v : Value) → unary_rule o a ≡ Fits (Typed t) → IsOf program.table types a v → Safe program fixed types this ls (say (operated_alone (unary_operation width o) v)) (Gives program ls t)
+  pub operates_alone : (types : List JavaType) (this : Option ℕ) (ls : List JavaType) (width : Width) (o : UnaryOperator) (a t : JavaType) (v : Value) → unary_rule o a ≡ Fits (Typed t) → width ≡ width_in a → IsOf program.table types a v → Safe program fixed types this ls (say (operated_alone (unary_operation width o) v)) (Gives program ls t)
   pub creates_array : (types : List JavaType) (this : Option ℕ) (ls : List JavaType) (t : JavaType) (k : ℕ) (v : Value) → array_number program.arrays (ArrayType t) ≡ Some k → IsOf program.table [] t (default_of t) → IsOf program.table types int_type v
       → Safe program fixed types this ls (create_array program t v) (Gives program ls (ArrayType t))
 

@@ -7,7 +7,7 @@ use Rattle.kr_ast.specs.Tree.{Tree}
 use Rattle.kr_value.specs.declared.value.Value.{Value}
 use Rattle.kr_value.specs.declared.object.Class.TheVariants.{Object}
 use Rattle.kr_classes_table.specs.Types.{JavaType}
-use Rattle.kr_classes_table.specs.Table.{Table, Field, Parameter, Method, Constructor, super_of, line_of, is_below, is_subtype, field_named, method_named, constructor_parameters}
+use Rattle.kr_classes_table.specs.Table.{Table, Field, Parameter, Method, Constructor, super_of, line_of, is_below, is_assignable, field_named, method_named, constructor_parameters}
 use Rattle.kr_classes_table.specs.Constants.{known_value}
 use Rattle.kr_types_meaning.specs.Scopes.{Scope, after, super_parameters}
 use Rattle.kr_types_meaning.specs.Typing.{judged, type_in}
@@ -54,7 +54,7 @@ pub record Overrides (program : Program) (d : ℕ) (m k : Method) : Type 0 where
   pub instance : k.is_static ≡ false
   pub below : is_below program.table d k.class ≡ true
   pub parameters : types_in k.parameters ≡ types_in m.parameters
-  pub result : is_subtype program.table k.result m.result ≡ true
+  pub result : is_assignable program.table k.result m.result ≡ true
 
 -- the arguments of the superclass's constructor fit; where there is no call it takes none
 abbrev pub CallsSuper : List JavaType → Olds → Scope → Tree → Type 0
@@ -79,7 +79,7 @@ pub record IsInitialised (program : Program) (c : ℕ) (f : Field) : Type 0 wher
   pub variable : is_variable_type f.type ≡ true
   pub code : (olds : Olds) → IsCode program.arrays olds (Expression true) (class_scope program f.class) f.initial
   pub unbroken : (judged (class_scope program f.class) f.initial).faults ≡ []
-  pub fits : (t : JavaType) → type_in (judged (class_scope program f.class) f.initial).typed ≡ Some t → is_subtype program.table t f.type ≡ true
+  pub fits : (t : JavaType) → type_in (judged (class_scope program f.class) f.initial).typed ≡ Some t → is_assignable program.table t f.type ≡ true
 
 abbrev pub AreInitialised : Program → ℕ → List Field → Type 0
 AreInitialised program c [] = Unit {0}

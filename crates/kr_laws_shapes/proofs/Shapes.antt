@@ -142,11 +142,13 @@ name_is_type t h = absurd h
 -- `void` is no type of a variable
 value_kind : (k : Kind) (p : Primitive) → primitive_of k ≡ Some p → IsValueKind p
 value_kind k primitives.Int e = tt
+value_kind k primitives.Long e = tt
 value_kind k primitives.Boolean e = tt
 value_kind k primitives.Void e = absurd (none k e)
   where
     none : (k : Kind) → primitive_of k ≡ Some primitives.Void → ⊥
     none kinds.Int e = cc (e)
+    none kinds.Long e = cc (e)
     none kinds.Boolean e = cc (e)
     none k e = cc (e)
 
@@ -213,6 +215,7 @@ has (grammar.array_type a b d k l) = has d
 has (grammar.primitive_type {k = k} a e) = value_kind a.kind k e
 has (grammar.reference_type d) = has d
 has (grammar.number a k) = tt
+has (grammar.long_number a k) = tt
 has (grammar.truth a k) = tt
 has (grammar.falsity a k) = tt
 has (grammar.null a k) = tt

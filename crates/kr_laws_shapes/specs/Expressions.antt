@@ -45,6 +45,7 @@ Shaped true trees.Nil = Unit {0}
 Shaped true (trees.Cons a b) = Shaped false a × Shaped true b
 Shaped true t = ⊥
 Shaped false (trees.Number p n) = Unit {0}
+Shaped false (trees.LongNumber p n) = Unit {0}
 Shaped false (trees.Truth p b) = Unit {0}
 Shaped false (trees.Null p) = Unit {0}
 Shaped false (trees.This p) = Unit {0}

@@ -23,7 +23,7 @@ use Rattle.kr_classes_table.specs.Constants.{is_at_place}
 use Rattle.kr_classes_table.specs.declared.errors.OperatorError.TheVariants.{ZeroDivisor, NotDefined}
 use Rattle.kr_classes_table.specs.Numbers.{Width}
 use Rattle.kr_classes_table.specs.Operators.{Applied, of_wholes, of_booleans, of_references, apply_alone}
-use Rattle.kr_laws_slots.proofs.Plain.{IsPlain, wholes_plain, booleans_plain, references_plain, alone_plain}
+use Rattle.kr_laws_slots.proofs.Plain.{IsPlain, wholes_plain, booleans_plain, references_plain, into_plain, alone_plain}
 use Rattle.kr_types_meaning.specs.Scopes.{Scope}
 use Rattle.kr_mean.specs.declared.kind.Kind.{Kind}
 use Rattle.kr_mean.specs.declared.kind.Kind.TheVariants.{NegativeArraySizeException, ArrayTooLong}
@@ -35,7 +35,7 @@ use Rattle.kr_mean.specs.Collections.{is_same_value, has_member, without, Collec
 use Rattle.kr_mean.specs.Steps.{Local, Old, State, Outcome, Run, say, stop, go_on, bind, ◌>>=◌, given, tick, tick_at, get_result, old_at, get_old, local_at, place_reads, local_given, read_local, plain_local, declare, assign_if, assign, back_to, entered, within, scoped, load_if, load, index_within, element_read, element_if, element, class_or_null, put, store_at, store, store_new, store_index, store_element_if, store_element, make, collected_said, collect_as, collect}
 use Rattle.kr_mean.specs.declared.operations.BinaryOperation.{BinaryOperation}
 use Rattle.kr_mean.specs.declared.operations.UnaryOperation.{UnaryOperation}
-use Rattle.kr_mean.specs.Operators.{said, operated, operated_alone, unary_operation}
+use Rattle.kr_mean.specs.Operators.{said, into, operated, operated_alone, unary_operation}
 use Rattle.kr_mean.specs.Meaning.{choose, make_array, create_array, parts_within, run_method, eval, value}
 use Rattle.kr_mean.specs.Code.{Node, code, code_of_method}
 use Rattle.kr_laws_runs.proofs.Respects.{Any, Same, Each, OnOption, AllOf, Logic, IsCode, evals, parts_alike, runs_method}
@@ -707,17 +707,25 @@ module _ (program : Program) (st : Setting) where
   applied_like (Err ZeroDivisor) h = refl
   applied_like (Err NotDefined) h = refl
 
-  references_like : (o : BinaryOperator) (b : Bool) → SaidLike Related (said (of_references o b)) (said (of_references o b))
-  references_like o b = applied_like (of_references o b) (references_plain o b)
+  into_like : (to : Option Width) (r : Applied) → IsPlain r → SaidLike Related (said (into to r)) (said (into to r))
+  into_like to r h = applied_like (into to r) (into_plain to r h)
+
+  references_like : (to : Option Width) (o : BinaryOperator) (b : Bool) → SaidLike Related (said (into to (of_references o b))) (said (into to (of_references o b)))
+  references_like to o b = into_like to (of_references o b) (references_plain o b)
+
+  -- operands that don't fit together
+  undefined_like : (to : Option Width) → SaidLike Related (said (into to (Err NotDefined))) (said (into to (Err NotDefined)))
+  undefined_like (Some w) = refl
+  undefined_like None = refl
 
   operated_like : (o : BinaryOperation) (v w : Value) → SaidLike Related (operated o v w) (operated o (renamed_value st.name v) (renamed_value st.name w))
-  operated_like o (Int m) (Int n) = applied_like (of_wholes o.width o.operator m n) (wholes_plain o.width o.operator m n)
-  operated_like o (Truth a) (Truth b) = applied_like (of_booleans o.operator a b) (booleans_plain o.operator a b)
-  operated_like o Null Null = references_like o.operator true
-  operated_like o Null (Reference p) = references_like o.operator false
-  operated_like o (Reference p) Null = references_like o.operator false
-  operated_like o (Reference p) (Reference q) = subst (λ (b : Bool). SaidLike Related (said (of_references o.operator (nat_eq p q))) (said (of_references o.operator b))) (sym (one_name p q)) (references_like o.operator (nat_eq p q))
-  operated_like o _ _ = refl
+  operated_like o (Int m) (Int n) = into_like o.assigned (of_wholes o.width o.operator m n) (wholes_plain o.width o.operator m n)
+  operated_like o (Truth a) (Truth b) = into_like o.assigned (of_booleans o.operator a b) (booleans_plain o.operator a b)
+  operated_like o Null Null = references_like o.assigned o.operator true
+  operated_like o Null (Reference p) = references_like o.assigned o.operator false
+  operated_like o (Reference p) Null = references_like o.assigned o.operator false
+  operated_like o (Reference p) (Reference q) = subst (λ (b : Bool). SaidLike Related (said (into o.assigned (of_references o.operator (nat_eq p q)))) (said (into o.assigned (of_references o.operator b)))) (sym (one_name p q)) (references_like o.assigned o.operator (nat_eq p q))
+  operated_like o _ _ = undefined_like o.assigned
 
   operates : (o : BinaryOperation) (v v' w w' : Value) → Related v v' → Related w w' → Goes Related (say (operated o v w)) (say (operated o v' w'))
   operates o v v' w w' r q = rw (r.0, q.0) (say_like Related (operated o v w) (operated o (renamed_value st.name v) (renamed_value st.name w)) (operated_like o v w))

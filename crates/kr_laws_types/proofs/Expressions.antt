@@ -8,6 +8,7 @@ use Rattle.kr_ast.specs.declared.node.UnaryOperator.{UnaryOperator}
 use Rattle.kr_ast.specs.declared.node.UnaryOperator.TheVariants as unaries
 use Rattle.kr_ast.specs.Tree as trees
 use Rattle.kr_ast.specs.Tree.{Tree}
+use Rattle.kr_classes_table.specs.Numbers.{Bits32, Bits64}
 use Rattle.kr_classes_table.specs.Types.{JavaType, BooleanType, NullType, ClassType, SetType, ListType, InferredType, UnknownType, AppliedType, is_known, is_element}
 use Rattle.kr_classes_table.specs.Rules.{Fault}
 use Rattle.kr_classes_table.specs.Table.{class_or, class_named, applied}
@@ -98,6 +99,7 @@ one_variables p f Untyped below h g = tt
 written_variables : (s : Scope) (t : Tree) → IsWritten t → IsVariables (judged s t).typed
 unfolding judged
 written_variables s (trees.PrimitiveType p primitives.Int) h = refl
+written_variables s (trees.PrimitiveType p primitives.Long) h = refl
 written_variables s (trees.PrimitiveType p primitives.Boolean) h = refl
 written_variables s (trees.PrimitiveType p primitives.Void) h = absurd h
 written_variables s (trees.NamedType p n) h = type_variables p (class_or (class_named s.table.headings (trees.NamedType p n)) (UnknownType [] n)) [] (class_variables (class_named s.table.headings (trees.NamedType p n)) [] n)
@@ -184,6 +186,7 @@ module _ (arrays : List JavaType) (olds : Place → Option JavaType) where
   pub after_expression : (s u : Scope) (absent : Bool) (e : Tree) → IsCode arrays olds (Expression absent) u e → after s e ≡ s
   after_expression s u m trees.Nil h = refl
   after_expression s u m (trees.Number p n) h = refl
+  after_expression s u m (trees.LongNumber p n) h = refl
   after_expression s u m (trees.Truth p b) h = refl
   after_expression s u m (trees.Null p) h = refl
   after_expression s u m (trees.This p) h = refl
@@ -246,7 +249,8 @@ module _ (arrays : List JavaType) (olds : Place → Option JavaType) where
   pub good : (sort : Sort) (s : Scope) (e : Tree) → IsOfVariables s → IsCode arrays olds sort (plain s) e → Claim sort s e
   unfolding judged
   good (Expression m) s trees.Nil k h = λ q. absurd (cc (h, q))
-  good (Expression m) s (trees.Number p n) k h = λ q. judge_good false (is_statement s.role) p _ [] (number_fine s k.0 n)
+  good (Expression m) s (trees.Number p n) k h = λ q. judge_good false (is_statement s.role) p _ [] (number_fine s k.0 Bits32 n)
+  good (Expression m) s (trees.LongNumber p n) k h = λ q. judge_good false (is_statement s.role) p _ [] (number_fine s k.0 Bits64 n)
   good (Expression m) s (trees.Truth p b) k h = λ q. value_expression (is_statement s.role) BooleanType refl
   good (Expression m) s (trees.Null p) k h = λ q. value_expression (is_statement s.role) NullType refl
   good (Expression m) s (trees.This p) k h = λ q. judge_good false (is_statement s.role) p _ [] (this_fine s k.0)
@@ -304,6 +308,7 @@ module _ (arrays : List JavaType) (olds : Place → Option JavaType) where
   pub shaped : (sort : Sort) (s : Scope) (e : Tree) → IsCode arrays olds sort s e → IsShaped sort e
   shaped (Expression m) s trees.Nil h = λ q. absurd (cc (h, q))
   shaped (Expression m) s (trees.Number p n) h = λ q. tt
+  shaped (Expression m) s (trees.LongNumber p n) h = λ q. tt
   shaped (Expression m) s (trees.Truth p b) h = λ q. tt
   shaped (Expression m) s (trees.Null p) h = λ q. tt
   shaped (Expression m) s (trees.This p) h = λ q. tt

@@ -5,7 +5,7 @@ use Rattle.std.proofs.lemmas.Bool.{and_parts, or_right}
 use Rattle.kr_ast.specs.declared.node.UnaryOperator.{UnaryOperator}
 use Rattle.kr_ast.specs.declared.node.UnaryOperator.TheVariants as unaries
 use Rattle.kr_ast.specs.declared.node.BinaryOperator.{BinaryOperator}
-use Rattle.kr_classes_table.specs.Numbers.{Bits32}
+use Rattle.kr_classes_table.specs.Numbers.{Width, wider}
 use Rattle.kr_classes_table.specs.Types.{JavaType, NumberType, int_type, BooleanType, VoidType, ClassType, ArrayType, SetType, ListType, is_known, is_element, is_void}
 use Rattle.kr_classes_table.specs.Table.{Field, Method, field_named, method_named, is_assignable, are_related}
 use Rattle.kr_classes_table.specs.Constants.{constant_only, or_else, outer_class, field_meant}
@@ -95,16 +95,19 @@ good_value place b t e = value_expression b t e
 good_int : (place b : Bool) → Fine place b (Fits (Value int_type))
 good_int place b = value_expression b int_type refl
 
+good_number : (place b : Bool) (w : Width) → Fine place b (Fits (Value (NumberType w)))
+good_number place b w = value_expression b (NumberType w) refl
+
 good_boolean : (place b : Bool) → Fine place b (Fits (Value BooleanType))
 good_boolean place b = value_expression b BooleanType refl
 
 -- a number's type is that of an expression
 fine_alone : (b : Bool) (a : JavaType) (r : ℕ) → Fine false b (of_promoted (promoted_alone a) r)
-fine_alone b (NumberType Bits32) r = good_int false b
+fine_alone b (NumberType w) r = good_number false b w
 fine_alone b _ r = tt
 
 fine_promoted : (b : Bool) (a c : JavaType) (r : ℕ) → Fine false b (of_promoted (promoted a c) r)
-fine_promoted b (NumberType Bits32) c r = fine_alone b c r
+fine_promoted b (NumberType v) (NumberType w) r = good_number false b (wider v w)
 fine_promoted b _ c r = tt
 
 good_known : (place b : Bool) (t : JavaType) → is_expression_type b t ≡ true → Fine place b (gives t)
@@ -321,8 +324,8 @@ module _ (s : Scope) (has : HasVariables s.table) where
   pub instance_fine : (from to : JavaType) → FineHere false (instance_rule s from to)
   instance_fine from to = fine_ask false (is_statement s.role) _ 21 (Fits (Value BooleanType)) (λ q. good_boolean false (is_statement s.role))
 
-  pub number_fine : (n : ℕ) → FineHere false (number_rule s n)
-  number_fine n = fine_ask false (is_statement s.role) _ 6 (Fits (Value int_type)) (λ q. good_int false (is_statement s.role))
+  pub number_fine : (w : Width) (n : ℕ) → FineHere false (number_rule s w n)
+  number_fine w n = fine_ask false (is_statement s.role) _ 6 (Fits (Value (NumberType w))) (λ q. good_number false (is_statement s.role) w)
 
   pub this_fine : FineHere false (this_rule s)
   this_fine = fine_ask false (is_statement s.role) _ 5 (Fits (Value (ClassType s.class))) (λ q. good_value false (is_statement s.role) (ClassType s.class) refl)

@@ -257,6 +257,7 @@ typed_same b s (trees.GenericType p h a) = one_same b s p (λ t. type_rule (appl
 typed_same b s (trees.DiamondType p h) = refl
 typed_same b s (trees.ArrayType p e) = one_same b s p array_rule array_rule (judged (elsewhere b s) e) (judged s e) (λ t. refl) (typed_same b s e)
 typed_same b s (trees.Number p n) = refl
+typed_same b s (trees.LongNumber p n) = refl
 typed_same b s (trees.Truth p x) = refl
 typed_same b s (trees.Null p) = refl
 typed_same b s (trees.This p) = refl
@@ -351,6 +352,13 @@ after_running s _ = refl
 
 pub are_same : (b : Bool) (s : Scope) (t : Tree) → AreSame b s t
 are_same b s t = record { typed = typed_same b s t; type = ap type_in (typed_same b (value s) t); scope = after_elsewhere b s t }
+
+-- an operand has one type wherever code runs
+pub operand_running : (s : Scope) (o : UnaryOperator) (e : Tree) → type_in (judged (operand o (running s)) e).typed ≡ type_in (judged (operand o s) e).typed
+operand_running s unaries.Minus e = ap type_in (typed_same false (operand unaries.Minus s) e)
+operand_running s unaries.Plus e = ap type_in (typed_same false (value s) e)
+operand_running s unaries.Complement e = ap type_in (typed_same false (value s) e)
+operand_running s unaries.Not e = ap type_in (typed_same false (value s) e)
 
 pub running_same : (s : Scope) (t : Tree) → IsSameRunning s t
 running_same s t = record { type = ap type_in (typed_same false (value s) t); scope = after_running s t }

@@ -6,7 +6,8 @@ use Rattle.kr_ast.specs.declared.node.UnaryOperator.{UnaryOperator}
 use Rattle.kr_ast.specs.declared.node.UnaryOperator.TheVariants as unaries
 use Rattle.kr_ast.specs.Tree as trees
 use Rattle.kr_ast.specs.Tree.{Tree}
-use Rattle.kr_classes_table.specs.Types.{JavaType, int_type, BooleanType, NullType, ClassType, ArrayType, SetType, ListType, InferredType, AppliedType, is_known, is_element, is_void}
+use Rattle.kr_classes_table.specs.Numbers.{Bits32, Bits64, half}
+use Rattle.kr_classes_table.specs.Types.{JavaType, NumberType, int_type, BooleanType, NullType, ClassType, ArrayType, SetType, ListType, InferredType, AppliedType, is_known, is_element, is_void}
 use Rattle.kr_classes_table.specs.Rules.{Fault}
 use Rattle.kr_classes_table.specs.Table.{Table, Field, Method, applied, field_named, method_named, is_assignable}
 use Rattle.kr_classes_table.specs.Constants.{constant_only, or_else, outer_class, field_meant}
@@ -338,6 +339,7 @@ known_operand unaries.Not s k = known_part s k
 -- an expression leaves its scope
 after_shaped : (s : Scope) (e : Tree) → Shaped false e → Rattle.kr_types_meaning.specs.Scopes.after s e ≡ s
 after_shaped s (trees.Number p n) h = refl
+after_shaped s (trees.LongNumber p n) h = refl
 after_shaped s (trees.Truth p b) h = refl
 after_shaped s (trees.Null p) h = refl
 after_shaped s (trees.This p) h = refl
@@ -369,7 +371,8 @@ typed true s (trees.Cons a b) k h f =
     joined_types (judged s a).typed (judged (Rattle.kr_types_meaning.specs.Scopes.after s a) b).typed (typed false s a k h.0 (front_none (judged s a).faults _ f))
     (typed true (Rattle.kr_types_meaning.specs.Scopes.after s a) b (subst IsKnownScope (sym e) k) h.1 (back_none (judged s a).faults _ f))
 typed true s _ k h f = absurd h
-typed false s (trees.Number p n) k h f = judge_type p (number_rule s n) [] (gives_ask (nat_lt n 2147483648 || Rattle.kr_types_meaning.specs.Rules.is_under_minus s.role) 6 (Fits (Value int_type)) (gives_value int_type)) f
+typed false s (trees.Number p n) k h f = judge_type p (number_rule s Bits32 n) [] (gives_ask (nat_lt n (half Bits32) || Rattle.kr_types_meaning.specs.Rules.is_under_minus s.role) 6 (Fits (Value (NumberType Bits32))) (gives_value (NumberType Bits32))) f
+typed false s (trees.LongNumber p n) k h f = judge_type p (number_rule s Bits64 n) [] (gives_ask (nat_lt n (half Bits64) || Rattle.kr_types_meaning.specs.Rules.is_under_minus s.role) 6 (Fits (Value (NumberType Bits64))) (gives_value (NumberType Bits64))) f
 typed false s (trees.Truth p b) k h f = (BooleanType, refl)
 typed false s (trees.Null p) k h f = (NullType, refl)
 typed false s (trees.This p) k h f = judge_type p (this_rule s) [] (gives_ask (not s.is_static) 5 (Fits (Value (ClassType s.class))) (gives_value (ClassType s.class))) f

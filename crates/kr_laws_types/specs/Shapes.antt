@@ -29,6 +29,7 @@ HasNumber arrays t = (k : ℕ) × (array_number arrays (ArrayType t) ≡ Some k)
 abbrev pub IsCode : List JavaType → (Place → Option JavaType) → Sort → Scope → Tree → Type 0
 IsCode arrays olds (Expression absent) s trees.Nil = absent ≡ true
 IsCode arrays olds (Expression absent) s (trees.Number p n) = Unit {0}
+IsCode arrays olds (Expression absent) s (trees.LongNumber p n) = Unit {0}
 IsCode arrays olds (Expression absent) s (trees.Truth p b) = Unit {0}
 IsCode arrays olds (Expression absent) s (trees.Null p) = Unit {0}
 IsCode arrays olds (Expression absent) s (trees.This p) = Unit {0}

@@ -1,5 +1,5 @@
 -- The tokens that a text may begin with, by its first character.
-use Rattle.std.proofs.Common.{◌≡◌, ℕ, ◌<◌, ◌≤◌, ◌⊎◌, inl, inr, true, false, ◌||◌, ◌==◌, List, [], ◌∷◌, ◌++◌, length, slice_index, refl, sym, ap, ◌∙◌, arith, length-append, append_assoc}
+use Rattle.std.proofs.Common.{◌≡◌, ℕ, ◌-◌, ◌<◌, ◌≤◌, ◌⊎◌, inl, inr, true, false, ◌||◌, ◌==◌, List, [], ◌∷◌, ◌++◌, length, slice_index, refl, sym, ap, subst, ◌∙◌, arith, length-append, append_assoc}
 use Rattle.std.specs.Char.{encode_utf8, is_ascii_alphabetic, is_ascii_alphanumeric, is_ascii_digit, is_ascii_lowercase}
 use Rattle.std.specs.Str.{encode_utf8_all}
 use Rattle.std.specs.Str.Parse.{AllDigits}
@@ -13,10 +13,10 @@ use Rattle.unicode_ident.proofs.IdentLemmas.{is_xid_start-ascii, is_xid_continue
 use Rattle.kr_lex.specs.declared.kind.Kind.{Kind}
 use Rattle.kr_lex.specs.Characters.{is_start, is_part, is_white, AllParts, EndsWord}
 use Rattle.kr_lex.specs.Spelling.{spelling}
-use Rattle.kr_lex.specs.Words.{IsName, IsToken, name, number, fixed}
+use Rattle.kr_lex.specs.Words.{IsName, IsLongNumber, IsSuffix, IsToken, before_suffix, name, number, long_number, fixed}
 use Rattle.kr_lex.specs.Pieces.{StartsName}
 use Rattle.kr_lex.proofs.Fronts.{char_some}
-use Rattle.kr_lex.proofs.Numbers.{digit_from_value, digit_from_test}
+use Rattle.kr_lex.proofs.Numbers.{digit_from_value, digit_from_test, long_some, long_text}
 use Rattle.kr_lex.proofs.Listing.{is_symbol, all_small}
 use Rattle.kr_lex.proofs.Shapes.{shape}
 
@@ -89,6 +89,22 @@ digits_run (b ∷ bs) h =
     let d = digit_from_test b t in
     run_cons b bs (omega (arith, d.3)) (digit_is_part b t) (digits_run bs h.1)
 
+suffix_run : (b : ℕ) → IsSuffix b → IsRun (b ∷ [])
+suffix_run b (inl e) = run_cons b [] (omega (arith, e)) (ap is_part e ∙ (part_ascii_is 76 (omega arith) ∙ refl)) (tt, refl)
+suffix_run b (inr e) = run_cons b [] (omega (arith, e)) (ap is_part e ∙ (part_ascii_is 108 (omega arith) ∙ refl)) (tt, refl)
+
+digits_then : (bs cs : List ℕ) → AllDigits 10 bs → IsRun cs → IsRun (bs ++ cs)
+digits_then [] cs h r = r
+digits_then (b ∷ bs) cs h r =
+    let t = digit_from_value b h.0 in
+    let d = digit_from_test b t in
+    run_cons b (bs ++ cs) (omega (arith, d.3)) (digit_is_part b t) (digits_then bs cs h.1 r)
+
+pub long_run : (text : List ℕ) → IsLongNumber text → IsRun text
+long_run text h =
+    let b = slice_index text (length text - 1) in
+    subst IsRun (sym (long_text text h)) (digits_then (before_suffix text) (b ∷ []) h.number.digits (suffix_run b h.suffix))
+
 pub small_run : (bs : List ℕ) → all_small bs ≡ true → IsRun bs
 small_run [] h = (tt, refl)
 small_run (b ∷ bs) h =
@@ -104,6 +120,7 @@ pub token_shape : (kind : Kind) (text rest : List ℕ) → IsToken kind text res
     → ((cs : List ℕ) × AllParts cs × (encode_utf8_all cs ≡ text)) ⊎ (is_symbol (slice_index text 0) ≡ true)
 token_shape kind text rest (name e h n) = let r = name_run text h in inl (h.first ∷ h.others, r.0, r.1)
 token_shape kind text rest (number e h w) = let r = digits_run text h.digits in inl (text, r.0, r.1)
+token_shape kind text rest (long_number e h w) = let r = long_run text h in inl (text, r.0, r.1)
 token_shape kind text rest (fixed l e) = go (shape kind (omega (arith, l, ap length e)))
   where
     go : (all_small (spelling kind) ≡ true) ⊎ (is_symbol (slice_index (spelling kind) 0) ≡ true)
@@ -115,6 +132,7 @@ token_shape kind text rest (fixed l e) = go (shape kind (omega (arith, l, ap len
 pub token_some : (kind : Kind) (text rest : List ℕ) → IsToken kind text rest → 0 < length text
 token_some kind text rest (name e h n) = char_some text (encode_utf8_all h.others) h.first h.spelled
 token_some kind text rest (number e h w) = h.some
+token_some kind text rest (long_number e h w) = omega (arith, long_some text h)
 token_some kind text rest (fixed l e) = l
 
 pub first_byte : (part rest : List ℕ) → 0 < length part → slice_index (part ++ rest) 0 ≡ slice_index part 0

@@ -9,7 +9,7 @@ use Rattle.std.proofs.lemmas.Bool.Decides.{nat_tests}
 use Rattle.kr_lex.specs.declared.kind.Kind.{Kind}
 use Rattle.kr_lex.specs.Characters.{is_white, is_line_end, AllParts}
 use Rattle.kr_lex.specs.Lexemes.{Lexeme}
-use Rattle.kr_lex.specs.Words.{IsToken, name, number, fixed}
+use Rattle.kr_lex.specs.Words.{IsToken, name, number, long_number, fixed}
 use Rattle.kr_lex.specs.Gaps.{IsGap, white, line, block, EndsLine}
 use Rattle.kr_lex.specs.ContractLines.{head_of}
 use Rattle.kr_lex.specs.Spells.{IsTokenHere, anywhere, within, Reaches, here, gap, token, contract}
@@ -17,7 +17,7 @@ use Rattle.kr_lex.specs.Pieces.{BeginsCharacter}
 use Rattle.kr_lex.specs.Reading.{IsValidLength}
 use Rattle.kr_lex.proofs.Shapes.{spelled_utf8}
 use Rattle.kr_lex.proofs.Heads.{head_utf8, contract_token_utf8}
-use Rattle.kr_lex.proofs.Classes.{digits_run, start_is_part}
+use Rattle.kr_lex.proofs.Classes.{digits_run, long_run, start_is_part}
 use Rattle.kr_lex.proofs.Paths.{onward}
 
 -- the front that is UTF-8
@@ -40,6 +40,7 @@ parts_utf8 cs text h e = (cs, (parts_scalar cs h, e))
 pub token_utf8 : (kind : Kind) (text rest : List ℕ) → IsToken kind text rest → IsUtf8 text
 token_utf8 kind text rest (name e h n) = parts_utf8 (h.first ∷ h.others) text ((h.scalar, start_is_part h.first h.starts), h.parts) (sym h.spelled)
 token_utf8 kind text rest (number e h w) = let r = digits_run text h.digits in parts_utf8 text text r.0 r.1
+token_utf8 kind text rest (long_number e h w) = let r = long_run text h in parts_utf8 text text r.0 r.1
 token_utf8 kind text rest (fixed l e) = rw e (spelled_utf8 kind (omega (arith, l, ap length e)))
 
 here_utf8 : (inside : Bool) (kind : Kind) (text rest : List ℕ) → IsTokenHere inside kind text rest → IsUtf8 text

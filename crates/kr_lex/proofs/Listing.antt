@@ -50,6 +50,7 @@ pub listed : (kind : Kind) → 0 < length (spelling kind) → IsListed kind
 unfolding spelling beginning_with
 listed kinds.Identifier h = absurd (omega (arith, h))
 listed kinds.Number h = absurd (omega (arith, h))
+listed kinds.LongNumber h = absurd (omega (arith, h))
 listed kinds.Contract h = absurd (omega (arith, h))
 listed kinds.Requires h = absurd (omega (arith, h))
 listed kinds.Ensures h = absurd (omega (arith, h))

@@ -11,13 +11,13 @@ use Rattle.kr_lex.specs.declared.kind.Kind.{Kind}
 use Rattle.kr_lex.specs.declared.kind.Kind.TheVariants as kinds
 use Rattle.kr_lex.specs.Characters.{is_start, is_part, is_white, AllParts}
 use Rattle.kr_lex.specs.Spelling.{spelling}
-use Rattle.kr_lex.specs.Words.{IsName, IsNumber, IsToken, name, number, fixed}
+use Rattle.kr_lex.specs.Words.{IsName, IsNumber, IsLongNumber, IsToken, name, number, long_number, fixed}
 use Rattle.kr_lex.specs.Gaps.{BeginsComment}
 use Rattle.kr_lex.specs.Spells.{IsLongest}
 use Rattle.kr_lex.specs.Pieces.{IsWordLength, StartsName, IsLongestFixed, BeginsNoFixed, IsSymbolic}
 use Rattle.kr_lex.specs.Broken.{IsBadNumber, IsStray, BeginsEscape}
 use Rattle.kr_lex.proofs.Fronts.{char_some, encode_some, same_char, ascii_front}
-use Rattle.kr_lex.proofs.Numbers.{digit_from_test, digit_at, digit_from_value}
+use Rattle.kr_lex.proofs.Numbers.{digit_from_test, long_some, number_byte, long_byte}
 use Rattle.kr_lex.proofs.Listing.{is_symbol, all_small, IsSingle, listed}
 use Rattle.kr_lex.proofs.Classes.{start_ascii, start_is_part, symbol_facts, no_symbol_at_name, no_symbol_at_digit, run_is_longest, first_byte, small_starts}
 
@@ -81,10 +81,10 @@ module _ (text : List ℕ) (n : ℕ) (w : IsWordLength text n) where
         no_comment = λ b. no_comment_at_name text h (rw (take-append-drop n text) at b);
       }
 
-  pub number_longest : is_ascii_digit (slice_index text 0) ≡ true → IsNumber (take n text) → IsLongest kinds.Number (take n text) (drop n text)
-  number_longest d h =
+  digit_longest : (kind : Kind) → is_ascii_digit (slice_index text 0) ≡ true → IsToken kind (take n text) (drop n text) → IsLongest kind (take n text) (drop n text)
+  digit_longest kind d t =
       record {
-        token = number refl h w.longest;
+        token = t;
         longest = word_longest (no_symbol_at_digit (slice_index text 0) d);
         no_comment = λ b.
             let z = comment_slash text (rw (take-append-drop n text) at b) in
@@ -92,23 +92,33 @@ module _ (text : List ℕ) (n : ℕ) (w : IsWordLength text n) where
             omega (arith, z, q.2);
       }
 
-  pub number_bad : is_ascii_digit (slice_index text 0) ≡ true → (IsNumber (take n text) → ⊥) → IsBadNumber text
-  number_bad d h =
-      record { chars = w.chars; rest = drop n text; spelled = split; digit = d; parts = w.parts; longest = w.longest; bad = λ i. h (rw (← w.spelled) at i) }
+  pub number_longest : is_ascii_digit (slice_index text 0) ≡ true → IsNumber (take n text) → IsLongest kinds.Number (take n text) (drop n text)
+  number_longest d h = digit_longest kinds.Number d (number refl h w.longest)
+
+  pub long_longest : is_ascii_digit (slice_index text 0) ≡ true → IsLongNumber (take n text) → IsLongest kinds.LongNumber (take n text) (drop n text)
+  long_longest d h = digit_longest kinds.LongNumber d (long_number refl h w.longest)
+
+  pub number_bad : is_ascii_digit (slice_index text 0) ≡ true → (IsNumber (take n text) → ⊥) → (IsLongNumber (take n text) → ⊥) → IsBadNumber text
+  number_bad d h k =
+      record { chars = w.chars; rest = drop n text; spelled = split; digit = d; parts = w.parts; longest = w.longest; bad = λ i. h (rw (← w.spelled) at i); bad_long = λ i. k (rw (← w.spelled) at i) }
 
 -- the token of one spelling
 module _ (text : List ℕ) (s : IsSymbolic text) where
+  no_digits : (part rest : List ℕ) → text ≡ part ++ rest → 0 < length part → is_ascii_digit (slice_index part 0) ≡ true → ⊥
+  no_digits part rest e l d =
+      let first : slice_index text 0 ≡ slice_index part 0 = ap (λ t. slice_index t 0) e ∙ first_byte part rest l in
+      let t : is_ascii_digit (slice_index text 0) ≡ true = ap is_ascii_digit first ∙ d in
+      let f : is_ascii_digit (slice_index text 0) ≡ false = s.no_digit in
+      cc
+
   -- every token here has one spelling
   pub only_fixed : (kind : Kind) (part rest : List ℕ) → text ≡ part ++ rest → IsToken kind part rest → (0 < length (spelling kind)) × (part ≡ spelling kind)
   only_fixed kind part rest e (name k h other) =
       let z : text ≡ encode_utf8 h.first ++ (encode_utf8_all h.others ++ rest) =
       e ∙ (ap (λ t. t ++ rest) h.spelled ∙ append_assoc (encode_utf8 h.first) (encode_utf8_all h.others) rest) in
       absurd (s.no_name (record { char = h.first; rest = encode_utf8_all h.others ++ rest; scalar = h.scalar; starts = h.starts; spelled = z }))
-  only_fixed kind part rest e (number k h w) =
-      let first : slice_index text 0 ≡ slice_index part 0 = ap (λ t. slice_index t 0) e ∙ first_byte part rest h.some in
-      let t : is_ascii_digit (slice_index text 0) ≡ true = ap is_ascii_digit first ∙ digit_from_value (slice_index part 0) (digit_at part 0 h.digits h.some) in
-      let f : is_ascii_digit (slice_index text 0) ≡ false = s.no_digit in
-      cc
+  only_fixed kind part rest e (number k h w) = absurd (no_digits part rest e h.some (number_byte 2147483648 part h))
+  only_fixed kind part rest e (long_number k h w) = absurd (no_digits part rest e (omega (arith, long_some part h)) (long_byte part h))
   only_fixed kind part rest e (fixed l k) = (omega (arith, l, ap length k), k)
 
   pub fixed_longest : (kind : Kind) (n : ℕ) → n ≡ length (spelling kind) → IsLongestFixed text kind → IsLongest kind (take n text) (drop n text)
@@ -134,15 +144,19 @@ module _ (text : List ℕ) (s : IsSymbolic text) where
       first_byte (encode_utf8 s.character.char) others (encode_some s.character.char)
       ∙ sym (ap (λ t. slice_index t 0) s.character.spelled ∙ first_byte (encode_utf8 s.character.char) s.character.rest (encode_some s.character.char))
 
+  no_digit_with : (others : List ℕ) → is_ascii_digit (slice_index (encode_utf8 s.character.char ++ others) 0) ≡ true → ⊥
+  no_digit_with others d =
+      let t : is_ascii_digit (slice_index text 0) ≡ true = ap is_ascii_digit (sym (same_byte others)) ∙ d in
+      let f : is_ascii_digit (slice_index text 0) ≡ false = s.no_digit in
+      cc
+
   -- no token begins with this character where none begins the text
   no_token_with : BeginsNoFixed text → (kind : Kind) (others rest : List ℕ) → IsToken kind (encode_utf8 s.character.char ++ others) rest → ⊥
   no_token_with h kind others rest (name k i other) =
       let same = same_char (encode_utf8 s.character.char ++ others) others (encode_utf8_all i.others) s.character.char i.first refl i.spelled in
       s.no_name (record { char = s.character.char; rest = s.character.rest; scalar = s.character.scalar; starts = ap is_start same ∙ i.starts; spelled = s.character.spelled })
-  no_token_with h kind others rest (number k i w) =
-      let t : is_ascii_digit (slice_index text 0) ≡ true = ap is_ascii_digit (sym (same_byte others)) ∙ digit_from_value (slice_index (encode_utf8 s.character.char ++ others) 0) (digit_at (encode_utf8 s.character.char ++ others) 0 i.digits i.some) in
-      let f : is_ascii_digit (slice_index text 0) ≡ false = s.no_digit in
-      cc
+  no_token_with h kind others rest (number k i w) = no_digit_with others (number_byte 2147483648 (encode_utf8 s.character.char ++ others) i)
+  no_token_with h kind others rest (long_number k i w) = no_digit_with others (long_byte (encode_utf8 s.character.char ++ others) i)
   no_token_with h kind others rest (fixed l e) = go (listed kind (omega (arith, l, ap length e))).shape
     where
       byte : slice_index (spelling kind) 0 ≡ slice_index text 0

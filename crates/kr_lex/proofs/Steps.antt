@@ -20,7 +20,7 @@ use Rattle.kr_lex.specs.Characters.{is_line_end}
 use Rattle.kr_lex.specs.Spelling.{spelling}
 use Rattle.kr_lex.specs.Lexemes.{Lexeme}
 use Rattle.kr_lex.specs.Entries.{lexeme_of, text_of, shown, IsEntry, AreEntries}
-use Rattle.kr_lex.specs.Words.{IsNumber, IsToken, name, number, fixed}
+use Rattle.kr_lex.specs.Words.{IsNumber, IsLongNumber, IsToken, name, number, long_number, fixed}
 use Rattle.kr_lex.specs.Gaps.{IsGap}
 use Rattle.kr_lex.specs.Places.{place_after, column_after}
 use Rattle.kr_lex.specs.ContractLines.{contract_spelling, head_of}
@@ -95,6 +95,7 @@ number_unspelled = refl
 number_text : (kind : Kind) (text rest : List ℕ) → IsToken kind text rest → kind ≡ kinds.Number → IsNumber text
 number_text kind text rest (name e h n) k = let z : kinds.Identifier ≡ kinds.Number = sym e ∙ k in cc
 number_text kind text rest (number e h w) k = h
+number_text kind text rest (long_number e h w) k = let z : kinds.LongNumber ≡ kinds.Number = sym e ∙ k in cc
 number_text kind text rest (fixed l e) k = absurd (omega (arith, l, ap length (e ∙ ap spelling k), number_unspelled))
 
 number_here : (inside : Bool) (kind : Kind) (text rest : List ℕ) → IsTokenHere inside kind text rest → kind ≡ kinds.Number → IsNumber text
@@ -104,6 +105,25 @@ number_here inside kind text rest (within i t) k = go t.one_of
     go : (kind ≡ kinds.Result) ⊎ (kind ≡ kinds.Old) → IsNumber text
     go (inl e) = let z : kinds.Result ≡ kinds.Number = sym e ∙ k in cc
     go (inr e) = let z : kinds.Old ≡ kinds.Number = sym e ∙ k in cc
+
+long_unspelled : length (spelling kinds.LongNumber) ≡ 0
+unfolding spelling
+long_unspelled = refl
+
+-- and that of a number with a suffix
+long_text : (kind : Kind) (text rest : List ℕ) → IsToken kind text rest → kind ≡ kinds.LongNumber → IsLongNumber text
+long_text kind text rest (name e h n) k = let z : kinds.Identifier ≡ kinds.LongNumber = sym e ∙ k in cc
+long_text kind text rest (number e h w) k = let z : kinds.Number ≡ kinds.LongNumber = sym e ∙ k in cc
+long_text kind text rest (long_number e h w) k = h
+long_text kind text rest (fixed l e) k = absurd (omega (arith, l, ap length (e ∙ ap spelling k), long_unspelled))
+
+long_here : (inside : Bool) (kind : Kind) (text rest : List ℕ) → IsTokenHere inside kind text rest → kind ≡ kinds.LongNumber → IsLongNumber text
+long_here inside kind text rest (anywhere t) k = long_text kind text rest t.token k
+long_here inside kind text rest (within i t) k = go t.one_of
+  where
+    go : (kind ≡ kinds.Result) ⊎ (kind ≡ kinds.Old) → IsLongNumber text
+    go (inl e) = let z : kinds.Result ≡ kinds.LongNumber = sym e ∙ k in cc
+    go (inr e) = let z : kinds.Old ≡ kinds.LongNumber = sym e ∙ k in cc
 
 entry_text : (bytes : List ℕ) (cursor : Cursor) (kind : Kind) (n : ℕ) (t : Token) → IsEntryAt cursor kind n t → text_of bytes t ≡ take n (drop cursor.at bytes)
 entry_text bytes cursor kind n t e =
@@ -146,6 +166,7 @@ after_token file bytes valid items progress kind n next t h l g e p =
         ordered = omega (arith, e.start_is, e.end_is);
         within = omega (arith, e.end_is, l, length-drop cursor.at bytes, h.stands.within);
         number = λ k. rw (entry_text bytes cursor kind n t e) (number_here progress.inside kind (take n text) (drop n text) g (sym e.kind_is ∙ k));
+        long_number = λ k. rw (entry_text bytes cursor kind n t e) (long_here progress.inside kind (take n text) (drop n text) g (sym e.kind_is ∙ k));
       });
       clear = clear_on bytes cursor.at next.cursor.at progress.clear next.clear h.clear (omega (arith, p.at)) p.clear;
     }
@@ -216,6 +237,13 @@ module _ (file : ℕ) (bytes : List ℕ) (valid : ℕ) (items after : List Token
       go (inl e) = let z : kinds.Requires ≡ kinds.Number = sym e ∙ k in cc
       go (inr e) = let z : kinds.Ensures ≡ kinds.Number = sym e ∙ k in cc
 
+  word_no_long : head.kind ≡ kinds.LongNumber → ⊥
+  word_no_long k = go h.contract.word
+    where
+      go : (head.kind ≡ kinds.Requires) ⊎ (head.kind ≡ kinds.Ensures) → ⊥
+      go (inl e) = let z : kinds.Requires ≡ kinds.LongNumber = sym e ∙ k in cc
+      go (inr e) = let z : kinds.Ensures ≡ kinds.LongNumber = sym e ∙ k in cc
+
   head_entries : AreEntries bytes after
   head_entries =
       let within : progress.cursor.at + head.end ≤ length bytes = omega (arith, h.within, length-drop progress.cursor.at bytes, r.stands.within) in
@@ -223,11 +251,13 @@ module _ (file : ℕ) (bytes : List ℕ) (valid : ℕ) (items after : List Token
         ordered = omega (arith, p.mark_is.start_is, p.mark_is.end_is);
         within = omega (arith, p.mark_is.end_is, within, h.word, h.end);
         number = λ k. let z : kinds.Contract ≡ kinds.Number = sym p.mark_is.kind_is ∙ k in cc;
+        long_number = λ k. let z : kinds.Contract ≡ kinds.LongNumber = sym p.mark_is.kind_is ∙ k in cc;
       } in
       let word : IsEntry bytes p.word = record {
         ordered = omega (arith, p.word_is.start_is, p.word_is.end_is);
         within = omega (arith, p.word_is.end_is, p.at, within, h.end);
         number = λ k. absurd (word_no_number (sym p.word_is.kind_is ∙ k));
+        long_number = λ k. absurd (word_no_long (sym p.word_is.kind_is ∙ k));
       } in
       let both : All (IsEntry bytes) ((items ++ p.mark ∷ []) ++ p.word ∷ []) = All-push (IsEntry bytes) (items ++ p.mark ∷ []) p.word (All-push (IsEntry bytes) items p.mark r.entries mark) word in
       subst (λ (q : List Token). AreEntries bytes q) (append_assoc items (p.mark ∷ []) (p.word ∷ []) ∙ sym p.items) both

@@ -11,7 +11,7 @@ use Rattle.kr_lex.specs.declared.refusal.LexRule.{LexRule}
 use Rattle.kr_lex.specs.declared.refusal.LexRule.TheVariants as rules
 use Rattle.kr_lex.specs.Characters.{is_start, is_white, is_line_end, AllParts, EndsWord}
 use Rattle.kr_lex.specs.Spelling.{spelling}
-use Rattle.kr_lex.specs.Words.{IsNumber, IsToken, name, number, fixed}
+use Rattle.kr_lex.specs.Words.{IsNumber, IsToken, name, number, long_number, fixed}
 use Rattle.kr_lex.specs.Gaps.{IsGap, IsLineComment, IsBlockComment, EndsLine, BeginsComment}
 use Rattle.kr_lex.specs.Spells.{IsLongest, IsTokenHere, anywhere, within}
 use Rattle.kr_lex.specs.ContractLines.{IsContract, IsContractToken, BeginsContract}
@@ -19,7 +19,7 @@ use Rattle.kr_lex.specs.Broken.{BreaksHere, IsStray, IsUnclosed, IsBadNumber, Be
 use Rattle.kr_lex.proofs.Fronts.{char_some, same_char}
 use Rattle.kr_lex.proofs.Numbers.{digit_from_test}
 use Rattle.kr_lex.proofs.Listing.{is_symbol}
-use Rattle.kr_lex.proofs.Classes.{digit_no_start, symbol_facts, token_shape, token_some, run_longest, digits_run}
+use Rattle.kr_lex.proofs.Classes.{digit_no_start, symbol_facts, token_shape, token_some, run_longest, digits_run, long_run}
 use Rattle.kr_lex.proofs.Unique.{same_split, gap_cases, block_text, name_byte, fixed_no_digit, plain_no_gap, escape_no_token, first_of}
 use Rattle.kr_lex.proofs.Heads.{begins_contract, begins_comment, contract_bytes, here_first}
 
@@ -201,18 +201,22 @@ stray_no_token text part rest kind h e t = go (token_shape kind part rest t)
             let front : b ∷ part ≡ encode_utf8 h.char ++ part = sym (ap (λ x. x ++ part) (ap encode_utf8 c ∙ encode_ascii b low)) in
             h.no_token kind part rest (rw front at t)
 
+-- a run that the text doesn't go on with is the longest one
+bad_run : (text part rest : List ℕ) (h : IsBadNumber text) → text ≡ part ++ rest → AllParts part → encode_utf8_all part ≡ part → EndsWord rest → part ≡ encode_utf8_all h.chars
+bad_run text part rest h e all its w =
+    let z : encode_utf8_all part ++ rest ≡ encode_utf8_all h.chars ++ h.rest = ap (λ x. x ++ rest) its ∙ (sym e ∙ h.spelled) in
+    let up = run_longest part h.chars rest h.rest all z h.longest in
+    let down = run_longest h.chars part h.rest rest h.parts (sym z) w in
+    let same = same_split (encode_utf8_all part) (encode_utf8_all h.chars) rest h.rest z (omega (arith, up, down)) in
+    sym its ∙ same.0
+
 bad_no_token : (text part rest : List ℕ) (kind : Kind) → IsBadNumber text → text ≡ part ++ rest → IsToken kind part rest → ⊥
 bad_no_token text part rest kind h e (name k i o) =
     let b = first_of text part rest e (token_some kind part rest (name k i o)) in
     let d : is_ascii_digit (slice_index part 0) ≡ true = ap is_ascii_digit (sym b) ∙ h.digit in
     both_ways (is_start (slice_index part 0)) (digit_no_start (slice_index part 0) d) (name_byte part rest i (omega (arith, (digit_from_test (slice_index part 0) d).3)))
-bad_no_token text part rest kind h e (number k i w) =
-    let r = digits_run part i.digits in
-    let z : encode_utf8_all part ++ rest ≡ encode_utf8_all h.chars ++ h.rest = ap (λ x. x ++ rest) r.1 ∙ (sym e ∙ h.spelled) in
-    let up = run_longest part h.chars rest h.rest r.0 z h.longest in
-    let down = run_longest h.chars part h.rest rest h.parts (sym z) w in
-    let same = same_split (encode_utf8_all part) (encode_utf8_all h.chars) rest h.rest z (omega (arith, up, down)) in
-    h.bad (rw (sym r.1 ∙ same.0) at i)
+bad_no_token text part rest kind h e (number k i w) = let r = digits_run part i.digits in h.bad (rw (bad_run text part rest h e r.0 r.1 w) at i)
+bad_no_token text part rest kind h e (long_number k i w) = let r = long_run part i in h.bad_long (rw (bad_run text part rest h e r.0 r.1 w) at i)
 bad_no_token text part rest kind h e (fixed l k) =
     let b = first_of text part rest e l in
     let d : is_ascii_digit (slice_index (spelling kind) 0) ≡ true = ap (λ t. is_ascii_digit (slice_index t 0)) (sym k) ∙ (ap is_ascii_digit (sym b) ∙ h.digit) in

@@ -9,13 +9,13 @@ use Rattle.std.proofs.lemmas.Bool.Decides.{nat_tests}
 use Rattle.kr_lex.specs.declared.kind.Kind.{Kind}
 use Rattle.kr_lex.specs.Characters.{is_start, is_white, is_line_end}
 use Rattle.kr_lex.specs.Spelling.{spelling}
-use Rattle.kr_lex.specs.Words.{IsName, IsNumber, IsToken, name, number, fixed}
+use Rattle.kr_lex.specs.Words.{IsName, IsToken, name, number, long_number, fixed}
 use Rattle.kr_lex.specs.Gaps.{IsGap, white, line, block, IsLineComment, IsBlockComment, EndsLine, BeginsComment}
 use Rattle.kr_lex.specs.ContractLines.{contract_spelling, IsContract, BeginsContract}
 use Rattle.kr_lex.specs.Spells.{IsLongest, IsTokenHere, anywhere, within}
 use Rattle.kr_lex.proofs.Heads.{begins_comment, contract_bytes, contract_token_some, here_first, same_contract_token, blank_same, word_no_blank, same_word}
 use Rattle.kr_lex.proofs.Fronts.{char_some}
-use Rattle.kr_lex.proofs.Numbers.{digit_at, digit_from_value, digit_from_test}
+use Rattle.kr_lex.proofs.Numbers.{digit_from_test, number_byte, long_some, long_byte, long_not_digits}
 use Rattle.kr_lex.proofs.Listing.{is_symbol, all_small}
 use Rattle.kr_lex.proofs.Shapes.{shape, spelled_once}
 use Rattle.kr_lex.proofs.Classes.{start_ascii, digit_no_start, small_starts, symbol_facts, token_some, first_byte}
@@ -36,21 +36,20 @@ white_low b t =
     let low : b < 128 = grind (arith, nat_tests) in
     (low, start_ascii b low ∙ grind (arith, nat_tests), grind (arith, nat_tests), λ e. grind (arith, nat_tests))
 
--- the first byte of a name, a number and any other token
+-- the first byte of a name
 pub name_byte : (text rest : List ℕ) → IsName text → slice_index text 0 < 128 → is_start (slice_index text 0) ≡ true
 name_byte text rest h low =
     let same : h.first ≡ slice_index text 0 = char_from_byte text (encode_utf8_all h.others) h.first h.spelled low (char_some text (encode_utf8_all h.others) h.first h.spelled) in
     ap is_start (sym same) ∙ h.starts
-
-pub number_byte : (text : List ℕ) → IsNumber text → is_ascii_digit (slice_index text 0) ≡ true
-number_byte text h = digit_from_value (slice_index text 0) (digit_at text 0 h.digits h.some)
 
 -- a token doesn't begin with white space
 pub token_no_white : (kind : Kind) (text rest : List ℕ) → IsToken kind text rest → is_white (slice_index text 0) ≡ true → ⊥
 token_no_white kind text rest (name k h o) w =
     let q = white_low (slice_index text 0) w in both_ways (is_start (slice_index text 0)) q.1 (name_byte text rest h q.0)
 token_no_white kind text rest (number k h o) w =
-    let q = white_low (slice_index text 0) w in both_ways (is_ascii_digit (slice_index text 0)) q.2 (number_byte text h)
+    let q = white_low (slice_index text 0) w in both_ways (is_ascii_digit (slice_index text 0)) q.2 (number_byte 2147483648 text h)
+token_no_white kind text rest (long_number k h o) w =
+    let q = white_low (slice_index text 0) w in both_ways (is_ascii_digit (slice_index text 0)) q.2 (long_byte text h)
 token_no_white kind text rest (fixed l e) w = go (shape kind (omega (arith, l, ap length e)))
   where
     there : is_white (slice_index (spelling kind) 0) ≡ true
@@ -71,23 +70,29 @@ fixed_no_digit kind l d = go (shape kind l)
     go (inr s) = both_ways (is_ascii_digit (slice_index (spelling kind) 0)) (symbol_facts (slice_index (spelling kind) 0) s).2 d
 
 -- the kind of a token is that of its spelling
-name_no_number : (text rest : List ℕ) → IsName text → IsNumber text → ⊥
-name_no_number text rest h i =
-    let d = number_byte text i in
+name_no_number : (text rest : List ℕ) → IsName text → is_ascii_digit (slice_index text 0) ≡ true → ⊥
+name_no_number text rest h d =
     both_ways (is_start (slice_index text 0)) (digit_no_start (slice_index text 0) d) (name_byte text rest h (omega (arith, (digit_from_test (slice_index text 0) d).3)))
 
-number_no_fixed : (kind : Kind) (text : List ℕ) → IsNumber text → 0 < length text → text ≡ spelling kind → ⊥
-number_no_fixed kind text h l e = fixed_no_digit kind (omega (arith, l, ap length e)) (ap (λ t. is_ascii_digit (slice_index t 0)) (sym e) ∙ number_byte text h)
+number_no_fixed : (kind : Kind) (text : List ℕ) → is_ascii_digit (slice_index text 0) ≡ true → 0 < length text → text ≡ spelling kind → ⊥
+number_no_fixed kind text d l e = fixed_no_digit kind (omega (arith, l, ap length e)) (ap (λ t. is_ascii_digit (slice_index t 0)) (sym e) ∙ d)
 
 pub same_kind : (a b : Kind) (text rest : List ℕ) → IsToken a text rest → IsToken b text rest → a ≡ b
 same_kind a b text rest (name j g n) (name k h o) = j ∙ sym k
-same_kind a b text rest (name j g n) (number k h w) = absurd (name_no_number text rest g h)
+same_kind a b text rest (name j g n) (number k h w) = absurd (name_no_number text rest g (number_byte 2147483648 text h))
+same_kind a b text rest (name j g n) (long_number k h w) = absurd (name_no_number text rest g (long_byte text h))
 same_kind a b text rest (name j g n) (fixed l e) = absurd (n b e)
-same_kind a b text rest (number j g v) (name k h o) = absurd (name_no_number text rest h g)
+same_kind a b text rest (number j g v) (name k h o) = absurd (name_no_number text rest h (number_byte 2147483648 text g))
 same_kind a b text rest (number j g v) (number k h w) = j ∙ sym k
-same_kind a b text rest (number j g v) (fixed l e) = absurd (number_no_fixed b text g l e)
+same_kind a b text rest (number j g v) (long_number k h w) = absurd (long_not_digits text h g.digits)
+same_kind a b text rest (number j g v) (fixed l e) = absurd (number_no_fixed b text (number_byte 2147483648 text g) l e)
+same_kind a b text rest (long_number j g v) (name k h o) = absurd (name_no_number text rest h (long_byte text g))
+same_kind a b text rest (long_number j g v) (number k h w) = absurd (long_not_digits text g h.digits)
+same_kind a b text rest (long_number j g v) (long_number k h w) = j ∙ sym k
+same_kind a b text rest (long_number j g v) (fixed l e) = absurd (number_no_fixed b text (long_byte text g) l e)
 same_kind a b text rest (fixed m d) (name k h o) = absurd (o a d)
-same_kind a b text rest (fixed m d) (number k h w) = absurd (number_no_fixed a text h m d)
+same_kind a b text rest (fixed m d) (number k h w) = absurd (number_no_fixed a text (number_byte 2147483648 text h) m d)
+same_kind a b text rest (fixed m d) (long_number k h w) = absurd (number_no_fixed a text (long_byte text h) m d)
 same_kind a b text rest (fixed m d) (fixed l e) = spelled_once a b (omega (arith, m, ap length d)) (sym d ∙ e)
 
 pub same_token : (a b : Kind) (s t r q : List ℕ) → s ++ r ≡ t ++ q → IsLongest a s r → IsLongest b t q → (a ≡ b) × (s ≡ t) × (r ≡ q)
@@ -202,7 +207,10 @@ escape_no_token text part rest kind z e (name k i o) =
     both_ways (is_start (slice_index part 0)) f (name_byte part rest i (omega (arith, b)))
 escape_no_token text part rest kind z e (number k i w) =
     let b : slice_index part 0 ≡ 92 = sym (first_of text part rest e i.some) ∙ z in
-    omega (arith, b, (digit_from_test (slice_index part 0) (number_byte part i)).3)
+    omega (arith, b, (digit_from_test (slice_index part 0) (number_byte 2147483648 part i)).3)
+escape_no_token text part rest kind z e (long_number k i w) =
+    let b : slice_index part 0 ≡ 92 = sym (first_of text part rest e (omega (arith, long_some part i))) ∙ z in
+    omega (arith, b, (digit_from_test (slice_index part 0) (long_byte part i)).3)
 escape_no_token text part rest kind z e (fixed l k) = go (shape kind (omega (arith, l, ap length k)))
   where
     byte : slice_index (spelling kind) 0 ≡ 92

@@ -9,7 +9,7 @@ use Rattle.kr_lex.specs.declared.kind.Kind.{Kind}
 use Rattle.kr_lex.specs.declared.refusal.LexRule.{LexRule}
 use Rattle.kr_lex.specs.declared.refusal.LexRule.TheVariants as rules
 use Rattle.kr_lex.specs.Characters.{is_white, AllParts, EndsWord}
-use Rattle.kr_lex.specs.Words.{IsNumber, IsToken}
+use Rattle.kr_lex.specs.Words.{IsNumber, IsLongNumber, IsToken}
 use Rattle.kr_lex.specs.Lexemes.{Lexeme, Lexemes}
 use Rattle.kr_lex.specs.Spells.{Reaches, AreTokens}
 use Rattle.kr_lex.specs.ContractLines.{BeginsContract, IsContract, IsContractToken}
@@ -46,6 +46,7 @@ pub record IsBadNumber (text : List ℕ) : Type 0 where
   pub parts : AllParts chars
   pub longest : EndsWord rest
   pub bad : IsNumber (encode_utf8_all chars) → ⊥
+  pub bad_long : IsLongNumber (encode_utf8_all chars) → ⊥
 
 -- `//@`, and the line is no contract
 pub record IsBadContract (text : List ℕ) : Type 0 where

@@ -4,6 +4,7 @@ use Rattle.std.specs.Str.Parse.{digits_value}
 use Rattle.kr_base.specs.declared.place.Place.{Place}
 use Rattle.kr_lex.specs.declared.kind.Kind.{Kind}
 use Rattle.kr_lex.specs.declared.kind.Kind.TheVariants as kinds
+use Rattle.kr_lex.specs.Words.{before_suffix}
 
 -- a token: its kind, the bytes that spell it, and the place of its first character
 pub record Lexeme : Type 0 where
@@ -23,3 +24,7 @@ lexeme_at ts i = slice_index_or ts.list i (record { kind = kinds.Identifier; tex
 -- the value of a number, from its decimal digits
 abbrev pub number_value : List ℕ → ℕ
 number_value digits = digits_value 10 digits
+
+-- and of one with a suffix
+abbrev pub long_number_value : List ℕ → ℕ
+long_number_value text = number_value (before_suffix text)

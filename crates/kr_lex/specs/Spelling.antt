@@ -4,10 +4,11 @@ use Rattle.std.specs.Prelude.{List, ℕ, [], codes, Bool, true, false}
 use Rattle.kr_lex.specs.declared.kind.Kind.{Kind}
 use Rattle.kr_lex.specs.declared.kind.Kind.TheVariants as kinds
 
--- its spelling; empty for the two kinds that have many spellings, and for those that occur only in contract lines
+-- its spelling; empty for the three kinds that have many spellings, and for those that occur only in contract lines
 unfoldable pub spelling : Kind → List ℕ
 spelling kinds.Identifier = []
 spelling kinds.Number = []
+spelling kinds.LongNumber = []
 spelling kinds.True = codes "true"
 spelling kinds.False = codes "false"
 spelling kinds.Null = codes "null"
@@ -24,6 +25,7 @@ spelling kinds.If = codes "if"
 spelling kinds.Import = codes "import"
 spelling kinds.Instanceof = codes "instanceof"
 spelling kinds.Int = codes "int"
+spelling kinds.Long = codes "long"
 spelling kinds.New = codes "new"
 spelling kinds.Package = codes "package"
 spelling kinds.Private = codes "private"
@@ -50,7 +52,6 @@ spelling kinds.Float = codes "float"
 spelling kinds.Goto = codes "goto"
 spelling kinds.Implements = codes "implements"
 spelling kinds.Interface = codes "interface"
-spelling kinds.Long = codes "long"
 spelling kinds.Native = codes "native"
 spelling kinds.Short = codes "short"
 spelling kinds.Strictfp = codes "strictfp"
@@ -127,7 +128,6 @@ is_outside_profile kinds.Float = true
 is_outside_profile kinds.Goto = true
 is_outside_profile kinds.Implements = true
 is_outside_profile kinds.Interface = true
-is_outside_profile kinds.Long = true
 is_outside_profile kinds.Native = true
 is_outside_profile kinds.Short = true
 is_outside_profile kinds.Strictfp = true

@@ -8,6 +8,7 @@ pub enum Kind {
     // names and literals
     Identifier,
     Number,
+    LongNumber,
     True,
     False,
     Null,
@@ -26,6 +27,7 @@ pub enum Kind {
     Import,
     Instanceof,
     Int,
+    Long,
     New,
     Package,
     Private,
@@ -54,7 +56,6 @@ pub enum Kind {
     Goto,
     Implements,
     Interface,
-    Long,
     Native,
     Short,
     Strictfp,
@@ -147,7 +148,6 @@ impl Kind {
             | Kind::Goto
             | Kind::Implements
             | Kind::Interface
-            | Kind::Long
             | Kind::Native
             | Kind::Short
             | Kind::Strictfp

@@ -10,7 +10,7 @@ use crate::contract::{contract_spelling, contract_token};
 use crate::fixed::{fixed_word, longest_fixed};
 use crate::gaps::{body_len, line_len};
 use crate::table::spelling;
-use crate::words::{is_number, word_len};
+use crate::words::{is_long_number, is_number, word_len};
 use crate::{Kind, LexRule};
 
 /// The piece at the front of a text.
@@ -110,6 +110,8 @@ fn number(text: &[u8]) -> Piece
     let len = word_len(text);
     if is_number(&text[..len]) {
         Piece::Token(Kind::Number, len)
+    } else if is_long_number(&text[..len]) {
+        Piece::Token(Kind::LongNumber, len)
     } else {
         Piece::Broken(LexRule::BadNumber)
     }

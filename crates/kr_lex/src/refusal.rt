@@ -13,7 +13,7 @@ pub enum LexRule {
     StrayCharacter,
     /// L3: a comment that is never closed.
     UnclosedComment,
-    /// L4: a number that isn't decimal, has a leading zero, or is past 2147483648.
+    /// L4: a number that isn't decimal, has a leading zero, or is past 2147483648, or 9223372036854775808 before `L`.
     BadNumber,
     /// L5: a backslash before `u` outside a comment.
     UnicodeEscape,

@@ -11,7 +11,7 @@ pub fn spelling(kind: Kind) -> &'static [u8]
     ensures { result.now ≡ spelling kind }
 {
     match kind {
-        Kind::Identifier | Kind::Number => b"",
+        Kind::Identifier | Kind::Number | Kind::LongNumber => b"",
         Kind::True => b"true",
         Kind::False => b"false",
         Kind::Null => b"null",

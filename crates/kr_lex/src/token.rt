@@ -1,7 +1,7 @@
 // The tokens of a source, as a list with one small entry for each.
 ghost use Rattle.std.specs.Prelude.{◌≡◌, ◌+◌, ◌<◌, ◌≤◌, ◌^◌, length};
-ghost use Rattle.kr_lex.specs.declared.kind.Kind.TheVariants.{Number};
-ghost use Rattle.kr_lex.specs.Lexemes.{lexeme_at, number_value};
+ghost use Rattle.kr_lex.specs.declared.kind.Kind.TheVariants.{Number, LongNumber};
+ghost use Rattle.kr_lex.specs.Lexemes.{lexeme_at, number_value, long_number_value};
 ghost use Rattle.kr_lex.specs.Entries.{shown, AreEntries};
 
 use crate::cursor::Cursor;
@@ -100,6 +100,18 @@ impl Tokens {
         let token = self.items[at];
         let text = &self.source[token.start as usize..token.end as usize];
         words::number_value(text)
+    }
+
+    /// The value of a number with a suffix, at most 9223372036854775808.
+    pub fn long_value(&self, at: usize) -> u64
+        requires within { at < length self.now.list }
+        requires number { (lexeme_at self.now at).kind ≡ LongNumber }
+        ensures value { result ≡ long_number_value (lexeme_at self.now at).text }
+        ensures small { result ≤ 9223372036854775808 }
+    {
+        let token = self.items[at];
+        let text = &self.source[token.start as usize..token.end as usize];
+        words::long_number_value(text)
     }
 
     pub fn place(&self, at: usize) -> Place

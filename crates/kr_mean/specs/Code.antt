@@ -21,6 +21,7 @@ here s t ns = record { scope = s; tree = t } ∷ ns
 abbrev pub code : Scope → Tree → List Node
 code s (trees.Cons a b) = code s a ++ code (after s a) b
 code s (trees.Number p n) = here s (trees.Number p n) []
+code s (trees.LongNumber p n) = here s (trees.LongNumber p n) []
 code s (trees.Truth p b) = here s (trees.Truth p b) []
 code s (trees.Null p) = here s (trees.Null p) []
 code s (trees.This p) = here s (trees.This p) []

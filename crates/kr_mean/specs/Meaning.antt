@@ -2,6 +2,8 @@
 -- of fuel before all else; nodes that only hold others together take none: a list, and the group of a declaration. The scope
 -- gives the names and types at a node their meaning; the locals are the scope's, by their numbers.
 use Rattle.std.specs.Prelude.{ℕ, zero, suc, Bool, true, false, List, [], ◌∷◌, length, map, replicate, Option, Some, None, option_and_then, pos, negsuc, nat_lt, if◌then◌else◌}
+use Rattle.kr_ast.specs.declared.node.UnaryOperator.{UnaryOperator}
+use Rattle.kr_ast.specs.declared.node.UnaryOperator.TheVariants.{Plus}
 use Rattle.kr_ast.specs.declared.node.BinaryOperator.{BinaryOperator}
 use Rattle.kr_ast.specs.declared.node.BinaryOperator.TheVariants.{And, Or}
 use Rattle.kr_ast.specs.Tree as trees
@@ -10,13 +12,14 @@ use Rattle.kr_value.specs.declared.value.Value.{Value}
 use Rattle.kr_value.specs.declared.value.Value.TheVariants.{Int, Bool as Truth, Null}
 use Rattle.kr_value.specs.declared.object.Class.{Class}
 use Rattle.kr_value.specs.declared.object.Class.TheVariants.{Object, Array, Set, List as ListClass}
-use Rattle.kr_classes_table.specs.Types.{JavaType, ClassType, ArrayType, SetType, ListType, is_void}
+use Rattle.kr_classes_table.specs.Types.{JavaType, NumberType, ClassType, ArrayType, SetType, ListType, is_void, width_in}
 use Rattle.kr_classes_table.specs.Table.{Table, Field, Method, Constructor, items, fields_of, line_of, field_named, method_named}
 use Rattle.kr_classes_table.specs.Arrays.{array_number}
 use Rattle.kr_classes_table.specs.Constants.{constant_of, known_value as constant_value}
-use Rattle.kr_classes_table.specs.Numbers.{Width, Bits32, wrap}
+use Rattle.kr_classes_table.specs.Numbers.{Width, Bits32, Bits64, wrap}
+use Rattle.kr_classes_table.specs.Operators.{operator_width}
 use Rattle.kr_types_meaning.specs.Scopes.{Scope, Locals, Meant, LocalName, FieldName, NoName, written, declaring, bind_local as with_local, after, meant, class_before, static_only, method_meant, super_class}
-use Rattle.kr_types_meaning.specs.Typing.{type_of}
+use Rattle.kr_types_meaning.specs.Typing.{judged, operand, type_in, type_of}
 use Rattle.kr_mean.specs.declared.flow.Flow.{Flow}
 use Rattle.kr_mean.specs.declared.flow.Flow.TheVariants.{Next, Broke, Continued, Left, Gave}
 use Rattle.kr_mean.specs.declared.kind.Kind.TheVariants.{NegativeArraySizeException, ClassCastException, NoReturn, ArrayTooLong}
@@ -25,7 +28,7 @@ use Rattle.kr_mean.specs.Program.{Program, default_of, is_of_type, overriding, c
 use Rattle.kr_mean.specs.Steps.{Run, say, give, stop, given, ◌>>=◌, ◌>>◌, tick, get_this, read_local, declare, assign, get_result, get_old, within, scoped, load_field, element, class_or_null, class_of, store, store_new, store_element, make, collect}
 use Rattle.kr_mean.specs.declared.operations.BinaryOperation.{BinaryOperation}
 use Rattle.kr_mean.specs.declared.operations.StepOperation.{StepOperation}
-use Rattle.kr_mean.specs.Operators.{operated, operated_alone, binary_operation, unary_operation, step_operation, step_binary, gives_old}
+use Rattle.kr_mean.specs.Operators.{operated, operated_alone, binary_operation, compound_operation, unary_operation, step_operation, step_binary, gives_old}
 
 -- ---- where statements lead
 
@@ -339,13 +342,22 @@ stepped o v = do
 
 -- ---- expressions
 
--- the width of an operator's numbers, by the type of its operand: all have 32 bits (5.6.1)
-abbrev pub width_at : Scope → Tree → Width
-width_at s e = Bits32
+-- the width of a type's numbers
+abbrev pub type_width : Option JavaType → Width
+type_width (Some t) = width_in t
+type_width None = Bits32
 
--- likewise by the types of its operands (5.6.2)
+-- the width of an expression's numbers
+abbrev pub width_at : Scope → Tree → Width
+width_at s e = type_width (type_of s e)
+
+-- the width of a unary operator's numbers, by the type of its operand (5.6.1)
+abbrev pub operand_width : Scope → UnaryOperator → Tree → Width
+operand_width s o e = type_width (type_in (judged (operand o s) e).typed)
+
+-- likewise of a binary one's, by those of its operands
 abbrev pub width_of : Scope → BinaryOperator → Tree → Tree → Width
-width_of s o a b = Bits32
+width_of s o a b = operator_width o (width_at s a) (width_at s b)
 
 -- two operands: `&&` and `||` look at the second only where the first leaves it open (15.23, 15.24)
 abbrev pub binary : Width → BinaryOperator → Run Value → Run Value → Run Value
@@ -369,6 +381,13 @@ abbrev pub is_primitive : Tree → Bool
 is_primitive (trees.PrimitiveType p k) = true
 is_primitive t = false
 
+-- a cast to a number's type keeps the low bits, as unary plus of that type does (5.1.3); one to `boolean` changes nothing
+abbrev pub primitive_cast : JavaType → Run Value → Run Value
+primitive_cast (NumberType w) m = do
+  v ← m
+  say (operated_alone (unary_operation w Plus) v)
+primitive_cast t m = m
+
 abbrev pub instance : Program → JavaType → Option Class → Value
 instance program t None = Truth false
 instance program t (Some class) = Truth (is_of_type program t class)
@@ -376,6 +395,7 @@ instance program t (Some class) = Truth (is_of_type program t class)
 -- an expression after its unit
 abbrev pub value_of : Program → Parts → Scope → Tree → Run Value
 value_of program parts s (trees.Number p n) = give (Int (wrap Bits32 (pos n)))
+value_of program parts s (trees.LongNumber p n) = give (Int (wrap Bits64 (pos n)))
 value_of program parts s (trees.Truth p b) = give (Truth b)
 value_of program parts s (trees.Null p) = give Null
 value_of program parts s (trees.This p) = get_this
@@ -401,7 +421,7 @@ value_of program parts s (trees.ArrayCreation p t e) = do
   create_array program (written s t) n
 value_of program parts s (trees.Unary p o e) = do
   v ← parts.value s e
-  say (operated_alone (unary_operation (width_at s e) o) v)
+  say (operated_alone (unary_operation (operand_width s o e) o) v)
 value_of program parts s (trees.Step p o e) = changed program parts s (target_of s e) (stepped (step_operation (width_at s e) o))
 value_of program parts s (trees.Binary p o a b) = binary (width_of s o a b) o (parts.value s a) (parts.value s b)
 value_of program parts s (trees.InstanceOf p e t) = do
@@ -411,12 +431,12 @@ value_of program parts s (trees.InstanceOf p e t) = do
 value_of program parts s (trees.Conditional p c a b) = do
   v ← parts.value s c
   choose v (parts.value s a) (parts.value s b)
-value_of program parts s (trees.Cast p t e) = if is_primitive t then parts.value s e else (do
+value_of program parts s (trees.Cast p t e) = if is_primitive t then primitive_cast (written s t) (parts.value s e) else (do
   v ← parts.value s e
   class ← class_or_null v
   cast program (written s t) v class)
 value_of program parts s (trees.Assignment p a e) = assigned program parts s (target_of s a) (parts.value s e)
-value_of program parts s (trees.CompoundAssignment p o a e) = changed program parts s (target_of s a) (compound (binary_operation (width_of s o a e) o) (parts.value s e))
+value_of program parts s (trees.CompoundAssignment p o a e) = changed program parts s (target_of s a) (compound (compound_operation (width_at s a) (width_of s o a e) o) (parts.value s e))
 value_of program parts s (trees.Result p) = get_result
 value_of program parts s (trees.Old p e) = get_old p
 value_of program parts s t = stop Stuck

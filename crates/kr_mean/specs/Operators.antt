@@ -1,5 +1,5 @@
 -- To be believed: operators in code that runs: those on values, where a zero divisor traps.
-use Rattle.std.specs.Prelude.{ℤ, pos, Bool, true, false, not, int_lt, Result, Ok, Err}
+use Rattle.std.specs.Prelude.{ℤ, pos, Bool, true, false, not, int_lt, Option, Some, None, Result, Ok, Err}
 use Rattle.kr_ast.specs.declared.node.BinaryOperator.{BinaryOperator}
 use Rattle.kr_ast.specs.declared.node.BinaryOperator.TheVariants.{Less, LessOrEqual, Greater, GreaterOrEqual, Equal, NotEqual, Add, Subtract}
 use Rattle.kr_ast.specs.declared.node.UnaryOperator.{UnaryOperator}
@@ -9,7 +9,7 @@ use Rattle.kr_value.specs.declared.value.Value.{Value}
 use Rattle.kr_value.specs.declared.value.Value.TheVariants.{Int}
 use Rattle.kr_classes_table.specs.declared.errors.OperatorError.TheVariants.{ZeroDivisor, NotDefined}
 use Rattle.kr_classes_table.specs.Numbers.{Width}
-use Rattle.kr_classes_table.specs.Operators.{Applied, apply, apply_alone}
+use Rattle.kr_classes_table.specs.Operators.{Applied, apply, apply_alone, converted}
 use Rattle.kr_mean.specs.declared.operations.BinaryOperation.{BinaryOperation}
 use Rattle.kr_mean.specs.declared.operations.UnaryOperation.{UnaryOperation}
 use Rattle.kr_mean.specs.declared.operations.StepOperation.{StepOperation}
@@ -24,14 +24,23 @@ said (Ok v) = Ok v
 said (Err ZeroDivisor) = Err (Trapped ArithmeticException)
 said (Err NotDefined) = Err Stuck
 
+-- a compound assignment converts the result to the width of its target (15.26.2)
+abbrev pub into : Option Width → Applied → Applied
+into (Some w) (Ok v) = Ok (converted w v)
+into w r = r
+
 abbrev pub operated : BinaryOperation → Value → Value → Result Value Stop
-operated o v w = said (apply o.width o.operator v w)
+operated o v w = said (into o.assigned (apply o.width o.operator v w))
 
 abbrev pub operated_alone : UnaryOperation → Value → Result Value Stop
 operated_alone o v = said (apply_alone o.width o.operator v)
 
 abbrev pub binary_operation : Width → BinaryOperator → BinaryOperation
-binary_operation w o = record { operator = o; width = w }
+binary_operation w o = record { operator = o; width = w; assigned = None }
+
+-- of a compound assignment to a target of a width
+abbrev pub compound_operation : Width → Width → BinaryOperator → BinaryOperation
+compound_operation to w o = record { operator = o; width = w; assigned = Some to }
 
 abbrev pub unary_operation : Width → UnaryOperator → UnaryOperation
 unary_operation w o = record { operator = o; width = w }

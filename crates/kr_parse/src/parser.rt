@@ -81,6 +81,9 @@ fn literal(tokens: &Tokens, at: usize) -> Node
         Kind::Number => Node::Number {
             value: tokens.value(at),
         },
+        Kind::LongNumber => Node::LongNumber {
+            value: tokens.long_value(at),
+        },
         Kind::True => Node::Truth { value: true },
         Kind::False => Node::Truth { value: false },
         Kind::Null => Node::Null,

@@ -2,7 +2,7 @@
 -- C i t r`: the tokens i begin with a C, whose tree is t, and the tokens r are left.
 use Rattle.std.specs.Prelude.{ℕ, ◌≡◌, ◌≢◌, ◌≤◌, ◌<◌, Bool, true, false, List, [], ◌∷◌, Some}
 use Rattle.kr_base.specs.declared.place.Place.{Place}
-use Rattle.kr_lex.specs.Lexemes.{Lexeme, number_value}
+use Rattle.kr_lex.specs.Lexemes.{Lexeme, number_value, long_number_value}
 use Rattle.kr_lex.specs.declared.kind.Kind.{Kind}
 use Rattle.kr_lex.specs.declared.kind.Kind.TheVariants as kinds
 use Rattle.kr_ast.specs.declared.node.Primitive.{Primitive}
@@ -99,6 +99,7 @@ pub data Der : Class → List Lexeme → Tree → List Lexeme → Type 0 where
   reference_type : {i r : List Lexeme} {t : Tree} → Der ReferenceType i t r → Der AnyType i t r
   -- primary expressions
   number : {i : List Lexeme} (a : Lexeme) → a.kind ≡ kinds.Number → Der (Primary Other) (a ∷ i) (trees.Number a.place (number_value a.text)) i
+  long_number : {i : List Lexeme} (a : Lexeme) → a.kind ≡ kinds.LongNumber → Der (Primary Other) (a ∷ i) (trees.LongNumber a.place (long_number_value a.text)) i
   truth : {i : List Lexeme} (a : Lexeme) → a.kind ≡ kinds.True → Der (Primary Other) (a ∷ i) (trees.Truth a.place true) i
   falsity : {i : List Lexeme} (a : Lexeme) → a.kind ≡ kinds.False → Der (Primary Other) (a ∷ i) (trees.Truth a.place false) i
   null : {i : List Lexeme} (a : Lexeme) → a.kind ≡ kinds.Null → Der (Primary Other) (a ∷ i) (trees.Null a.place) i

@@ -2,7 +2,7 @@
 use Rattle.std.specs.Prelude.{ℕ, true, false, List, ◌∷◌}
 use Rattle.kr_base.specs.declared.place.Place.{Place}
 use Rattle.kr_base.specs.Places.{nowhere}
-use Rattle.kr_lex.specs.Lexemes.{Lexeme, number_value}
+use Rattle.kr_lex.specs.Lexemes.{Lexeme, number_value, long_number_value}
 use Rattle.kr_lex.specs.declared.kind.Kind.{Kind}
 use Rattle.kr_lex.specs.declared.kind.Kind.TheVariants as kinds
 use Rattle.kr_ast.specs.declared.node.Primitive.{Primitive}
@@ -23,6 +23,7 @@ use Rattle.kr_parse_grammar.specs.Values.{StackItem, mark, word, pair, part, mem
 -- the operators of a kept token
 abbrev pub the_primitive : Kind → Primitive
 the_primitive kinds.Int = primitives.Int
+the_primitive kinds.Long = primitives.Long
 the_primitive kinds.Boolean = primitives.Boolean
 the_primitive _ = primitives.Void
 
@@ -85,6 +86,7 @@ jump _ p = trees.Continue p
 -- the tree of a literal, or of `this`
 abbrev pub literal_of : Kind → Place → List ℕ → Tree
 literal_of kinds.Number p n = trees.Number p (number_value n)
+literal_of kinds.LongNumber p n = trees.LongNumber p (long_number_value n)
 literal_of kinds.True p n = trees.Truth p true
 literal_of kinds.False p n = trees.Truth p false
 literal_of kinds.Null p n = trees.Null p

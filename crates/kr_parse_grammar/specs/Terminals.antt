@@ -7,6 +7,7 @@ use Rattle.kr_parse_grammar.specs.declared.terminal.Terminal.TheVariants as term
 abbrev pub terminal_of : Kind → Terminal
 terminal_of kinds.Identifier = terminals.Identifier
 terminal_of kinds.Number = terminals.Literal
+terminal_of kinds.LongNumber = terminals.Literal
 terminal_of kinds.True = terminals.Literal
 terminal_of kinds.False = terminals.Literal
 terminal_of kinds.Null = terminals.Literal
@@ -23,6 +24,7 @@ terminal_of kinds.If = terminals.If
 terminal_of kinds.Import = terminals.Import
 terminal_of kinds.Instanceof = terminals.Instanceof
 terminal_of kinds.Int = terminals.Primitive
+terminal_of kinds.Long = terminals.Primitive
 terminal_of kinds.New = terminals.New
 terminal_of kinds.Package = terminals.Package
 terminal_of kinds.Private = terminals.Access
@@ -49,7 +51,6 @@ terminal_of kinds.Float = terminals.Outside
 terminal_of kinds.Goto = terminals.Outside
 terminal_of kinds.Implements = terminals.Outside
 terminal_of kinds.Interface = terminals.Outside
-terminal_of kinds.Long = terminals.Outside
 terminal_of kinds.Native = terminals.Outside
 terminal_of kinds.Short = terminals.Outside
 terminal_of kinds.Strictfp = terminals.Outside

@@ -13,6 +13,7 @@ use Rattle.kr_ast.specs.declared.node.BinaryOperator.TheVariants as binaries
 
 abbrev pub primitive_of : Kind → Option Primitive
 primitive_of kinds.Int = Some primitives.Int
+primitive_of kinds.Long = Some primitives.Long
 primitive_of kinds.Boolean = Some primitives.Boolean
 primitive_of _ = None
 

@@ -86,9 +86,14 @@ pub fn terminal_of(kind: Kind) -> Terminal
 {
     match kind {
         Kind::Identifier => Terminal::Identifier,
-        Kind::Number | Kind::True | Kind::False | Kind::Null | Kind::This | Kind::Result =>
-            Terminal::Literal,
-        Kind::Boolean | Kind::Int => Terminal::Primitive,
+        Kind::Number
+        | Kind::LongNumber
+        | Kind::True
+        | Kind::False
+        | Kind::Null
+        | Kind::This
+        | Kind::Result => Terminal::Literal,
+        Kind::Boolean | Kind::Int | Kind::Long => Terminal::Primitive,
         Kind::Break => Terminal::Break,
         Kind::Class => Terminal::Class,
         Kind::Continue => Terminal::Continue,
@@ -123,7 +128,6 @@ pub fn terminal_of(kind: Kind) -> Terminal
         | Kind::Goto
         | Kind::Implements
         | Kind::Interface
-        | Kind::Long
         | Kind::Native
         | Kind::Short
         | Kind::Strictfp

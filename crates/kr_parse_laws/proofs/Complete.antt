@@ -1,7 +1,7 @@
 -- The machine accepts derivable tokens, with one tree.
 use Rattle.std.proofs.Common.{◌≡◌, true, false, List, [], ◌∷◌, refl, ap}
 use Rattle.kr_base.specs.declared.place.Place.{Place}
-use Rattle.kr_lex.specs.Lexemes.{Lexeme, number_value}
+use Rattle.kr_lex.specs.Lexemes.{Lexeme, number_value, long_number_value}
 use Rattle.kr_ast.specs.declared.node.Primitive.TheVariants as primitives
 use Rattle.kr_ast.specs.Tree as trees
 use Rattle.kr_ast.specs.Tree.{Tree}
@@ -81,6 +81,7 @@ complete (grammar.array_type {i = i} {r = r} {t = t} a b d p q) = array_claim i 
 complete (grammar.primitive_type {i = i} {k = k} a e) = primitive_claim i a k e
 complete (grammar.reference_type {i = i} {r = r} {t = t} d) = reference_claim i r t (complete d)
 complete (grammar.number {i = i} a p) = leaf_claim i a (trees.Number a.place (number_value a.text)) (ap terminal_of p) (ap (λ k. literal_of k a.place a.text) p)
+complete (grammar.long_number {i = i} a p) = leaf_claim i a (trees.LongNumber a.place (long_number_value a.text)) (ap terminal_of p) (ap (λ k. literal_of k a.place a.text) p)
 complete (grammar.truth {i = i} a p) = leaf_claim i a (trees.Truth a.place true) (ap terminal_of p) (ap (λ k. literal_of k a.place a.text) p)
 complete (grammar.falsity {i = i} a p) = leaf_claim i a (trees.Truth a.place false) (ap terminal_of p) (ap (λ k. literal_of k a.place a.text) p)
 complete (grammar.null {i = i} a p) = leaf_claim i a (trees.Null a.place) (ap terminal_of p) (ap (λ k. literal_of k a.place a.text) p)

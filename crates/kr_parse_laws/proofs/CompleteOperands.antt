@@ -84,6 +84,7 @@ PrimitiveFacts k (Some o) = (terminal_of k ≡ terminals.Primitive) × (the_prim
 
 primitive_facts : (k : Kind) → PrimitiveFacts k (primitive_of k)
 primitive_facts kinds.Int = (refl, refl)
+primitive_facts kinds.Long = (refl, refl)
 primitive_facts kinds.Boolean = (refl, refl)
 primitive_facts _ = tt
 

@@ -3,7 +3,7 @@ use Rattle.std.proofs.Common.{◌≡◌, ℕ, ◌+◌, ◌*◌, ◌≤◌, List,
 use Rattle.kr_lex.specs.Lexemes.{Lexeme}
 use Rattle.kr_ast.specs.Tree.{Tree, size}
 use Rattle.kr_parse_grammar.specs.declared.value.Modifiers.{Modifiers}
-use Rattle.kr_parse_grammar.specs.Grammar.{Class, Declarator, Evaluated, Local, ForInitial, Extended, Members, Classes, Maybe, Many, Several, Modified, nothing, access, static, final, overriding, Der, absent, present, end, next, last, comma, simple_name, qualified_name, class_type, generic_type, array_type, primitive_type, reference_type, number, truth, falsity, null, this, result_value, old_value, parentheses, variable, call, super_call, creation, generic_creation, diamond_creation, primitive_array, class_array, field_access, method_call, array_access, primary, stepped_behind, postfix, complement, primitive_cast, reference_cast, unsigned, sign, stepped_before, operand, binary, instance_of, operation, choice, assign, compound, conditional, assignment, declarator, initialised, local, final_local, assigns, steps, is_stepped, invokes, evaluated, local_statement, statement, block, empty, evaluate, return, break, continue, if_then, if_else, while, do_while, for, for_local, for_expressions, parameter, final_parameter, void, result, calls_super, nested, field, precondition, postcondition, method, constructor, no_member, skip_member, member, not_extended, extended, class, no_class, skip_class, another, Dotted, no_more, dot, Imports, no_import, import, Heading, unpackaged, packaged}
+use Rattle.kr_parse_grammar.specs.Grammar.{Class, Declarator, Evaluated, Local, ForInitial, Extended, Members, Classes, Maybe, Many, Several, Modified, nothing, access, static, final, overriding, Der, absent, present, end, next, last, comma, simple_name, qualified_name, class_type, generic_type, array_type, primitive_type, reference_type, number, long_number, truth, falsity, null, this, result_value, old_value, parentheses, variable, call, super_call, creation, generic_creation, diamond_creation, primitive_array, class_array, field_access, method_call, array_access, primary, stepped_behind, postfix, complement, primitive_cast, reference_cast, unsigned, sign, stepped_before, operand, binary, instance_of, operation, choice, assign, compound, conditional, assignment, declarator, initialised, local, final_local, assigns, steps, is_stepped, invokes, evaluated, local_statement, statement, block, empty, evaluate, return, break, continue, if_then, if_else, while, do_while, for, for_local, for_expressions, parameter, final_parameter, void, result, calls_super, nested, field, precondition, postcondition, method, constructor, no_member, skip_member, member, not_extended, extended, class, no_class, skip_class, another, Dotted, no_more, dot, Imports, no_import, import, Heading, unpackaged, packaged}
 use Rattle.kr_parse_laws.specs.Laws.{SmallTrees}
 
 -- how many nodes more than three for each token, less two
@@ -60,6 +60,7 @@ small _ (primitive_type _ _) = omega arith
 small _ (reference_type d) = omega (arith, small tt d)
 -- primary expressions
 small _ (number _ _) = omega arith
+small _ (long_number _ _) = omega arith
 small _ (truth _ _) = omega arith
 small _ (falsity _ _) = omega arith
 small _ (null _ _) = omega arith

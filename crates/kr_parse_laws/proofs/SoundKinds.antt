@@ -13,7 +13,7 @@ use Rattle.kr_parse_grammar.specs.declared.value.Form.TheVariants as forms
 use Rattle.kr_parse_grammar.specs.TokenMeanings.{primitive_of, sign_of, step_before, step_behind, complement_of, binary_of, level, compound_of, is_access}
 use Rattle.kr_parse_grammar.specs.Terminals.{terminal_of}
 use Rattle.kr_parse_grammar.specs.Made.{the_primitive, the_unary, the_step_before, the_step_behind, the_binary, the_compound, assigned, literal_of}
-use Rattle.kr_parse_grammar.specs.Grammar.{Der, Primary, number, truth, falsity, result_value, null, this}
+use Rattle.kr_parse_grammar.specs.Grammar.{Der, Primary, number, long_number, truth, falsity, result_value, null, this}
 
 -- an operator between two operands, of this level
 abbrev pub IsBinary : ℕ → Kind → Type 0
@@ -90,6 +90,7 @@ Kinds terminals.Outside x = Unit {0}
 kinds_are : (x : Kind) → Kinds (terminal_of x) x
 kinds_are kinds.Identifier = refl
 kinds_are kinds.Number = λ a r e. number a e
+kinds_are kinds.LongNumber = λ a r e. long_number a e
 kinds_are kinds.True = λ a r e. truth a e
 kinds_are kinds.False = λ a r e. falsity a e
 kinds_are kinds.Null = λ a r e. null a e
@@ -106,6 +107,7 @@ kinds_are kinds.If = refl
 kinds_are kinds.Import = refl
 kinds_are kinds.Instanceof = refl
 kinds_are kinds.Int = refl
+kinds_are kinds.Long = refl
 kinds_are kinds.New = refl
 kinds_are kinds.Package = refl
 kinds_are kinds.Private = refl
@@ -132,7 +134,6 @@ kinds_are kinds.Float = tt
 kinds_are kinds.Goto = tt
 kinds_are kinds.Implements = tt
 kinds_are kinds.Interface = tt
-kinds_are kinds.Long = tt
 kinds_are kinds.Native = tt
 kinds_are kinds.Short = tt
 kinds_are kinds.Strictfp = tt

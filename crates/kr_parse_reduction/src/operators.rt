@@ -11,6 +11,7 @@ pub(crate) fn primitive_of(kind: Kind) -> Primitive
 {
     match kind {
         Kind::Int => Primitive::Int,
+        Kind::Long => Primitive::Long,
         Kind::Boolean => Primitive::Boolean,
         _ => Primitive::Void,
     }

@@ -79,6 +79,7 @@ fn kind_of_declaration(node: Node) -> &'static str {
 fn name_of_primitive(primitive: Primitive) -> &'static str {
     match primitive {
         Primitive::Int => "Int",
+        Primitive::Long => "Long",
         Primitive::Boolean => "Boolean",
         Primitive::Void => "Void",
     }
@@ -131,6 +132,7 @@ pub(crate) fn kind(alloc: Global, node: Node) -> Result<String, AllocError> {
     match node {
         Node::PrimitiveType { primitive } => String::from_str(alloc, name_of_primitive(primitive)),
         Node::Number { value } => format!(in alloc; "{value}"),
+        Node::LongNumber { value } => format!(in alloc; "{value}L"),
         Node::Truth { value } => format!(in alloc; "{value}"),
         Node::Unary { operator, .. } => String::from_str(alloc, name_of_unary(operator)),
         Node::Step { operator, .. } => String::from_str(alloc, name_of_step(operator)),

@@ -56,6 +56,7 @@ fn kind_name(kind: Kind) -> &'static [u8] {
     match kind {
         Kind::Identifier => b"identifier",
         Kind::Number => b"number",
+        Kind::LongNumber => b"long number",
         _ => spelling(kind),
     }
 }
@@ -68,7 +69,9 @@ fn shown(alloc: Global, tokens: &Tokens, at: usize) -> Result<String, AllocError
     let text = String::from_utf8_lossy(alloc, tokens.text(at))?;
     let kind = String::from_utf8_lossy(alloc, kind_name(tokens.kind(at)))?;
     let value = if tokens.kind(at) == Kind::Number {
-        tokens.value(at)
+        tokens.value(at) as u64
+    } else if tokens.kind(at) == Kind::LongNumber {
+        tokens.long_value(at)
     } else {
         0
     };

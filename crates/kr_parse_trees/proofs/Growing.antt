@@ -324,6 +324,7 @@ leaf_tree t u f g p (nodes.GenericType a b) e h = cc
 leaf_tree t u f g p (nodes.DiamondType a) e h = cc
 leaf_tree t u f g p (nodes.ArrayType a) e h = cc
 leaf_tree t u f g p (nodes.Number v) e h = refl
+leaf_tree t u f g p (nodes.LongNumber v) e h = refl
 leaf_tree t u f g p (nodes.Truth v) e h = refl
 leaf_tree t u f g p nodes.Null e h = refl
 leaf_tree t u f g p nodes.This e h = refl

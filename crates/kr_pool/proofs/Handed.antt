@@ -108,7 +108,7 @@ module _ {T K R : Type 0} (takes : Takes T K R) where
   halts es a from b out Sink h = h
   halts es a from b out (Memory why) h = h
 
-  -- a listing handed over to its end, behind a log without a stop
+  -- a listing handed over to its end, where the log has no stop
   pub rest_logged : (es : List (Entry R)) (workers : ℕ) (log : List Event) (a : T) (from : K) (b : T) (out : K) (end : End) → are_shared workers log ≡ true → Ends takes es a from b out end → EndsLogged takes es workers log a from b out end
   rest_logged es workers log a from b out (Whole tried spent) whole h = h
   rest_logged es workers log a from b out AtFull whole h = (h.0, inl whole, h.1)

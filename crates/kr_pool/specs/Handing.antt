@@ -29,7 +29,7 @@ abbrev pub ReachesTo : {T K R : Type 0} → Takes T K R → List (Entry R) → �
 ReachesTo {T} {K} takes es d e old was new out (Ok room) = (start : T) (from : K) → takes start from (take d (rows_of es)) old was (Some More) → HasTaken takes (take e (rows_of es)) start from new out room
 ReachesTo {T} {K} takes es d e old was new out (Err halt) = (start : T) (from : K) → takes start from (take d (rows_of es)) old was (Some More) → HasBroken takes (rows_of es) start from new out halt
 
--- the same of a round
+-- the room that a round left
 abbrev pub room_of : Result Came Halt → Result Room Halt
 room_of (Ok came) = Ok came.room
 room_of (Err halt) = Err halt

@@ -44,7 +44,7 @@ abbrev pub with_log : Result (End × Vec Event Global) Halt → Result (End × L
 with_log (Ok r) = Ok (r.0, r.1.items)
 with_log (Err halt) = Err halt
 
--- the same, where the first d rows were taken before
+-- the rest is handed over, where the first d rows were taken before
 abbrev pub SharesRest : {T K R : Type 0} → Takes T K R → List (Entry R) → ℕ → ℕ → T → K → T → K → Result (End × Vec Event Global) Halt → Type 0
 SharesRest {T} {K} takes es workers d old was new out result = (start : T) (from : K) → takes start from (take d (rows_of es)) old was (Some More) → SharesLogged takes es workers start from new out (with_log result)
 

@@ -27,7 +27,7 @@ fn any_gave_up<R, N: Run<R>>(hands: &[Hand<R, N>]) -> bool
     ensures { result ≡ list_any (λ h. is_some h.seat.refused) hands.now }
 {
     for hand in hands {
-        if hand.seat.gave_up() {
+        if hand.gave_up() {
             return true;
         }
     }
@@ -38,7 +38,7 @@ fn all_gave_up<R, N: Run<R>>(hands: &[Hand<R, N>]) -> bool
     ensures { result ≡ list_all (λ h. is_some h.seat.refused) hands.now }
 {
     for hand in hands {
-        if !hand.seat.gave_up() {
+        if !hand.gave_up() {
             return false;
         }
     }

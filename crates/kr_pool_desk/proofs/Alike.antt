@@ -56,7 +56,7 @@ none-alike [] (f ∷ fs) h n = absurd h
 none-alike (e ∷ es) [] h n = absurd h
 none-alike (e ∷ es) (f ∷ fs) h n = (h.2 ∙ n.0, none-alike es fs h.3 n.1)
 
--- the last one behind the others
+-- the last one, after the others
 ends-alike : {R T : Type 0} (b : Bound) (before : List (Entry R)) (last : Entry R) (fs : List (Entry T)) → Alike (before ++ last ∷ []) fs → NoneSpent before → is_spent last.mark ≡ true → At last.key ≡ b → EndsSpent b fs
 ends-alike b [] last [] h none spent key = absurd h
 ends-alike {R} {T} b [] last (f ∷ []) h none spent key =

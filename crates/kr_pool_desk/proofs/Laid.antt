@@ -53,7 +53,7 @@ cuts_off {R} seat old middle new lease rest given is cut stolen owned gone adds 
 pub lays_one : {R : Type 0} (old new : Held R) (lease next : Lease) → CutsOff old lease new next → LaysOut 1 old lease new next true
 lays_one old new lease next off = record { count = 1; few = omega arith; some_is = refl; cuts = (new, next, off, (refl, refl)) }
 
--- more behind them
+-- more after them
 
 cut-append : {R : Type 0} (n k m : ℕ) (a b d : Held R) (l i p : Lease) → m ≡ n + k → CutOff n a l b i → CutOff k b i d p → CutOff m a l d p
 cut-append {R} zero k m a b d l i p is h j =

@@ -12,3 +12,4 @@ pub mod Laid
 pub mod Keeping
 pub mod Limits
 pub mod Seating
+pub mod Observed

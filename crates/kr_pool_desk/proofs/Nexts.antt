@@ -45,7 +45,7 @@ use Rattle.kr_pool_desk.proofs.Whole.{whole_listing}
 abbrev up : {R : Type 0} → List (Entry R) → Segment → List (Entry R)
 up es g = within g.after g.mark es
 
--- rows in front, behind those before, are the rows up to a mark; the entries up to there come first among those known
+-- the rows taken before and those in front are the rows up to a mark; the entries up to there are the first of those known
 record IsFront {R : Type 0} (all : List (Entry R)) (from e : Bound) (acc : List R) (front : List (List R)) (known : List (Entry R)) : Type 0 where
   pub mark : Bound
   pub later : List (Entry R)

@@ -71,9 +71,9 @@ given-short (g ∷ gs) = events-more (given_up_by g.owner g.number) (given_up gs
 pub released : {R : Type 0} (all : List (Entry R)) (span : Span) (cuts : List (List ℕ)) (ops : List Event) (workers calls calls' : ℕ) (old new : Held R) → IsRun all span cuts ops workers old calls → IsReleased old new
     → IsBoardOf all span cuts new → calls' + length old.log ≡ calls + length new.log → IsRun all span cuts ops workers new calls'
 released all span cuts ops workers calls calls' old new k is board count =
-    let told = owners_law span cuts old.log old.core k.inside (runs_from_honest all (opening span cuts) old.log old.core k.board.honest) in
+    let owners = owners_law span cuts old.log old.core k.inside (runs_from_honest all (opening span cuts) old.log old.core k.board.honest) in
     let given = given_up old.core.segments in
-    let shared : are_shared workers given ≡ true = all-given workers span cuts old.log old.core.segments k.grown.shared told in
+    let shared : are_shared workers given ≡ true = all-given workers span cuts old.log old.core.segments k.grown.shared owners in
     record {
       ascends = k.ascends;
       inside = k.inside;

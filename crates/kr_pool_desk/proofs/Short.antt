@@ -73,10 +73,10 @@ raised-within n k =
     fits : nat_lt (n + 1) (2 ^ 32) ≡ true → n + 1 < 2 ^ 32
     fits q = grind (arith, nat_tests)
 
-behind-within : (n k : ℕ) (cs : List (List ℕ)) → n < 2 ^ 32 → each-cut (Within k) cs → each-cut (Within (suc k)) (map (λ later. n ∷ later) cs)
+cons-within : (n k : ℕ) (cs : List (List ℕ)) → n < 2 ^ 32 → each-cut (Within k) cs → each-cut (Within (suc k)) (map (λ later. n ∷ later) cs)
 unfolding Within each-cut
-behind-within n k [] small h = tt
-behind-within n k (c ∷ cs) small h = (((let l = h.0.0 in omega (arith, l)), (small, h.0.1)), behind-within n k cs small h.1)
+cons-within n k [] small h = tt
+cons-within n k (c ∷ cs) small h = (((let l = h.0.0 in omega (arith, l)), (small, h.0.1)), cons-within n k cs small h.1)
 
 joined-cuts : (P : List ℕ → Type 0) (xs ys : List (List ℕ)) → each-cut P xs → each-cut P ys → each-cut P (xs ++ ys)
 unfolding each-cut
@@ -89,7 +89,7 @@ raisings-within [] k h = tt
 raisings-within (n ∷ ns) zero h = absurd (let l = h.0 in omega (arith, l))
 raisings-within (n ∷ ns) (suc k) h =
     joined-cuts (Within (suc k)) (raised n) (map (λ later. n ∷ later) (raisings ns)) (raised-within n k)
-    (behind-within n k (raisings ns) h.1.0 (raisings-within ns k ((let l = h.0 in omega (arith, l)), h.1.1)))
+    (cons-within n k (raisings ns) h.1.0 (raisings-within ns k ((let l = h.0 in omega (arith, l)), h.1.1)))
 
 inside-short : (mark cut : List ℕ) (bound : Bound) → IsShort mark → inside_of mark bound ≡ Some cut → IsShort cut
 unfolding Within

@@ -30,7 +30,7 @@ use Rattle.kr_pool_desk.proofs.Honest.{runs_from_honest}
 use Rattle.kr_pool_desk.proofs.Whole.{by_stopped}
 use Rattle.kr_base.proofs.Bounds.{end_is_last}
 
--- nothing stands above the end
+-- no bound is above the end
 
 at-end : (b : Bound) → less b End ≡ false → b ≡ End
 unfolding less
@@ -43,7 +43,7 @@ closed-there s mark own =
     let free : is_owned s.owner ≡ false = elim (is_owned s.owner) as (λ b. is_owned s.owner ≡ b → b ≡ false) [ true ↦ λ q. absurd (cc (sym (own q) ∙ rest)) | false ↦ λ q. refl ] refl in
     ap (λ (b : Bool). not b && not (has_remainder s)) free ∙ ap (λ (b : Bool). not b) rest
 
--- behind a segment that is scanned to the end all are closed
+-- after a segment that is scanned to the end all are closed
 all-there : (a : Bound) (ss : List Segment) (e : Bound) → a ≡ End → Adjoin a ss e → Each (λ g. less g.mark g.after ≡ false) ss → Each (λ g. less g.upto g.mark ≡ false) ss → Each (λ g. is_owned g.owner ≡ true → has_remainder g ≡ true) ss
     → list_all is_closed ss ≡ true
 all-there a [] e is j low high own = refl
@@ -91,6 +91,6 @@ stop_finishes all span cuts ops workers calls old new mark reply rows log k at a
   short = λ s. subst AreShortEvents (sym (is ∙ adds.logged)) (events-more old.log (StopAt mark ∷ []) (k.short s) (stop-short old.core mark (board-short all span cuts old k.board k.short s) at, tt));
 }
 
--- its log is the board's, with the stop behind it
+-- its log is the board's, followed by the stop
 pub stopped_log : {R : Type 0} (old new : Held R) (mark : List ℕ) (reply : Reply) (rows : List R) (log : List Event) → At mark ≡ first_mark old.core → Adds old (StopAt mark) reply rows new → log ≡ new.log → IsStopped old log
 stopped_log old new mark reply rows log at adds is = record { mark = mark; mark_is = at; log_is = is ∙ adds.logged }

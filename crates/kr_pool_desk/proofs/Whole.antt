@@ -42,10 +42,10 @@ last-one x last [] h = cc (h)
 last-one x last (y ∷ []) h = absurd (cc (h))
 last-one x last (y ∷ (z ∷ before)) h = absurd (cc (h))
 
-ends-behind : {R : Type 0} (b : Bound) (x : Entry R) (rest before : List (Entry R)) (last : Entry R) → is_spent x.mark ≡ false → x ∷ rest ≡ before ++ last ∷ [] → NoneSpent before → is_spent last.mark ≡ true
+ends-later : {R : Type 0} (b : Bound) (x : Entry R) (rest before : List (Entry R)) (last : Entry R) → is_spent x.mark ≡ false → x ∷ rest ≡ before ++ last ∷ [] → NoneSpent before → is_spent last.mark ≡ true
     → At last.key ≡ b → EndsSpent b rest
-ends-behind {R} b x rest [] last free h none spent key = let same : x ≡ last = cc (h) in absurd (cc (sym free ∙ (ap (λ (e : Entry R). is_spent e.mark) same ∙ spent)))
-ends-behind {R} b x rest (y ∷ before) last free h none spent key =
+ends-later {R} b x rest [] last free h none spent key = let same : x ≡ last = cc (h) in absurd (cc (sym free ∙ (ap (λ (e : Entry R). is_spent e.mark) same ∙ spent)))
+ends-later {R} b x rest (y ∷ before) last free h none spent key =
     record { before = before; last = last; split = cc (h); none_before = none.1; last_spent = spent; key_is = key }
 
 pub through-ends : {R : Type 0} (a e : Bound) (es : List (Entry R)) → Ascends es → EndsSpent e (through_spent (within a e es)) → through_spent (within a e es) ≡ within a e es
@@ -59,7 +59,7 @@ through-ends {R} a e (x ∷ es) asc h =
                 let same = last-one x m.last m.before m.split in
                 ap (λ (l : List (Entry R)). x ∷ l) (sym (none-above a e x.key es asc.0 (ap (λ (y : Entry R). At y.key) same ∙ m.key_is)))
             | false ↦ λ q m.
-                ap (λ (l : List (Entry R)). x ∷ l) (through-ends a e es asc.1 (ends-behind e x (through_spent (within a e es)) m.before m.last q m.split m.none_before m.last_spent m.key_is))
+                ap (λ (l : List (Entry R)). x ∷ l) (through-ends a e es asc.1 (ends-later e x (through_spent (within a e es)) m.before m.last q m.split m.none_before m.last_spent m.key_is))
           ] refl k
       | false ↦ λ k. through-ends a e es asc.1 k
     ] h
@@ -117,7 +117,7 @@ by_stopped workers (e ∷ events) mark h =
     ap (λ (b : Bool). (b || is_last_stop e (events ++ StopAt mark ∷ [])) && are_by workers (events ++ StopAt mark ∷ [])) (and-left (is_shared workers e) (are_shared workers events) h)
     ∙ by_stopped workers events mark (and-right (is_shared workers e) (are_shared workers events) h)
 
--- and its log is one that comes to an end
+-- and its log is a finished one
 pub finishes : {R : Type 0} (all : List (Entry R)) (span : Span) (cuts : List (List ℕ)) (ops : List Event) (workers calls : ℕ) (b : Held R) (log : List Event) → IsRun all span cuts ops workers b calls
     → all_closed b.core ≡ true → log ≡ b.log → Finishes all (opening span cuts) workers log
 finishes all span cuts ops workers calls b log k closed is = record {

@@ -9,6 +9,6 @@ pub mod Limits
 pub mod Stops
 pub mod Refusals
 pub mod Costs
-pub mod Told
+pub mod Observed
 pub mod Seats
 pub mod Tables

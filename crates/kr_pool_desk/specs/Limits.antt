@@ -26,7 +26,7 @@ begins (Look seat) = false
 abbrev pub may_begin : Option ℕ → ℕ → Event → Bool
 may_begin limit d event = not (begins event && is_past limit d)
 
--- the same of each event, where so many rows were drained before the first
+-- each event may, where so many rows were drained before the first
 abbrev pub begins_within : Option ℕ → ℕ → List Event → Bool
 begins_within limit d [] = true
 begins_within limit d (event ∷ events) = may_begin limit d event && begins_within limit (d + drains event) events

@@ -24,7 +24,7 @@ abbrev pub are_shared : ℕ → List Event → Bool
 are_shared workers [] = true
 are_shared workers (event ∷ events) = is_shared workers event && are_shared workers events
 
--- the log is the one at the start, and behind it as many events as were counted as calls; all are such
+-- the log is the one at the start, followed by as many events as were counted as calls; all are such
 pub record IsGrown (opening : List Event) (workers calls : ℕ) (log : List Event) : Type 0 where
   pub more : List Event
   pub logged : log ≡ opening ++ more

@@ -6,7 +6,7 @@ use Rattle.kr_core.specs.declared.event.Event.TheVariants.{StopAt}
 use Rattle.kr_board.specs.Closing.{first_mark}
 use Rattle.kr_board.specs.Held.{Held}
 
--- the board's own, and a stop at its first segment's mark behind it
+-- the board's own, followed by a stop at its first segment's mark
 pub record IsStopped {R : Type 0} (b : Held R) (log : List Event) : Type 0 where
   pub mark : List ℕ
   pub mark_is : At mark ≡ first_mark b.core

@@ -16,7 +16,7 @@ abbrev pub is_last : List Event → Bool
 is_last [] = true
 is_last (event ∷ events) = false
 
--- a stop, behind which nothing comes
+-- a stop, after which nothing comes
 abbrev pub is_last_stop : Event → List Event → Bool
 is_last_stop (Take seat n) events = false
 is_last_stop (Steal seat victim cut n) events = false

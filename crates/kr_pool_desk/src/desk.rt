@@ -28,7 +28,7 @@ ghost use Rattle.kr_pool_desk.specs.Limits.{IsWanted, KeepsWindow, begins_within
 ghost use Rattle.kr_pool_desk.specs.Draining.{last_rows, rows_kept};
 ghost use Rattle.kr_pool_desk.specs.Laying.{LaysOut};
 ghost use Rattle.kr_pool_desk.specs.Seats.{calls_of};
-ghost use Rattle.kr_pool_desk.specs.Told.{IsTold};
+ghost use Rattle.kr_pool_desk.specs.Observed.{ObservesFinished};
 
 use crate::crew::Run;
 use crate::seat::Seat;
@@ -129,6 +129,13 @@ impl<R: Drop, N: Run<R>, D: Ledger> Desk<R, N, D> {
         board
     }
 
+    /// The board is the run's. It takes no time.
+    pub fn run_law(&self)
+        ensures { IsRun N.all N.span N.cuts N.opening N.workers self.now.0 self.now.1 }
+    {
+        let _ = &self.board;
+    }
+
     /// Whether nothing is left to do.
     pub fn is_finished(&self) -> bool
         ensures { result ≡ all_closed self.now.0.core }
@@ -158,7 +165,7 @@ impl<R: Drop, N: Run<R>, D: Ledger> Desk<R, N, D> {
         ensures kept { IfOk result (λ r. rows_kept self.new.0 + length r.0 ≤ rows_kept self.old.0) }
         ensures counted { IfOk result (λ r. tap.new.amount ≡ tap.old.amount + length r.0) }
         ensures finished { IfOk result (λ r. r.1 ≡ all_closed self.new.0.core) }
-        ensures told { IfOk result (λ r. IsTold N.all N.span N.cuts N.opening N.workers tap.new.amount r.1) }
+        ensures observed { IfOk result (λ r. ObservesFinished N.all N.span N.cuts N.opening N.workers tap.new.amount r.1) }
         ensures last { IfOk result (λ r. r.1 ≡ true → tap.new.amount ≡ length (rows_of (listed_in N.all N.span))) }
         ensures unchanged { OnErr result (self.new.0 ≡ self.old.0) }
         ensures uncounted { OnErr result (tap.new.amount ≡ tap.old.amount) }
@@ -196,6 +203,7 @@ impl<R: Drop, N: Run<R>, D: Ledger> Desk<R, N, D> {
         ensures counted { OnOk result (calls.new.amount ≡ calls.old.amount + 1) }
         ensures uncounted { OnErr result (calls.new.amount ≡ calls.old.amount) }
         ensures parts { calls.new.parts ≡ calls.old.parts }
+        ensures total { self.new.1 + calls.old.amount ≡ self.old.1 + calls.new.amount }
     {
         match self.board.take(seat) {
             Err(refused) => Err(refused),
@@ -231,6 +239,7 @@ impl<R: Drop, N: Run<R>, D: Ledger> Desk<R, N, D> {
         ensures counted { OnOk result (calls.new.amount ≡ calls.old.amount + 1) }
         ensures uncounted { OnErr result (calls.new.amount ≡ calls.old.amount) }
         ensures parts { calls.new.parts ≡ calls.old.parts }
+        ensures total { self.new.1 + calls.old.amount ≡ self.old.1 + calls.new.amount }
     {
         part_law::<R>();
         match self.board.report(lease, part) {
@@ -268,6 +277,7 @@ impl<R: Drop, N: Run<R>, D: Ledger> Desk<R, N, D> {
         ensures uncounted { IfOk result (λ rest. IfNone rest (calls.new.amount ≡ calls.old.amount)) }
         ensures refused { OnErr result (calls.new.amount ≡ calls.old.amount) }
         ensures parts { calls.new.parts ≡ calls.old.parts }
+        ensures total { self.new.1 + calls.old.amount ≡ self.old.1 + calls.new.amount }
     {
         match self.board.split(lease) {
             Err(refused) => Err(refused),
@@ -290,6 +300,7 @@ impl<R: Drop, N: Run<R>, D: Ledger> Desk<R, N, D> {
         ensures laid { LaysOut 1 self.old.0 lease self.new.0 result.0 result.1 }
         ensures drained { drained self.new.0.log ≡ drained self.old.0.log }
         ensures parts { calls.new.parts ≡ calls.old.parts }
+        ensures total { self.new.1 + calls.old.amount ≡ self.old.1 + calls.new.amount }
     {
         match self.split(seat, &lease, calls) {
             Err(_) => (lease, false),
@@ -321,6 +332,7 @@ impl<R: Drop, N: Run<R>, D: Ledger> Desk<R, N, D> {
         ensures laid { LaysOut 3 self.old.0 lease self.new.0 result.0 result.1 }
         ensures drained { drained self.new.0.log ≡ drained self.old.0.log }
         ensures parts { calls.new.parts ≡ calls.old.parts }
+        ensures total { self.new.1 + calls.old.amount ≡ self.old.1 + calls.new.amount }
     {
         if !self.is_rest_wanted(&lease) {
             return (lease, false);
@@ -350,6 +362,7 @@ impl<R: Drop, N: Run<R>, D: Ledger> Desk<R, N, D> {
         ensures kept { self.new.0.kept ≡ self.old.0.kept }
         ensures drained { drained self.new.0.log ≡ drained self.old.0.log }
         ensures parts { calls.new.parts ≡ calls.old.parts }
+        ensures total { self.new.1 + calls.old.amount ≡ self.old.1 + calls.new.amount }
     {
         match self.board.give_up(lease) {
             GivenUp::Gone => GivenUp::Gone,

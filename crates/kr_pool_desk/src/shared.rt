@@ -13,7 +13,7 @@ ghost use Rattle.kr_pool_desk.specs.Leasing.{IsLeaseOf, Reports};
 ghost use Rattle.kr_pool_desk.specs.Short.{AreShortEvents, IsShortBound, IsShortRun};
 ghost use Rattle.kr_pool_desk.specs.Limits.{KeepsWindow, begins_within};
 ghost use Rattle.kr_pool_desk.specs.Seats.{calls_of, numbers_below, numbers_of};
-ghost use Rattle.kr_pool_desk.specs.Told.{IsTold};
+ghost use Rattle.kr_pool_desk.specs.Observed.{ObservesReport, ObservesLease, ObservesFinished};
 
 use crate::crew::Run;
 use crate::desk::Desk;
@@ -118,7 +118,7 @@ impl<R: Drop, N: Run<R>, D: Ledger> Shared<R, N, D> {
         requires some { 0 < tap.old.parts }
         ensures rows { IfOk result (λ r. r.0 ≡ take (length r.0) (drop tap.old.amount (rows_of (listed_in N.all N.span)))) }
         ensures counted { IfOk result (λ r. tap.new.amount ≡ tap.old.amount + length r.0) }
-        ensures told { IfOk result (λ r. IsTold N.all N.span N.cuts N.opening N.workers tap.new.amount r.1) }
+        ensures observed { IfOk result (λ r. ObservesFinished N.all N.span N.cuts N.opening N.workers tap.new.amount r.1) }
         ensures last { IfOk result (λ r. r.1 ≡ true → tap.new.amount ≡ length (rows_of (listed_in N.all N.span))) }
         ensures uncounted { OnErr result (tap.new.amount ≡ tap.old.amount) }
         ensures parts { tap.new.parts ≡ tap.old.parts }
@@ -212,6 +212,7 @@ impl<R: Drop, N: Run<R>, D: Ledger> Shared<R, N, D> {
     /// over, or the window is full.
     pub fn take<W: Wait>(&self, rt: &W, seat: &mut Seat<N>) -> Result<Option<Lease>, NoMemory>
         ensures lease { IfOk result (λ taken. IfSome taken (IsLeaseOf (IsShortRun N.all N.span N.cuts) seat.new.number)) }
+        ensures observed { IfOk result (ObservesLease N.all N.span N.cuts N.opening N.workers N.limit seat.old.number seat.old.calls.amount seat.new.calls.amount) }
         ensures number { seat.new.number ≡ seat.old.number }
     {
         let mut quiet = false;
@@ -237,6 +238,7 @@ impl<R: Drop, N: Run<R>, D: Ledger> Shared<R, N, D> {
     /// A lease for the seat, if one can be taken now.
     pub fn take_now<W: Wait>(&self, rt: &W, seat: &mut Seat<N>) -> Result<Option<Lease>, NoMemory>
         ensures lease { IfOk result (λ taken. IfSome taken (IsLeaseOf (IsShortRun N.all N.span N.cuts) seat.new.number)) }
+        ensures observed { IfOk result (ObservesLease N.all N.span N.cuts N.opening N.workers N.limit seat.old.number seat.old.calls.amount seat.new.calls.amount) }
         ensures number { seat.new.number ≡ seat.old.number }
     {
         let taken = self.table.lock(rt).take(seat);
@@ -312,6 +314,7 @@ impl<R: Drop, N: Run<R>, D: Ledger> Shared<R, N, D> {
         requires few { length part.rows ≤ 256 }
         requires short { IsShortRun N.all N.span N.cuts → IsShortBound part.reach }
         ensures lease { IfOk result (Reports (IsShortRun N.all N.span N.cuts) seat.old.number lease part) }
+        ensures observed { IfOk result (ObservesReport N.all N.span N.cuts N.opening N.workers seat.old.calls.amount seat.new.calls.amount lease part) }
         ensures back { IfErr result (λ refused. (refused.lease ≡ lease) × (refused.part ≡ part)) }
         ensures handed { handed.new ≡ handed.old + accounted (cost lease part) result }
         ensures number { seat.new.number ≡ seat.old.number }

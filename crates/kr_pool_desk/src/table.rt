@@ -1,9 +1,10 @@
 // The locked value: the desk, and the pace of its seats.
-ghost use Rattle.std.specs.Prelude.{◌≡◌, ◌≤◌, length, IfOk, IfErr, IfSome, OnErr};
+ghost use Rattle.std.specs.Prelude.{◌≡◌, ◌+◌, ◌≤◌, length, IfOk, IfErr, IfSome, IfNone, OnErr};
 ghost use Rattle.kr_board.specs.Parts.{IsPart};
 ghost use Rattle.kr_pool_desk.specs.Leasing.{IsLeaseOf, Takes, Reports};
 ghost use Rattle.kr_pool_desk.specs.Short.{IsShortBound, IsShortRun};
 ghost use Rattle.kr_pool_desk.specs.Tables.{Answers, Gives, GoesOn};
+ghost use Rattle.kr_pool_desk.specs.Observed.{ObservesReport, ObservesTake};
 
 use crate::crew::Run;
 use crate::desk::Desk;
@@ -27,7 +28,23 @@ impl<R: Drop, N: Run<R>, D: Ledger> Table<R, N, D> {
     pub fn take(&mut self, seat: &mut Seat<N>) -> Result<Option<Taken>, NoMemory>
         ensures lease { IfOk result (λ taken. IfSome taken (Takes (IsShortRun N.all N.span N.cuts) seat.old.number)) }
         ensures answer { IfOk result (Gives N.limit seat.old.number self.old.desk.0 self.new.desk.0) }
+        ensures observed { IfOk result (ObservesTake N.all N.span N.cuts N.opening N.workers N.limit seat.old.number seat.old.calls.amount seat.new.calls.amount) }
+        ensures idle { IfOk result (λ taken. IfNone taken (seat.new.calls.amount ≡ seat.old.calls.amount)) }
         ensures unchanged { OnErr result (self.new.desk.0 ≡ self.old.desk.0) }
+        ensures number { seat.new.number ≡ seat.old.number }
+    {
+        self.desk.run_law();
+        let taken = self.give(seat);
+        self.desk.run_law();
+        taken
+    }
+
+    fn give(&mut self, seat: &mut Seat<N>) -> Result<Option<Taken>, NoMemory>
+        ensures lease { IfOk result (λ taken. IfSome taken (Takes (IsShortRun N.all N.span N.cuts) seat.old.number)) }
+        ensures answer { IfOk result (Gives N.limit seat.old.number self.old.desk.0 self.new.desk.0) }
+        ensures idle { IfOk result (λ taken. IfNone taken (seat.new.calls.amount ≡ seat.old.calls.amount)) }
+        ensures unchanged { OnErr result (self.new.desk.0 ≡ self.old.desk.0) }
+        ensures total { self.new.desk.1 + seat.old.calls.amount ≡ self.old.desk.1 + seat.new.calls.amount }
         ensures number { seat.new.number ≡ seat.old.number }
     {
         if self.desk.is_past() {
@@ -71,6 +88,30 @@ impl<R: Drop, N: Run<R>, D: Ledger> Table<R, N, D> {
         requires short { IsShortRun N.all N.span N.cuts → IsShortBound part.reach }
         ensures lease { IfOk result (Reports (IsShortRun N.all N.span N.cuts) seat.old.number lease part) }
         ensures answer { IfOk result (Answers self.old.desk.0 lease part self.new.desk.0) }
+        ensures observed { IfOk result (ObservesReport N.all N.span N.cuts N.opening N.workers seat.old.calls.amount seat.new.calls.amount lease part) }
+        ensures unchanged { OnErr result (self.new.desk.0 ≡ self.old.desk.0) }
+        ensures back { IfErr result (λ refused. (refused.lease ≡ lease) × (refused.part ≡ part)) }
+        ensures number { seat.new.number ≡ seat.old.number }
+    {
+        self.desk.run_law();
+        let reported = self.answer(lease, part, seat);
+        self.desk.run_law();
+        reported
+    }
+
+    fn answer(
+        &mut self,
+        lease: Lease,
+        part: Part<R>,
+        seat: &mut Seat<N>,
+    ) -> Result<Reported<R>, Refused<R>>
+        requires lease { lease.seat ≡ seat.old.number }
+        requires honest { IsPart N.all lease.mark part }
+        requires few { length part.rows ≤ 256 }
+        requires short { IsShortRun N.all N.span N.cuts → IsShortBound part.reach }
+        ensures lease { IfOk result (Reports (IsShortRun N.all N.span N.cuts) seat.old.number lease part) }
+        ensures answer { IfOk result (Answers self.old.desk.0 lease part self.new.desk.0) }
+        ensures total { self.new.desk.1 + seat.old.calls.amount ≡ self.old.desk.1 + seat.new.calls.amount }
         ensures unchanged { OnErr result (self.new.desk.0 ≡ self.old.desk.0) }
         ensures back { IfErr result (λ refused. (refused.lease ≡ lease) × (refused.part ≡ part)) }
         ensures number { seat.new.number ≡ seat.old.number }
@@ -95,6 +136,7 @@ impl<R: Drop, N: Run<R>, D: Ledger> Table<R, N, D> {
         requires lease { IsLeaseOf (IsShortRun N.all N.span N.cuts) seat.old.number lease }
         ensures lease { (next : _) → result ≡ Reported.Go next → IsLeaseOf (IsShortRun N.all N.span N.cuts) seat.old.number next }
         ensures answer { GoesOn self.old.desk.0 lease self.new.desk.0 result }
+        ensures total { self.new.desk.1 + seat.old.calls.amount ≡ self.old.desk.1 + seat.new.calls.amount }
         ensures number { seat.new.number ≡ seat.old.number }
     {
         if self.desk.is_far(&lease) {

@@ -268,9 +268,9 @@ fn is_drained_early(log: &[Event]) -> bool {
     false
 }
 
-// Whether one worker drains rows while it works.
+// Whether one worker drains rows while it works, before there are many.
 fn drains<W: Threads + Wait + Sync + Abort>(rt: &W, alloc: Global) -> Result<bool, NoMemory> {
-    let survey = keys(rt, alloc, 2000, 3000)?;
+    let survey = keys(rt, alloc, 600, 2000)?;
     let taken = take_all(rt, alloc, &survey, 1, None, &OpenGate)?;
     Ok(is_drained_early(taken.log.as_slice()))
 }

@@ -4,11 +4,11 @@ ghost use Rattle.kr_core.specs.Openings.{AreInside};
 
 use crate::gates::{Unruly, gathering_of};
 use crate::listing::{Taken, after, numbered, take_all};
-use crate::surveys::{below_one, keys, looked_at};
+use crate::surveys::{Watched, below_one, keys, looked_at};
 use kr_base::{Cut, NoMemory, Span};
 use kr_core::cuts_for;
-use kr_pool::{Gate, Lead, Leading, OpenGate, Rounds, Run, Shared, Stint};
-use kr_survey::{End, ListSurvey, Rows, Survey};
+use kr_pool::{Gate, Lead, Leading, OpenGate, Rounds, Run, Shared, Stint, work_all};
+use kr_survey::{End, Rows, Survey};
 use std::alloc::Global;
 use std::marker::Brand;
 use std::process::Abort;
@@ -246,20 +246,23 @@ fn work_counted<N: Run<Cut>, D: Ledger, L: Ledger, E: Ledger, S: Survey<Row = Cu
     lead.end(stint);
 }
 
-// One round of one seat, and then a drain: whether it gives the four keys, and says that these are the last.
-fn round_of_one<N: Run<Cut> + Send + Sync, D: Ledger + Send + Sync, S: Survey<Row = Cut>, W: Wait>(
-    rt: &W,
-    survey: &S,
-    rounds: &mut Rounds<Cut, N, D>,
-) -> Result<bool, NoMemory>
+// One round in which the others' seats work, and then the caller's, and then a drain: whether it gives the four keys, and says that
+// these are the last.
+fn round_in_turns<
+    N: Run<Cut> + Send + Sync,
+    D: Ledger + Send + Sync,
+    S: Survey<Row = Cut> + Sync,
+    W: Threads + Wait + Sync,
+>(rt: &W, survey: &S, rounds: &mut Rounds<Cut, N, D>) -> Result<bool, NoMemory>
     requires survey { S.all survey.now ≡ N.all }
 {
     let Rounds {
         shared,
         lead,
-        others: _,
+        others,
     } = rounds;
     shared.lead(rt);
+    work_all(rt, shared, survey, others.as_mut_slice(), &OpenGate);
     work_counted::<N, D, Brand, Brand, S, W>(
         rt,
         survey,
@@ -276,18 +279,25 @@ fn round_of_one<N: Run<Cut> + Send + Sync, D: Ledger + Send + Sync, S: Survey<Ro
     }
 }
 
-fn start_one<N: Run<Cut> + Send + Sync, D: Ledger + Send + Sync, S: Survey<Row = Cut>, W: Wait>(
+fn start_in_turns<
+    N: Run<Cut> + Send + Sync,
+    D: Ledger + Send + Sync,
+    S: Survey<Row = Cut> + Sync,
+    W: Threads + Wait + Sync,
+>(
     rt: &W,
     alloc: Global,
     survey: &S,
     span: Span,
     cuts: &[Cut],
+    workers: u32,
     calls: Blank,
     tap: Blank,
 ) -> Result<bool, NoMemory>
     requires ledger { (calls.name ≡ N.name) × (calls.parts ≡ N.parts) }
     requires tap { (tap.name ≡ D.name) × (tap.parts ≡ D.parts) × (tap.parts ≡ 1) }
-    requires workers { (N.parts ≡ 1) × (N.workers ≡ 1) }
+    requires workers { (N.parts ≡ workers) × (N.workers ≡ workers) }
+    requires some { 0 < workers }
     requires window { N.window ≡ Some 4096 }
     requires limit { N.limit ≡ None }
     requires survey { S.all survey.now ≡ N.all }
@@ -301,32 +311,46 @@ fn start_one<N: Run<Cut> + Send + Sync, D: Ledger + Send + Sync, S: Survey<Row =
         survey,
         span,
         cuts,
-        1,
+        workers,
         Some(4096),
         None,
         calls,
         tap,
     )?;
-    round_of_one(rt, survey, &mut rounds)
+    round_in_turns(rt, survey, &mut rounds)
 }
 
-fn one_seat<W: Wait + Abort>(rt: &W, alloc: Global) -> Result<bool, NoMemory> {
-    let survey = keys(rt, alloc, 4, 9)?;
+// Whether so many seats, one after another, hand out four keys in a round, where so many scans are refused memory.
+fn in_turns<W: Threads + Wait + Sync + Abort>(
+    rt: &W,
+    alloc: Global,
+    workers: u32,
+    refused: u64,
+) -> Result<bool, NoMemory> {
+    assert!(rt; 0 < workers && workers <= 64);
+    let survey = looked_at(keys(rt, alloc, 4, 9)?, refused, 0);
     let span = below_one(alloc)?;
-    let cuts = cuts_for(alloc, &span, 1)?;
-    start_one::<Brand, Brand, ListSurvey, W>(
+    let cuts = cuts_for(alloc, &span, workers)?;
+    start_in_turns::<Brand, Brand, Watched, W>(
         rt,
         alloc,
         &survey,
         span,
         cuts.as_slice(),
-        Blank::new(1),
+        workers,
+        Blank::new(u64::from(workers)),
         Blank::new(1),
     )
 }
 
 #[test]
 fn one_round(rt: HostRuntime) -> Result<(), Fail> {
-    assert!(rt; one_seat(&rt, rt.alloc())?, "four rows in a round");
+    assert!(rt; in_turns(&rt, rt.alloc(), 1, 0)?, "four rows in a round");
+    Ok(())
+}
+
+#[test]
+fn a_lease_is_given_back(rt: HostRuntime) -> Result<(), Fail> {
+    assert!(rt; in_turns(&rt, rt.alloc(), 2, 1)?, "the caller scans all");
     Ok(())
 }

@@ -41,7 +41,7 @@ pub scanned_runs : {R E : Type 0} (lease : Lease) (before now : ℕ) (r : Result
 scanned_runs lease before now (Ok part) h = omega (arith, h)
 scanned_runs lease before now (Err e) h = tt
 
--- a scan comes to a key, or to the end of its span
+-- a scan reaches a key, or the end of its span
 
 short-within : {R : Type 0} (a b : Bound) (es : List (Entry R)) → AreShortKeys es → AreShortKeys (within a b es)
 short-within a b [] h = tt

@@ -1,16 +1,18 @@
 // A worker's seat, the part that a full board gave back, and the lease under which it goes on.
-ghost use Rattle.std.specs.Prelude.{◌≡◌, ◌+◌, ◌<◌, ◌≤◌, true, length, vec_len, vec_capacity, IfOk, map, reverse};
+ghost use Rattle.std.specs.Prelude.{◌≡◌, ◌+◌, ◌<◌, ◌≤◌, true, length, vec_len, vec_capacity, IfOk, None, is_some, map, reverse};
 ghost use Rattle.kr_base.specs.Bounds.{less};
 ghost use Rattle.kr_base.specs.declared.span.Bound.TheVariants.{At};
 ghost use Rattle.kr_board.specs.Parts.{IsPart};
 ghost use Rattle.kr_pool_desk.specs.Short.{IsShortBound, IsShortRun};
 
+use crate::stint::Stint;
 use kr_base::NoMemory;
 use kr_board::Lease;
 use kr_pool_desk::{Crew, Run, Seat};
 use kr_survey::Part;
 use std::alloc::Global;
 use std::marker::{Model, PhantomData};
+use std::sync::ledger::{Blank, Ledger};
 
 /// A part of the run's entries that a full board didn't take in, with its lease. Contracts see both.
 #[derive(Drop)]
@@ -128,12 +130,13 @@ impl<R, N: Run<R>> Open<R, N> {
     }
 }
 
-/// A worker's seat, what it kept, and the lease under which it goes on, if it has one between two parts.
+/// A worker's seat, what it kept, and the lease under which it goes on, if it has one between two parts. Only this crate marks a
+/// seat, and no body here has two hands; what is kept goes into the next stint.
 #[derive(Drop)]
 pub struct Hand<R, N: Run<R>> {
-    pub seat: Seat<N>,
-    pub kept: Option<Kept<R, N>>,
-    pub open: Option<Open<R, N>>,
+    pub(crate) seat: Seat<N>,
+    kept: Option<Kept<R, N>>,
+    pub(crate) open: Option<Open<R, N>>,
 }
 
 impl<R, N: Run<R>> Hand<R, N> {
@@ -146,6 +149,50 @@ impl<R, N: Run<R>> Hand<R, N> {
             kept: None,
             open: None,
         }
+    }
+
+    /// Whether the seat keeps a refusal of memory.
+    pub fn gave_up(&self) -> bool
+        ensures { result ≡ is_some self.now.seat.refused }
+    {
+        self.seat.gave_up()
+    }
+}
+
+impl<R: Drop, N: Run<R>> Hand<R, N> {
+    /// A stint of the seat's worker, which goes on with the part that it kept.
+    pub(crate) fn begin<L: Ledger, E: Ledger>(
+        &mut self,
+        runs: Blank,
+        handed: Blank,
+    ) -> Stint<R, N, L, E>
+        requires runs { (runs.name ≡ L.name) × (runs.parts ≡ L.parts) × (0 < L.parts) }
+        requires handed { (handed.name ≡ E.name) × (handed.parts ≡ E.parts) × (0 < E.parts) }
+        ensures kept { result.kept ≡ self.old.kept }
+        ensures none { self.new.kept ≡ None }
+        ensures seat { self.new.seat ≡ self.old.seat }
+    {
+        Stint::begin(self.kept.take(), runs, handed)
+    }
+
+    /// The stint ends, and the part that it keeps is kept for the next one.
+    pub(crate) fn end<L: Ledger, E: Ledger>(&mut self, stint: Stint<R, N, L, E>)
+        ensures kept { self.new.kept ≡ stint.kept }
+        ensures seat { self.new.seat ≡ self.old.seat }
+    {
+        self.kept = stint.into_kept();
+    }
+
+    /// The seat. A part that it kept is dropped.
+    pub(crate) fn into_seat(self) -> Seat<N>
+        ensures { result ≡ self.seat }
+    {
+        let Hand {
+            seat,
+            kept: _,
+            open: _,
+        } = self;
+        seat
     }
 }
 
@@ -180,7 +227,7 @@ pub fn seats_of<R: Drop, N: Run<R>>(
     let mut hands = hands;
     add_seat(&mut seats, first);
     while let Some(hand) = hands.pop() {
-        add_seat(&mut seats, hand.seat);
+        add_seat(&mut seats, hand.into_seat());
     }
     seats
 }

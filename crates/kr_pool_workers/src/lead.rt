@@ -2,7 +2,7 @@
 ghost use Rattle.std.specs.Prelude.{◌≡◌, ◌+◌, ◌<◌, true, length, take, drop, IfOk, IfSome, OnErr, is_some};
 ghost use Rattle.kr_survey.specs.Scans.{rows_of};
 ghost use Rattle.kr_survey.specs.Listings.{listed_in};
-ghost use Rattle.kr_pool_desk.specs.Told.{IsTold};
+ghost use Rattle.kr_pool_desk.specs.Observed.{ObservesFinished};
 
 use crate::hand::Hand;
 use crate::leading::{Leading, scratch_for};
@@ -49,7 +49,7 @@ impl<R: Drop, N: Run<R>, D: Ledger> Lead<R, N, D> {
     pub fn gave_up(&self) -> bool
         ensures { result ≡ self.now.1 }
     {
-        self.hand.seat.gave_up()
+        self.hand.gave_up()
     }
 
     /// A scratch for the caller's worker, which gives up where there is no memory for one.
@@ -66,14 +66,14 @@ impl<R: Drop, N: Run<R>, D: Ledger> Lead<R, N, D> {
         requires handed { (handed.name ≡ E.name) × (handed.parts ≡ E.parts) × (0 < E.parts) }
         ensures same { self.new.0 ≡ self.old.0 }
     {
-        Stint::begin(self.hand.kept.take(), runs, handed)
+        self.hand.begin(runs, handed)
     }
 
     /// The stint ends, and the part that it keeps is kept for the next one.
     pub fn end<L: Ledger, E: Ledger>(&mut self, stint: Stint<R, N, L, E>)
         ensures same { self.new.0 ≡ self.old.0 }
     {
-        self.hand.kept = stint.into_kept();
+        self.hand.end(stint);
     }
 
     /// The caller's seat works for a part. Whether it did anything.
@@ -103,7 +103,7 @@ impl<R: Drop, N: Run<R>, D: Ledger> Lead<R, N, D> {
     ) -> Result<(Rows<R>, bool), NoMemory>
         ensures rows { IfOk result (λ r. r.0 ≡ take (length r.0) (drop self.old.0 (rows_of (listed_in N.all N.span)))) }
         ensures given { IfOk result (λ r. self.new.0 ≡ self.old.0 + length r.0) }
-        ensures told { IfOk result (λ r. IsTold N.all N.span N.cuts N.opening N.workers self.new.0 r.1) }
+        ensures observed { IfOk result (λ r. ObservesFinished N.all N.span N.cuts N.opening N.workers self.new.0 r.1) }
         ensures last { IfOk result (λ r. r.1 ≡ true → self.new.0 ≡ length (rows_of (listed_in N.all N.span))) }
         ensures refused { OnErr result (self.new.0 ≡ self.old.0) }
     {
@@ -116,11 +116,6 @@ impl<R: Drop, N: Run<R>, D: Ledger> Lead<R, N, D> {
         ensures parts { result.1.parts ≡ D.parts }
     {
         let Lead { hand, tap } = self;
-        let Hand {
-            seat,
-            kept: _,
-            open: _,
-        } = hand;
-        (seat, tap)
+        (hand.into_seat(), tap)
     }
 }

@@ -149,7 +149,7 @@ impl Leading {
         let Some(scratch) = scratch else {
             return false;
         };
-        if hand.seat.gave_up() {
+        if hand.gave_up() {
             return false;
         }
         match self.next_turn(rt, shared, survey, scratch, hand, stint, gate) {

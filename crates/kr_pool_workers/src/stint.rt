@@ -29,9 +29,10 @@ pub struct Stint<R, N: Run<R>, L: Ledger, E: Ledger> {
 
 impl<R: Drop, N: Run<R>, L: Ledger, E: Ledger> Stint<R, N, L, E> {
     /// Begins with the part that was kept before, if there is one.
-    pub fn begin(kept: Option<Kept<R, N>>, runs: Blank, handed: Blank) -> Self
+    pub(crate) fn begin(kept: Option<Kept<R, N>>, runs: Blank, handed: Blank) -> Self
         requires runs { (runs.name ≡ L.name) × (runs.parts ≡ L.parts) × (0 < L.parts) }
         requires handed { (handed.name ≡ E.name) × (handed.parts ≡ E.parts) × (0 < E.parts) }
+        ensures { result.kept ≡ kept }
     {
         Stint {
             kept,
@@ -42,7 +43,9 @@ impl<R: Drop, N: Run<R>, L: Ledger, E: Ledger> Stint<R, N, L, E> {
     }
 
     /// The part that is kept at the end.
-    pub fn into_kept(self) -> Option<Kept<R, N>> {
+    pub(crate) fn into_kept(self) -> Option<Kept<R, N>>
+        ensures { result ≡ self.kept }
+    {
         let Stint {
             kept,
             runs: _,

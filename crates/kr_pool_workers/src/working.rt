@@ -207,9 +207,9 @@ fn work_counted<
     requires survey { S.all survey.now ≡ N.all }
     ensures number { hand.new.seat.number ≡ hand.old.seat.number }
 {
-    let mut stint = Stint::<R, N, L, E>::begin(hand.kept.take(), runs, handed);
+    let mut stint = hand.begin::<L, E>(runs, handed);
     let course = work_on(rt, shared, survey, &mut hand.seat, &mut stint, gate);
-    hand.kept = stint.into_kept();
+    hand.end(stint);
     course
 }
 
@@ -228,7 +228,7 @@ pub fn work_at<R: Drop, N: Run<R>, D: Ledger, S: Survey<Row = R>, G: Gate, W: Wa
     ensures marked { is_some hand.old.seat.refused ≡ true → hand.new ≡ hand.old }
 {
     shared.enter(rt);
-    if !hand.seat.gave_up() {
+    if !hand.gave_up() {
         match work_counted::<R, N, D, Brand, Brand, S, G, W>(
             rt,
             shared,

@@ -57,6 +57,7 @@ shaped : (b : Bool) (s : Scope) (t : Tree) → Shaped b t → IsSeen s t
 shaped true s trees.Nil h = nothing s trees.Nil refl refl (λ a. a)
 shaped true s (trees.Cons a b) h = both s (trees.Cons a b) a b (shaped false s a h.0) (shaped true (after s a) b h.1) refl (ap (λ (r : Scope). code (running s) a ++ code r b) (running_same s a).scope) (λ a. a)
 shaped false s (trees.Number p n) h = none s (trees.Number p n) refl refl
+shaped false s (trees.LongNumber p n) h = none s (trees.LongNumber p n) refl refl
 shaped false s (trees.Truth p b) h = none s (trees.Truth p b) refl refl
 shaped false s (trees.Null p) h = none s (trees.Null p) refl refl
 shaped false s (trees.This p) h = none s (trees.This p) refl refl

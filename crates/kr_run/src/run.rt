@@ -187,6 +187,7 @@ fn alter(
             let operation = BinaryOperation {
                 operator: step_operator(step.operator),
                 width: step.width,
+                assigned: None,
             };
             *task = Task::Act(Action::Binary(operation, old, Value::Int(1)));
             Ok(())

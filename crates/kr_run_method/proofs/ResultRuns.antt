@@ -2,6 +2,7 @@
 use Rattle.std.proofs.Common.{◌≡◌, ℕ, zero, suc, Bool, true, false, List, ◌∷◌, Option, Some, None, refl, sym, ap, ◌∙◌}
 use Rattle.std.specs.Prelude.{◌||◌, option_and_then, if◌then◌else◌}
 use Rattle.kr_base.specs.declared.place.Place.{Place}
+use Rattle.kr_ast.specs.declared.node.UnaryOperator.{UnaryOperator}
 use Rattle.kr_ast.specs.declared.node.BinaryOperator.{BinaryOperator}
 use Rattle.kr_ast.specs.Tree as trees
 use Rattle.kr_ast.specs.Tree.{Tree}
@@ -13,13 +14,15 @@ use Rattle.kr_types_meaning.specs.Typing.{type_of}
 use Rattle.kr_mean.specs.Program.{Program}
 use Rattle.kr_mean.specs.Steps.{State, Run, say, give, ◌>>=◌, ◌>>◌, tick, get_this, load_field, element, class_or_null, store, store_element}
 use Rattle.kr_classes_table.specs.Numbers.{Width}
-use Rattle.kr_mean.specs.Operators.{operated_alone, binary_operation, unary_operation, step_operation}
-use Rattle.kr_mean.specs.Meaning.{Parts, Target, LocalTarget, OwnField, FieldOf, ElementOf, NoTarget, Change, choose, values_of, read_name, access, field_of_type, typed_field, method_of_type, typed_method, run_method, own_call, called, method_call, super_method, create, create_array, name_target, field_target, element_target, target_of, assigned, changed, compound, stepped, binary, cast, is_primitive, instance, width_at, width_of, value_of, parts_within, eval, value}
+use Rattle.kr_classes_table.specs.Operators.{operator_width}
+use Rattle.kr_mean.specs.declared.operations.BinaryOperation.{BinaryOperation}
+use Rattle.kr_mean.specs.Operators.{operated_alone, compound_operation, unary_operation, step_operation}
+use Rattle.kr_mean.specs.Meaning.{Parts, Target, LocalTarget, OwnField, FieldOf, ElementOf, NoTarget, Change, choose, values_of, read_name, access, field_of_type, typed_field, method_of_type, typed_method, run_method, own_call, called, method_call, super_method, create, create_array, name_target, field_target, element_target, target_of, assigned, changed, compound, stepped, binary, cast, is_primitive, instance, type_width, width_at, width_of, operand_width, primitive_cast, value_of, parts_within, eval, value}
 use Rattle.kr_laws_types.specs.Shapes.{Expression, Expressions, IsCode}
 use Rattle.kr_laws_types.proofs.Expressions.{after_expression}
 use Rattle.kr_run_method.specs.Results.{has_result, without_result}
 use Rattle.kr_run_method.proofs.Scopes.{class_same}
-use Rattle.kr_run_method.proofs.Typing.{neither, type_same}
+use Rattle.kr_run_method.proofs.Typing.{neither, type_same, operand_typed}
 
 -- one run and then another, and what is done with what both give
 abbrev both_then : {A B C : Type 0} → (A → B → Run C) → Run A → Run B → Run C
@@ -76,6 +79,16 @@ module _ (arrays : List JavaType) (olds : Place → Option JavaType) (program : 
 
   typed_same : (s u : Scope) (e : Tree) → IsFree u e → type_of (without_result s) e ≡ type_of s e
   typed_same s u e h = type_same arrays olds s u e h.0 h.1
+
+  -- so are the widths of numbers
+  width_same : (s u : Scope) (e : Tree) → IsFree u e → width_at (without_result s) e ≡ width_at s e
+  width_same s u e h = ap type_width (typed_same s u e h)
+
+  widths_same : (s u : Scope) (o : BinaryOperator) (a b : Tree) → IsFree u a → IsFree u b → width_of (without_result s) o a b ≡ width_of s o a b
+  widths_same s u o a b h k = ap (λ (w : Width). operator_width o w (width_at (without_result s) b)) (width_same s u a h) ∙ ap (λ (w : Width). operator_width o (width_at s a) w) (width_same s u b k)
+
+  operand_wide : (s u : Scope) (o : UnaryOperator) (e : Tree) → IsFree u e → operand_width (without_result s) o e ≡ operand_width s o e
+  operand_wide s u o e h = ap type_width (operand_typed arrays olds s u o e h.0 h.1)
 
   target_same : (s u : Scope) (t : Tree) → IsFree u t → target_of (without_result s) t ≡ target_of s t
   target_same s u (trees.Variable p n) h = refl
@@ -141,6 +154,7 @@ module _ (arrays : List JavaType) (olds : Place → Option JavaType) (program : 
     value_same : (s u : Scope) (e : Tree) → IsCode arrays olds (Expression false) u e → has_result e ≡ false → value_of program parts (without_result s) e ≡ value_of program parts s e
     value_same s u trees.Nil h f = refl
     value_same s u (trees.Number p n) h f = refl
+    value_same s u (trees.LongNumber p n) h f = refl
     value_same s u (trees.Truth p b) h f = refl
     value_same s u (trees.Null p) h f = refl
     value_same s u (trees.This p) h f = refl
@@ -154,20 +168,28 @@ module _ (arrays : List JavaType) (olds : Place → Option JavaType) (program : 
     value_same s u (trees.SuperCall p n es) h f = ap (λ (z : Run (List Value)). get_this >>= (λ o. z >>= (λ vs. run_method program parts o vs (super_method s n)))) (values_same s u es h f)
     value_same s u (trees.ObjectCreation p t es) h f = ap (λ (z : Run (List Value)). z >>= (λ vs. create program parts (written s t) vs)) (values_same s u es h.1 f)
     value_same s u (trees.ArrayCreation p t e) h f = ap (λ (z : Run Value). z >>= (λ n. create_array program (written s t) n)) (same s u e (h.2, f))
-    value_same s u (trees.Unary p o e) h f = ap (λ (z : Run Value). z >>= (λ v. say (operated_alone (unary_operation (width_at s e) o) v))) (same s u e (h, f))
-    value_same s u (trees.Step p o e) h f = let c = step_operation (width_at s e) o in changed_to s u e (stepped c) (stepped c) (h, f) refl
-    value_same s u (trees.Binary p o a b) h f = let k = two_free u a b h.0 h.1 f in binary_same (width_of s o a b) o (same s u a k.0) (same s u b k.1)
+    value_same s u (trees.Unary p o e) h f =
+        ap (λ (w : Width). parts.value (without_result s) e >>= (λ v. say (operated_alone (unary_operation w o) v))) (operand_wide s u o e (h, f))
+        ∙ ap (λ (z : Run Value). z >>= (λ v. say (operated_alone (unary_operation (operand_width s o e) o) v))) (same s u e (h, f))
+    value_same s u (trees.Step p o e) h f =
+        changed_to s u e (stepped (step_operation (width_at (without_result s) e) o)) (stepped (step_operation (width_at s e) o)) (h, f) (ap (λ (w : Width). stepped (step_operation w o)) (width_same s u e (h, f)))
+    value_same s u (trees.Binary p o a b) h f =
+        let k = two_free u a b h.0 h.1 f in
+        ap (λ (w : Width). binary w o (parts.value (without_result s) a) (parts.value (without_result s) b)) (widths_same s u o a b k.0 k.1) ∙ binary_same (width_of s o a b) o (same s u a k.0) (same s u b k.1)
     value_same s u (trees.InstanceOf p e t) h f = ap (λ (z : Run Value). z >>= (λ v. class_or_null v >>= (λ class. give (instance program (written s t) class)))) (same s u e (h.0, f))
     value_same s u (trees.Conditional p c a b) h f =
         let k = neither (has_result c) (has_result a || has_result b) f in
         let l = two_free u a b h.1 h.2 k.1 in
         chosen_same (same s u c (h.0, k.0)) (same s u a l.0) (same s u b l.1)
-    value_same s u (trees.Cast p t e) h f = ap (λ (z : Run Value). if is_primitive t then z else (z >>= (λ v. class_or_null v >>= (λ class. cast program (written s t) v class)))) (same s u e (h.1, f))
+    value_same s u (trees.Cast p t e) h f = ap (λ (z : Run Value). if is_primitive t then primitive_cast (written s t) z else (z >>= (λ v. class_or_null v >>= (λ class. cast program (written s t) v class)))) (same s u e (h.1, f))
     value_same s u (trees.Assignment p a e) h f = let k = two_free u a e h.0 h.1 f in assigned_to s u a e k.0 k.1
     value_same s u (trees.CompoundAssignment p o a e) h f =
         let k = two_free u a e h.1 h.2 f in
-        let c = binary_operation (width_of s o a e) o in
-        changed_to s u a (compound c (parts.value (without_result s) e)) (compound c (parts.value s e)) k.0 (ap (λ (z : Run Value). compound c z) (same s u e k.1))
+        let c = compound_operation (width_at (without_result s) a) (width_of (without_result s) o a e) o in
+        let d = compound_operation (width_at s a) (width_of s o a e) o in
+        let same_width : c ≡ d = ap (λ (w : Width). compound_operation w (width_of (without_result s) o a e) o) (width_same s u a k.0) ∙ ap (λ (w : Width). compound_operation (width_at s a) w o) (widths_same s u o a e k.0 k.1) in
+        changed_to s u a (compound c (parts.value (without_result s) e)) (compound d (parts.value s e)) k.0
+        (ap (λ (x : BinaryOperation). compound x (parts.value (without_result s) e)) same_width ∙ ap (λ (z : Run Value). compound d z) (same s u e k.1))
     value_same s u (trees.Result p) h f = absurd (cc (f))
     value_same s u (trees.Old p e) h f = refl
     value_same s u _ h f = absurd h

@@ -3,6 +3,7 @@ use Rattle.std.proofs.Common.{◌≡◌, ℕ, Bool, true, false, List, Option, S
 use Rattle.std.specs.Prelude.{◌||◌}
 use mathlib.Core.Path.{fun_ext}
 use Rattle.kr_base.specs.declared.place.Place.{Place}
+use Rattle.kr_ast.specs.declared.node.UnaryOperator.{UnaryOperator}
 use Rattle.kr_ast.specs.Tree as trees
 use Rattle.kr_ast.specs.Tree.{Tree}
 use Rattle.kr_classes_table.specs.Types.{JavaType}
@@ -85,6 +86,7 @@ module _ (arrays : List JavaType) (olds : Place → Option JavaType) where
   unfolding judged
   same (Expression m) s u trees.Nil h i f = refl
   same (Expression m) s u (trees.Number p n) h i f = refl
+  same (Expression m) s u (trees.LongNumber p n) h i f = refl
   same (Expression m) s u (trees.Truth p b) h i f = refl
   same (Expression m) s u (trees.Null p) h i f = refl
   same (Expression m) s u (trees.This p) h i f = refl
@@ -137,10 +139,15 @@ module _ (arrays : List JavaType) (olds : Place → Option JavaType) where
   pub type_same : (s u : Scope) (e : Tree) → IsCode arrays olds (Expression false) u e → has_result e ≡ false → type_in (judged (value (without_result s)) e).typed ≡ type_in (judged (value s) e).typed
   type_same s u e h f = ap (λ (x : Judged). type_in x.typed) (same (Expression false) (value s) u e h refl f)
 
+  -- the type of a unary operator's operand
+  pub operand_typed : (s u : Scope) (o : UnaryOperator) (e : Tree) → IsCode arrays olds (Expression false) u e → has_result e ≡ false → type_in (judged (operand o (without_result s)) e).typed ≡ type_in (judged (operand o s) e).typed
+  operand_typed s u o e h f = ap (λ (z : Scope). type_in (judged z e).typed) (operand_same o s) ∙ ap (λ (x : Judged). type_in x.typed) (same (Expression false) (operand o s) u e h refl f)
+
   -- and it is code there
   pub code_same : (sort : Sort) (s : Scope) (t : Tree) → IsCode arrays olds sort s t → are_expressions sort ≡ true → has_result t ≡ false → IsCode arrays olds sort (without_result s) t
   code_same (Expression m) s trees.Nil h i f = h
   code_same (Expression m) s (trees.Number p n) h i f = tt
+  code_same (Expression m) s (trees.LongNumber p n) h i f = tt
   code_same (Expression m) s (trees.Truth p b) h i f = tt
   code_same (Expression m) s (trees.Null p) h i f = tt
   code_same (Expression m) s (trees.This p) h i f = tt

@@ -5,10 +5,10 @@ ghost use Rattle.kr_mean.specs.Operators as meaning;
 ghost use Rattle.kr_run_state.specs.Worlds.{state_at, Agrees};
 
 use crate::{Halt, World};
-use kr_classes_operators::{apply, apply_alone};
+use kr_classes_operators::{apply, apply_alone, convert};
 use kr_classes_table::OperatorError;
 use kr_mean::{BinaryOperation, Kind, Stop, UnaryOperation};
-use kr_value::Value;
+use kr_value::{Value, Width};
 
 /// A zero divisor traps.
 #[inline(always)]
@@ -22,12 +22,29 @@ fn said(given: Result<Value, OperatorError>) -> Result<Value, Stop>
     }
 }
 
+/// The result, which a compound assignment converts to the width of its target.
+#[inline(always)]
+fn into(width: Option<Width>, given: Result<Value, OperatorError>) -> Result<Value, OperatorError>
+    ensures { result ≡ meaning.into width given }
+{
+    match width {
+        None => given,
+        Some(width) => match given {
+            Ok(value) => Ok(convert(width, value)),
+            Err(error) => Err(error),
+        },
+    }
+}
+
 /// The result of an operator on two operands.
 #[inline(always)]
 pub fn binary(operation: BinaryOperation, left: Value, right: Value) -> Result<Value, Stop>
     ensures { result ≡ meaning.operated operation left right }
 {
-    said(apply(operation.width, operation.operator, left, right))
+    said(into(
+        operation.assigned,
+        apply(operation.width, operation.operator, left, right),
+    ))
 }
 
 /// The result of an operator on one operand.

@@ -17,6 +17,7 @@ pub(crate) fn int_operation(operator: BinaryOperator) -> BinaryOperation {
     BinaryOperation {
         operator,
         width: Width::Bits32,
+        assigned: None,
     }
 }
 

@@ -46,6 +46,7 @@ shorter (grammar.array_type _ _ d _ _) = omega (arith, shorter d)
 shorter (grammar.primitive_type _ _) = omega arith
 shorter (grammar.reference_type d) = shorter d
 shorter (grammar.number _ _) = omega arith
+shorter (grammar.long_number _ _) = omega arith
 shorter (grammar.truth _ _) = omega arith
 shorter (grammar.falsity _ _) = omega arith
 shorter (grammar.null _ _) = omega arith

@@ -9,7 +9,7 @@ use Rattle.kr_lex.specs.declared.kind.Kind.TheVariants as kinds
 use Rattle.kr_lex.specs.ContractLines.{contract_spelling}
 use Rattle.kr_lex.specs.Spelling.{spelling}
 use Rattle.kr_lex.specs.Spells.{IsTokenHere, anywhere, within, token_behind, Reaches, here, gap, token, contract}
-use Rattle.kr_lex.specs.Words.{IsToken, name, number, fixed}
+use Rattle.kr_lex.specs.Words.{IsToken, name, number, long_number, fixed}
 use Rattle.kr_lex.specs.Cursors.{one_if}
 use Rattle.kr_shard_laws.specs.Names.{IsIdentifier}
 use Rattle.kr_laws_never_stuck.proofs.Weights as weights
@@ -36,6 +36,7 @@ name_here inside kind text rest (anywhere t) i = of_token t.token
     of_token : IsToken kind text rest → IsIdentifier text
     of_token (name e h n) = record { name = h; own = n }
     of_token (number e h n) = absurd (cc (e, i))
+    of_token (long_number e h n) = absurd (cc (e, i))
     of_token (fixed l e) = absurd (omega (arith, l, ap length (e ∙ ap spelling i)))
 name_here inside kind text rest (within b t) i = go t.one_of
   where

@@ -5,7 +5,7 @@ use Rattle.std.specs.List.{AllByRecursion, ends_with, starts_with}
 use Rattle.std.proofs.lemmas.Bool.{and_parts}
 use Rattle.std.proofs.lemmas.List.{drop-drop, take-append-drop}
 use Rattle.std.proofs.lemmas.Slice.Eq.{bytes_eq-Decides}
-use Rattle.kr_classes_table.specs.Types.{JavaType, int_type, BooleanType, ClassType, ArrayType, SetType, ListType}
+use Rattle.kr_classes_table.specs.Types.{JavaType, int_type, long_type, BooleanType, ClassType, ArrayType, SetType, ListType}
 use Rattle.kr_classes_table.specs.Table.{Heading, number_from, number_of}
 use Rattle.kr_space_meaning.specs.Names.{ArrayOf, ListOf, SetOf, Word, array_or_none, array_type, inside, is_of, of_elements, type_of, type_within, word_type}
 use Rattle.kr_shard_laws.proofs.Bytes.{without_append}
@@ -61,13 +61,14 @@ module _ (hs : List Heading) (lines : AllByRecursion (λ h. IsLine h.name) hs) w
   numbered_line text (Some c) t is e = class_line 0 hs text c lines is
 
   word_line : (text : List ℕ) (t : JavaType) → word_type hs text ≡ Some t → IsLine text
-  word_line text t e = go (bytes_eq text (codes "int")) (bytes_eq text (codes "boolean")) refl refl e
+  word_line text t e = go (bytes_eq text (codes "int")) (bytes_eq text (codes "long")) (bytes_eq text (codes "boolean")) refl refl refl e
     where
-      go : (a b : Bool) → bytes_eq text (codes "int") ≡ a → bytes_eq text (codes "boolean") ≡ b
-          → (if a then Some int_type else if b then Some BooleanType else option_map ClassType (number_of hs text)) ≡ Some t → IsLine text
-      go true b is else_is e = subst IsLine (sym ((bytes_eq-Decides text (codes "int")).0 is)) (refl, (refl, (refl, tt)))
-      go false true is else_is e = subst IsLine (sym ((bytes_eq-Decides text (codes "boolean")).0 else_is)) (refl, (refl, (refl, (refl, (refl, (refl, (refl, tt)))))))
-      go false false is else_is e = numbered_line text (number_of hs text) t refl e
+      go : (a l b : Bool) → bytes_eq text (codes "int") ≡ a → bytes_eq text (codes "long") ≡ l → bytes_eq text (codes "boolean") ≡ b
+          → (if a then Some int_type else if l then Some long_type else if b then Some BooleanType else option_map ClassType (number_of hs text)) ≡ Some t → IsLine text
+      go true l b is long_is else_is e = subst IsLine (sym ((bytes_eq-Decides text (codes "int")).0 is)) (refl, (refl, (refl, tt)))
+      go false true b is long_is else_is e = subst IsLine (sym ((bytes_eq-Decides text (codes "long")).0 long_is)) (refl, (refl, (refl, (refl, tt))))
+      go false false true is long_is else_is e = subst IsLine (sym ((bytes_eq-Decides text (codes "boolean")).0 else_is)) (refl, (refl, (refl, (refl, (refl, (refl, (refl, tt)))))))
+      go false false false is long_is else_is e = numbered_line text (number_of hs text) t refl e
 
   of_line : (collection text : List ℕ) → is_of collection text ≡ true → IsLine collection → IsLine (inside (length collection) 1 text) → IsLine text
   of_line collection text is h middle =

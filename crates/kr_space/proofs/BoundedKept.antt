@@ -18,7 +18,7 @@ use Rattle.kr_space_layout.specs.Items.{domain_of}
 use Rattle.kr_space_layout.specs.Stretches.{all_choices, stretch_of}
 use Rattle.kr_space_meaning.specs.Bounds.{Setting, lengths_of, values_of, values_with, width_for}
 use Rattle.kr_space_meaning.specs.Faults.{number_faults}
-use Rattle.kr_space_meaning.specs.Limits.{AreLengths, IsInt, IsLength, IsSmall}
+use Rattle.kr_space_meaning.specs.Limits.{AreLengths, IsLong, IsLength, IsSmall}
 use Rattle.kr_space_meaning.specs.Order.{Fault, lesser}
 use Rattle.kr_space_rules.proofs.Bounded.{bounds_kept}
 use Rattle.kr_space.specs.declared.bounded.Bounded.{Bounded}
@@ -46,11 +46,11 @@ numbers_same problem blocks entries values item old new b d n =
 pub lengths_values : (setting : Setting) (items : List FinItem) → All AreLengths items → values_with setting Bits32 items ≡ lengths_of setting items
 lengths_values setting items h = sym (lengths_are setting items (recursion_from_All AreLengths items h))
 
-small_natural : (n : ℕ) → nat_le n 64 ≡ true → nat_le n 2147483647 ≡ true
-small_natural n h = let le = leb-true n 64 h in le-leb n 2147483647 (omega (arith, le))
+small_natural : (n : ℕ) → nat_le n 64 ≡ true → nat_le n 9223372036854775807 ≡ true
+small_natural n h = let le = leb-true n 64 h in le-leb n 9223372036854775807 (omega (arith, le))
 
--- a length has 32 bits
-small_number : (z : ℤ) → IsLength z → IsInt z
+-- a length has 64 bits
+small_number : (z : ℤ) → IsLength z → IsLong z
 small_number (negsuc n) h = absurd (cc (h))
 small_number (pos n) h = small_natural n (and_parts (nat_le 0 n) (nat_le n 64) h).1
 

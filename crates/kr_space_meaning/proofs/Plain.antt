@@ -2,7 +2,7 @@
 use Rattle.std.proofs.Common.{◌≡◌, ℕ, zero, suc, ◌+◌, ◌≤◌, ℤ, pos, negsuc, Bool, List, [], ◌∷◌, ◌++◌, length, map, Option, Some, None, refl, ap, arith}
 use Rattle.std.specs.Prelude.{unwrap_or}
 use Rattle.kr_classes_table.specs.Types.{JavaType}
-use Rattle.kr_classes_table.specs.Numbers.{Width, Bits32}
+use Rattle.kr_classes_table.specs.Numbers.{Width}
 use Rattle.kr_classes_table.specs.Operators.{number}
 use Rattle.kr_value.specs.declared.value.Value.TheVariants.{Int, Bool as Truth, Null, Ref as Reference}
 use Rattle.kr_mean.specs.Problem.{Domain, Plain, Objects}
@@ -23,7 +23,7 @@ plain_both (Objects d ∷ xs) ys a b = plain_both xs ys a b
 
 plain_numbers : (w : Width) (zs : List ℤ) → ArePlain (map (λ z. Plain (number w z)) zs)
 plain_numbers w [] = tt
-plain_numbers Bits32 (z ∷ zs) = (tt, plain_numbers Bits32 zs)
+plain_numbers w (z ∷ zs) = (tt, plain_numbers w zs)
 
 plain_all : (o : Option ℕ) → ArePlain (all_of o)
 plain_all None = tt
@@ -36,7 +36,7 @@ plain_meant setting name (names.Arrays t) = plain_all (bound_number (length sett
 plain_meant setting name Unknown = tt
 
 plain_item : (setting : Setting) (w : Width) (item : FinItem) → ArePlain (item_values setting w item)
-plain_item setting Bits32 (Number z) = (tt, tt)
+plain_item setting w (Number z) = (tt, tt)
 plain_item setting w (Range from to) = plain_numbers w (integers from to)
 plain_item setting w (FinTruth b) = (tt, tt)
 plain_item setting w (Name name) = plain_meant setting name (meant setting.table.headings setting.document name)

@@ -1,9 +1,10 @@
 -- To be believed: which rules a document breaks for a program and a mode, each with the item that breaks it: all of them, in no
 -- order that matters. A domain is judged where it is given, whether a slot has it or not.
-use Rattle.std.specs.Prelude.{ℕ, ◌+◌, ◌==◌, Bool, true, false, not, ◌&&◌, ◌||◌, List, [], ◌∷◌, ◌++◌, length, flat_map, nat_lt, codes, Option, Some, None, is_none, if◌then◌else◌}
+use Rattle.std.specs.Prelude.{ℕ, ℤ, ◌+◌, ◌==◌, Bool, true, false, not, ◌&&◌, ◌||◌, List, [], ◌∷◌, ◌++◌, length, flat_map, nat_lt, codes, Option, Some, None, is_none, if◌then◌else◌}
 use Rattle.std.specs.Int.Signed.{le_z}
 use Rattle.std.specs.List.{list_any}
-use Rattle.kr_classes_table.specs.Types.{JavaType, int_type, BooleanType, ClassType, is_same, is_reference}
+use Rattle.kr_classes_table.specs.Numbers.{is_within}
+use Rattle.kr_classes_table.specs.Types.{JavaType, NumberType, BooleanType, ClassType, is_same, is_reference}
 use Rattle.kr_classes_table.specs.Table.{Table, Heading, Parameter, Method, fields_of, number_of, is_assignable}
 use Rattle.kr_mean.specs.Collections.{is_same_value}
 use Rattle.kr_mean.specs.declared.mode.Mode.{Mode}
@@ -147,10 +148,15 @@ meant_fits table t (Objects c) = is_assignable table (ClassType c) t
 meant_fits table t (Arrays a) = is_assignable table a t
 meant_fits table t Unknown = true
 
--- a range that is empty has no value that could be unfit; a name is judged also where it has no objects
+-- a number of the type's width
+abbrev pub number_fits : JavaType → ℤ → Bool
+number_fits (NumberType w) z = is_within w z
+number_fits t z = false
+
+-- a range that is empty has no value that could be unfit, and of others the ends say it; a name is judged also where it has no objects
 abbrev pub fits : Table → FinDoc → JavaType → Item → Bool
-fits table document t (Number z) = is_same t int_type
-fits table document t (Range from to) = not (le_z from to) || is_same t int_type
+fits table document t (Number z) = number_fits t z
+fits table document t (Range from to) = not (le_z from to) || (number_fits t from && number_fits t to)
 fits table document t (FinTruth b) = is_same t BooleanType
 fits table document t (Name name) = meant_fits table t (meant table.headings document name)
 

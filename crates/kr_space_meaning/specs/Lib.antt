@@ -7,4 +7,5 @@ pub mod Meaning
 pub mod Laws
 pub mod Examples
 pub mod DomainExamples
+pub mod LongExamples
 pub mod Limits

@@ -3,15 +3,15 @@ use Rattle.std.specs.Prelude.{ℤ, IsTrue, All}
 use Rattle.kr_fin.specs.declared.document.FinDoc.{FinDoc}
 use Rattle.kr_fin.specs.declared.document.Item.{Item}
 use Rattle.kr_fin.specs.declared.document.Item.TheVariants.{Number, Range, Truth, Name}
-use Rattle.kr_fin.specs.Shapes.{counts, have, ints}
+use Rattle.kr_fin.specs.Shapes.{counts, have, longs}
 
--- a number of 32 bits
-abbrev pub IsInt : ℤ → Type 0
-IsInt z = IsTrue (have ints z)
+-- a number of 64 bits
+abbrev pub IsLong : ℤ → Type 0
+IsLong z = IsTrue (have longs z)
 
 abbrev pub IsSmall : Item → Type 0
-IsSmall (Number z) = IsInt z
-IsSmall (Range from to) = IsInt from × IsInt to
+IsSmall (Number z) = IsLong z
+IsSmall (Range from to) = IsLong from × IsLong to
 IsSmall (Truth b) = Unit {0}
 IsSmall (Name name) = Unit {0}
 

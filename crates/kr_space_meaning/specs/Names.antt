@@ -2,7 +2,7 @@
 -- (version 2), and array types as they are written without spaces.
 use Rattle.std.specs.Prelude.{ℕ, zero, suc, ◌+◌, ◌-◌, ◌==◌, Bool, ◌&&◌, List, length, take, drop, find, nat_eq, bytes_eq, codes, Option, Some, None, option_map, option_and_then, if◌then◌else◌}
 use Rattle.std.specs.List.{starts_with, ends_with}
-use Rattle.kr_classes_table.specs.Types.{JavaType, int_type, BooleanType, ClassType, ArrayType, SetType, ListType, is_element}
+use Rattle.kr_classes_table.specs.Types.{JavaType, int_type, long_type, BooleanType, ClassType, ArrayType, SetType, ListType, is_element}
 use Rattle.kr_classes_table.specs.Table.{Heading, number_of}
 use Rattle.kr_fin.specs.declared.document.Count.{Count}
 use Rattle.kr_fin.specs.declared.document.FinDoc.{FinDoc}
@@ -36,10 +36,11 @@ written text =
     else if is_of (codes "LinkedList<") text then ListOf (inside 11 1 text)
     else Word text
 
--- `int`, `boolean` or a class
+-- `int`, `long`, `boolean` or a class
 abbrev pub word_type : List Heading → Text → Option JavaType
 word_type hs text =
     if bytes_eq text (codes "int") then Some int_type
+    else if bytes_eq text (codes "long") then Some long_type
     else if bytes_eq text (codes "boolean") then Some BooleanType
     else option_map ClassType (number_of hs text)
 

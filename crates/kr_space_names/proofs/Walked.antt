@@ -44,6 +44,7 @@ parted text look p (kinds.GenericType a b) = two (nodes (look a)) (nodes (look b
 parted text look p (kinds.DiamondType a) = one (nodes (look a))
 parted text look p (kinds.ArrayType a) = one (nodes (look a))
 parted text look p (kinds.Number v) = refl
+parted text look p (kinds.LongNumber v) = refl
 parted text look p (kinds.Truth v) = refl
 parted text look p kinds.Null = refl
 parted text look p kinds.This = refl

@@ -14,7 +14,7 @@ use kr_base::NoMemory;
 use kr_classes_names::{Heads, TypeForm, Types};
 use std::alloc::Global;
 
-/// The number of `int`, `boolean` or a class.
+/// The number of `int`, `long`, `boolean` or a class.
 fn word(types: &mut Types, heads: &Heads, text: &[u8]) -> Result<Option<u32>, NoMemory>
     ensures stands { IfOk result (λ found. (files : List Arena) → AreHeads files heads.now → Stands types.new found (word_type (headings_of (map root files)) text.now)) }
     ensures some { IfOk result (λ found. (t : Option JavaType) × Stands types.new found t) }
@@ -22,6 +22,8 @@ fn word(types: &mut Types, heads: &Heads, text: &[u8]) -> Result<Option<u32>, No
 {
     if text == b"int".as_slice() {
         Ok(Some(types.int()))
+    } else if text == b"long".as_slice() {
+        Ok(Some(types.long()))
     } else if text == b"boolean".as_slice() {
         Ok(Some(types.boolean()))
     } else {
@@ -32,7 +34,7 @@ fn word(types: &mut Types, heads: &Heads, text: &[u8]) -> Result<Option<u32>, No
     }
 }
 
-/// The number of the type that a text means, if it means one: `int`, `boolean`, a class, an array type, or a collection
+/// The number of the type that a text means, if it means one: `int`, `long`, `boolean`, a class, an array type, or a collection
 /// of class or array types.
 pub fn type_number(
     alloc: Global,

@@ -8,3 +8,4 @@ pub mod Numbers
 pub mod ObjectLists
 pub mod Bounded
 pub mod EntryLists
+pub mod Ends

@@ -1,10 +1,12 @@
 // Which values fit which types.
-ghost use Rattle.std.specs.Prelude.{◌≡◌, ◌<◌, IfOk};
+ghost use Rattle.std.specs.Prelude.{◌≡◌, ◌<◌, ◌&&◌, ◌||◌, not, IfOk};
+ghost use Rattle.std.specs.Int.Signed.{le_z};
+ghost use Rattle.kr_classes_table.specs.Numbers.{is_within};
 ghost use Rattle.kr_classes_table.specs.Types.{ClassType, JavaType};
 ghost use Rattle.kr_classes_table.specs.Table as table;
 ghost use Rattle.kr_classes_names.specs.Types.{Extends, IsTypeNumber, count, type_at};
 ghost use Rattle.kr_space_meaning.specs.Names.{Meant};
-ghost use Rattle.kr_space_meaning.specs.Faults.{fits, meant_fits as meant_fits_in};
+ghost use Rattle.kr_space_meaning.specs.Faults.{fits, meant_fits as meant_fits_in, number_fits};
 ghost use Rattle.kr_space_names.specs.Meanings.{IsMeaning};
 ghost use Rattle.kr_space_rules.specs.Classes.{AreClasses, table_of};
 
@@ -14,6 +16,7 @@ use kr_classes_names::{TypeForm, Types};
 use kr_fin::{FinDoc, Item};
 use kr_space_names::{Meaning, meaning_of};
 use kr_types_judging::is_assignable;
+use kr_value::Width;
 use std::alloc::Global;
 
 /// Whether objects of a class go into a type.
@@ -43,6 +46,36 @@ fn meant_fits(classes: &Classes, types: &Types, number: u32, meaning: Meaning) -
     }
 }
 
+/// Whether it is a number of the width.
+#[tactic(auto, using(crate::proofs::Ends::int_ends, crate::proofs::Ends::long_ends))]
+fn is_within(width: Width, number: i64) -> bool
+    ensures { result ≡ is_within width number }
+{
+    match width {
+        Width::Bits32 => -2_147_483_648 <= number && number <= 2_147_483_647,
+        Width::Bits64 => true,
+    }
+}
+
+/// Whether a number is one of the type.
+fn number_fits(types: &Types, class: u32, number: i64) -> bool
+    requires { class < count types.now }
+    ensures { result ≡ number_fits (type_at types.now class) number }
+{
+    match types.form(class) {
+        TypeForm::Number(width) => is_within(width, number),
+        _ => false,
+    }
+}
+
+/// Whether the range is empty, or its ends fit a type.
+fn range_fits(types: &Types, class: u32, from: i64, to: i64) -> bool
+    requires { class < count types.now }
+    ensures { result ≡ (not (le_z from to) || (number_fits (type_at types.now class) from && number_fits (type_at types.now class) to)) }
+{
+    from > to || (number_fits(types, class, from) && number_fits(types, class, to))
+}
+
 /// Whether a value of a domain fits a type.
 #[tactic(auto, unfolding(kr_classes_table::specs::Table::table_of))]
 pub(crate) fn item_fits(
@@ -59,8 +92,8 @@ pub(crate) fn item_fits(
     ensures extends { Extends types.old types.new }
 {
     match item {
-        Item::Number(_) => Ok(types.is_same(number, types.int())),
-        Item::Range(from, to) => Ok(*from > *to || types.is_same(number, types.int())),
+        Item::Number(value) => Ok(number_fits(&*types, number, *value)),
+        Item::Range(from, to) => Ok(range_fits(&*types, number, *from, *to)),
         Item::Truth(_) => Ok(types.is_same(number, types.boolean())),
         Item::Name(name) => {
             let name = name.as_str().as_bytes();

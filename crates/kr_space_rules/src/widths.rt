@@ -23,7 +23,7 @@ pub enum Keyed {
     Parameter,
 }
 
-/// The width of the numbers of a type, where there is one.
+/// The width at which the numbers of a domain are made.
 #[tactic(auto, unfolding(kr_space_meaning::specs::Bounds::width_for))]
 fn width_for(types: &Types, found: Option<u32>) -> Width
     ensures { (t : Option JavaType) → Stands types.now found t → result ≡ width_of_type t }

@@ -100,6 +100,10 @@ fn reads(rt: HostRuntime) -> Result<(), Fail> {
             "root='R'\nfuel=7\n[fields]\n'R.f'=[true, 'R', false, 'A', 'R', 5, -2147483648, 2147483647, {to=3,from=9}]",
             "R 7; R.f true R false A R 5 -2147483648 2147483647 9..3",
         ),
+        (
+            "root='R'\nfuel=7\n[fields]\n'R.f'=[2147483648, -9223372036854775808, {from=0,to=9223372036854775807}]",
+            "R 7; R.f 2147483648 -9223372036854775808 0..9223372036854775807",
+        ),
         ("version = 1\nroot='R'\nfuel=7\n[objects]\nR=1", "R 7; R 1"),
         (
             "version = 2\nroot='A'\nfuel=7\n[objects]\nX={count=2,class='N'}\nA={class='N',count=1}\n'Größe'={class='a b',count=64}\nint={class='int',count=0}",
@@ -391,34 +395,6 @@ fn out_of_limits(rt: HostRuntime) {
             (
                 "root = 'R'\nfuel = 1\n[arrays]\nX = { count = 1, lengths = [{ from = 0, to = 65 }] }",
                 "arrays.X",
-            ),
-        ]
-        .as_slice(),
-    );
-    assert_eq!(rt; wrong, None);
-}
-
-#[test]
-fn out_of_limits_in_domains(rt: HostRuntime) {
-    let wrong = wrong_of(
-        rt.alloc(),
-        "F4",
-        [
-            (
-                "root = 'R'\nfuel = 1\n[fields]\n'R.v' = [2147483648]",
-                "fields.R.v",
-            ),
-            (
-                "root = 'R'\nfuel = 1\n[fields]\n'R.v' = [-2147483649]",
-                "fields.R.v",
-            ),
-            (
-                "root = 'R'\nfuel = 1\n[params]\n'm.x' = [{ from = 0, to = 9223372036854775807 }]",
-                "params.m.x",
-            ),
-            (
-                "root = 'R'\nfuel = 1\n[params]\n'm.x' = [{ from = 2147483648, to = 0 }]",
-                "params.m.x",
             ),
         ]
         .as_slice(),

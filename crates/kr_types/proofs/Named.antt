@@ -6,7 +6,7 @@ use Rattle.kr_base.specs.declared.place.Place.{Place}
 use Rattle.kr_ast.specs.Tree as trees
 use Rattle.kr_ast.specs.Tree.{Tree}
 use Rattle.kr_ast.specs.declared.node.Primitive.{Primitive}
-use Rattle.kr_ast.specs.declared.node.Primitive.TheVariants.{Int, Boolean, Void}
+use Rattle.kr_ast.specs.declared.node.Primitive.TheVariants.{Int, Long, Boolean, Void}
 use Rattle.kr_classes_table.specs.Types.{JavaType, NumberType, BooleanType, NullType, VoidType, ClassType, ArrayType, SetType, ListType, InferredType, UnknownType, AppliedType}
 use Rattle.kr_classes_table.specs.Table.{Heading, applied, class_at, class_named, class_or, classes_from, is_number, line_of, line_within, number_of, outer_of, super_of, table_of, type_named}
 use Rattle.kr_classes_table.proofs.Tables.{long, bounded_from}
@@ -49,6 +49,7 @@ or_class (Some d) a b c e = let f : d ≡ c = cc (e) in ap (λ i. Some i) f
 
 primitive_no_class : (hs : List Heading) (p : Place) (k : Primitive) (c : ℕ) → type_named hs (trees.PrimitiveType p k) ≡ ClassType c → ⊥
 primitive_no_class hs p Int c e = cc (e)
+primitive_no_class hs p Long c e = cc (e)
 primitive_no_class hs p Boolean c e = cc (e)
 primitive_no_class hs p Void c e = cc (e)
 

@@ -21,6 +21,7 @@ IsOperation _ = ⊥
 -- there are no parts
 abbrev pub IsLeaf : Node → Type 0
 IsLeaf (nodes.Number v) = Unit {0}
+IsLeaf (nodes.LongNumber v) = Unit {0}
 IsLeaf (nodes.Truth v) = Unit {0}
 IsLeaf nodes.Null = Unit {0}
 IsLeaf nodes.Break = Unit {0}

@@ -5,8 +5,8 @@ ghost use Rattle.kr_types.specs.Kinds.{IsLeaf, IsOperation, IsWrite};
 use crate::context::Context;
 use kr_ast::Node;
 use kr_types_expressions::{
-    binary_note, cast_note, choice_note, element_note, instance_note, jump_note, null_note,
-    number_note, truth_note, unary_note,
+    binary_note, cast_note, choice_note, element_note, instance_note, jump_note, long_number_note,
+    null_note, number_note, truth_note, unary_note,
 };
 use kr_types_judging::{Note, plain};
 use kr_types_statements::{assignment_note, compound_note, step_note};
@@ -19,6 +19,13 @@ pub(crate) fn leaf_note(context: &Context<'_, '_>) -> Note
 {
     match context.spot.node {
         Node::Number { value } => number_note(
+            context.types,
+            context.site.members,
+            context.here(),
+            context.spot.place,
+            value,
+        ),
+        Node::LongNumber { value } => long_number_note(
             context.types,
             context.site.members,
             context.here(),

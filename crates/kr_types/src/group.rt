@@ -58,6 +58,7 @@ pub(crate) fn group_of(node: Node) -> Group
         | Node::DiamondType { .. }
         | Node::ArrayType { .. } => Group::Bare(Bare::Type),
         Node::Number { .. }
+        | Node::LongNumber { .. }
         | Node::Truth { .. }
         | Node::Null
         | Node::Break

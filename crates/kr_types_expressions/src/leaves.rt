@@ -1,6 +1,7 @@
 // The notes of typed nodes without parts.
 ghost use Rattle.std.specs.Prelude.{◌≡◌, ℕ, List};
 ghost use Rattle.kr_ast.specs.Arena.{Arena};
+ghost use Rattle.kr_classes_table.specs.Numbers.{Bits32, Bits64};
 ghost use Rattle.kr_classes_table.specs.Types.{BooleanType, NullType};
 ghost use Rattle.kr_types_meaning.specs.Rules as rules;
 ghost use Rattle.kr_types_meaning.specs.Noting.{leaf};
@@ -13,16 +14,32 @@ ghost use Rattle.kr_types_judging.specs.Shown.{HasNoRest, IsNoteWithin, note_sho
 use kr_base::Place;
 use kr_classes_members::Members;
 use kr_classes_names::Types;
-use kr_types_judging::{Judgement, Note, conclude, jump_rule, number_rule};
+use kr_types_judging::{Judgement, Note, conclude, jump_rule, long_number_rule, number_rule};
 use kr_types_scopes::Within;
 
 /// A number.
 pub fn number_note(types: &Types, members: &Members, here: Within, place: Place, value: u32) -> Note
     ensures within { IsNoteWithin types.now result }
     ensures no_rest { HasNoRest result.known }
-    ensures shown { (files : List Arena) (g : Setting) (bs : List Binding) (look : ℕ → rules.Typed) → AreMembers files members.now → g.table ≡ table_in files → note_shown types.now look result ≡ leaf place (rules.number_rule (scope_in g bs here) value) }
+    ensures shown { (files : List Arena) (g : Setting) (bs : List Binding) (look : ℕ → rules.Typed) → AreMembers files members.now → g.table ≡ table_in files → note_shown types.now look result ≡ leaf place (rules.number_rule (scope_in g bs here) Bits32 value) }
 {
     let verdict = number_rule(types, members, here, value);
+    conclude(place, verdict, None)
+}
+
+/// A number of a `long`.
+pub fn long_number_note(
+    types: &Types,
+    members: &Members,
+    here: Within,
+    place: Place,
+    value: u64,
+) -> Note
+    ensures within { IsNoteWithin types.now result }
+    ensures no_rest { HasNoRest result.known }
+    ensures shown { (files : List Arena) (g : Setting) (bs : List Binding) (look : ℕ → rules.Typed) → AreMembers files members.now → g.table ≡ table_in files → note_shown types.now look result ≡ leaf place (rules.number_rule (scope_in g bs here) Bits64 value) }
+{
+    let verdict = long_number_rule(types, members, here, value);
     conclude(place, verdict, None)
 }
 

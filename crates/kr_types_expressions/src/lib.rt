@@ -23,7 +23,7 @@ pub use constructors::{array_creation_note, constructor_call_note, creation_note
 pub use contracts::{contract_note, old_note};
 pub use creations::implied_rule;
 pub use elements::element_note;
-pub use leaves::{jump_note, null_note, number_note, truth_note};
+pub use leaves::{jump_note, long_number_note, null_note, number_note, truth_note};
 pub use lists::{absent_note, list_note, value_types};
 pub use names::{class_of, this_note, variable_note};
 pub use note_list::NoteList;

@@ -14,7 +14,7 @@ ghost use Rattle.kr_types_judging.specs.Shown.{IsVerdictWithin, constant_says, i
 
 use crate::known::Judgement;
 use crate::members::value_of;
-use crate::relations::{is_boolean, is_int, is_void, takes};
+use crate::relations::{is_boolean, is_number, is_void, takes};
 use crate::rules::TypingRule;
 use crate::statements::is_ensuring;
 use kr_ast::Tree;
@@ -93,15 +93,15 @@ pub fn field_initial_rule(
     )
 }
 
-/// Whether it is `int` or `boolean`.
+/// Whether it is a type of numbers or `boolean`.
 fn is_simple(types: &Types, number: TypeId) -> bool
     requires { number < count types.now }
     ensures { result ≡ rules.is_simple (type_at types.now number) }
 {
-    is_int(types, number) || is_boolean(types, number)
+    is_number(types, number) || is_boolean(types, number)
 }
 
-/// T35: its initial value is assignable; T36: a constant has a value; T37: it is `static final int` or `boolean`. Nothing
+/// T35: its initial value is assignable; T36: a constant has a value; T37: it is `static final int`, `long` or `boolean`. Nothing
 /// where rule T1 is broken of its type.
 pub fn constant_initial_rule(
     types: &Types,

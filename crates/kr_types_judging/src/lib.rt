@@ -30,8 +30,8 @@ pub use members::{
 pub use notes::{Fault, Note, conclude, earlier, plain};
 pub use objects::{object_call_rule, super_rule};
 pub use operators::{
-    cast_rule, choice_rule, diamond_rule, instance_rule, number_rule, operator_rule, type_rule,
-    unary_rule,
+    cast_rule, choice_rule, diamond_rule, instance_rule, long_number_rule, number_rule,
+    operator_rule, type_rule, unary_rule,
 };
 pub use relations::{is_assignable, is_int};
 pub use rules::TypingRule;

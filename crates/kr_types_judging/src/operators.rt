@@ -1,5 +1,6 @@
 // Rules on types, literals, `this` and operators: T1, T5 to T15, T20, T21.
 ghost use Rattle.std.specs.Prelude.{◌≡◌, ◌<◌, IfSome, option_map};
+ghost use Rattle.kr_classes_table.specs.Numbers.{Bits32, Bits64};
 ghost use Rattle.kr_types_meaning.specs.Rules as rules;
 ghost use Rattle.kr_classes_names.specs.Types.{count, type_at};
 ghost use Rattle.kr_types_judging.specs.Numbers.{rule_number};
@@ -47,7 +48,7 @@ pub fn diamond_rule(types: &Types, number: TypeId) -> Judgement
 /// T6: 2147483648 occurs only under a unary minus.
 pub fn number_rule(types: &Types, members: &Members, here: Within, value: u32) -> Judgement
     ensures within { IsVerdictWithin types.now result }
-    ensures says { Says members.now types.now here result (λ s. rules.number_rule s value) }
+    ensures says { Says members.now types.now here result (λ s. rules.number_rule s Bits32 value) }
 {
     let under_minus = match here.role {
         Role::UnderMinus => true,
@@ -57,6 +58,22 @@ pub fn number_rule(types: &Types, members: &Members, here: Within, value: u32) -
         value < 2147483648 || under_minus,
         TypingRule::NumberTooLarge,
         types.int(),
+    )
+}
+
+/// T6 of a `long`: 9223372036854775808 occurs only under a unary minus.
+pub fn long_number_rule(types: &Types, members: &Members, here: Within, value: u64) -> Judgement
+    ensures within { IsVerdictWithin types.now result }
+    ensures says { Says members.now types.now here result (λ s. rules.number_rule s Bits64 value) }
+{
+    let under_minus = match here.role {
+        Role::UnderMinus => true,
+        _ => false,
+    };
+    Judgement::value_if(
+        value < 9223372036854775808 || under_minus,
+        TypingRule::NumberTooLarge,
+        types.long(),
     )
 }
 

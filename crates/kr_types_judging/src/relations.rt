@@ -1,7 +1,8 @@
 // Which types go into which (Java Language Specification 5).
-ghost use Rattle.std.specs.Prelude.{◌≡◌, ◌<◌, ◌&&◌, not, IfSome, List, option_map, if◌then◌else◌};
+ghost use Rattle.std.specs.Prelude.{◌≡◌, ◌<◌, ◌&&◌, ◌||◌, not, IfSome, List, option_map, if◌then◌else◌};
 ghost use Rattle.kr_ast.specs.Arena.{Arena};
-ghost use Rattle.kr_classes_table.specs.Types.{ClassType, SetType, ListType, InferredType, is_collection, is_element, is_same, is_void};
+ghost use Rattle.kr_classes_table.specs.Numbers.{is_same_width};
+ghost use Rattle.kr_classes_table.specs.Types.{NumberType, ClassType, SetType, ListType, InferredType, is_collection, is_element, is_same, is_void};
 ghost use Rattle.kr_classes_table.specs.Table as table;
 ghost use Rattle.kr_types_meaning.specs.Promotion as promotion;
 ghost use Rattle.kr_types_meaning.specs.Rules as rules;
@@ -23,6 +24,7 @@ pub fn is_int(types: &Types, number: TypeId) -> bool
     match types.form(number) {
         TypeForm::Number(width) => match width {
             Width::Bits32 => true,
+            Width::Bits64 => false,
         },
         _ => false,
     }
@@ -96,6 +98,30 @@ fn list_goes_into(types: &Types, member: TypeId, to: TypeId) -> bool
     }
 }
 
+/// Whether each number of a width is of another.
+fn is_within(width: Width, other: Width) -> bool
+    ensures { result ≡ (table.widens width other || is_same_width width other) }
+{
+    match width {
+        Width::Bits32 => true,
+        Width::Bits64 => match other {
+            Width::Bits32 => false,
+            Width::Bits64 => true,
+        },
+    }
+}
+
+/// Whether a number of a width goes into a type.
+fn number_goes_into(types: &Types, width: Width, to: TypeId) -> bool
+    requires { to < count types.now }
+    ensures { (t : table.Table) → result ≡ table.is_assignable t (NumberType width) (type_at types.now to) }
+{
+    match types.form(to) {
+        TypeForm::Number(other) => is_within(width, other),
+        _ => false,
+    }
+}
+
 /// Whether a value of a type may be assigned to a variable of another.
 pub fn is_assignable(types: &Types, members: &Members, from: TypeId, to: TypeId) -> bool
     requires from { from < count types.now }
@@ -103,6 +129,7 @@ pub fn is_assignable(types: &Types, members: &Members, from: TypeId, to: TypeId)
     ensures { (files : List Arena) → AreMembers files members.now → result ≡ table.is_assignable (table_in files) (type_at types.now from) (type_at types.now to) }
 {
     match types.form(from) {
+        TypeForm::Number(width) => number_goes_into(types, width, to),
         TypeForm::Null => types.is_reference(to),
         TypeForm::Class(class) => class_goes_into(types, members, class, to),
         TypeForm::Set(member) => set_goes_into(types, member, to),
@@ -158,8 +185,12 @@ pub(crate) fn promoted(types: &Types, a: TypeId, b: TypeId) -> Option<TypeId>
     ensures is { option_map (type_at types.now) result ≡ promotion.promoted (type_at types.now a) (type_at types.now b) }
 {
     match types.form(a) {
-        TypeForm::Number(width) => match width {
-            Width::Bits32 => promoted_alone(types, b),
+        TypeForm::Number(width) => match types.form(b) {
+            TypeForm::Number(_) => match width {
+                Width::Bits32 => Some(b),
+                Width::Bits64 => Some(a),
+            },
+            _ => None,
         },
         _ => None,
     }
@@ -183,8 +214,9 @@ pub(crate) fn are_numbers(types: &Types, a: TypeId, b: TypeId) -> bool
     ensures { result ≡ promotion.are_numbers (type_at types.now a) (type_at types.now b) }
 {
     match types.form(a) {
-        TypeForm::Number(width) => match width {
-            Width::Bits32 => is_number(types, b),
+        TypeForm::Number(_) => match types.form(b) {
+            TypeForm::Number(_) => true,
+            _ => false,
         },
         _ => false,
     }

@@ -10,7 +10,7 @@ use Rattle.kr_classes_table.specs.Nodes.{nodes}
 use Rattle.kr_classes_table.specs.Arrays.{array_types_of, array_number}
 use Rattle.kr_classes_table.specs.Rules.{C6, class_fault}
 use Rattle.kr_value.specs.declared.value.Value.TheVariants.{Int as Whole, Bool as Truth}
-use Rattle.kr_classes_table.specs.Constants.{is_constant, evaluated, values_of}
+use Rattle.kr_classes_table.specs.Constants.{is_constant, evaluated, constant_width, values_of}
 use Rattle.kr_types_meaning.specs.Scopes.{under_minus, LocalName, NoName, meant, meant_by, class_before, method_meant}
 use Rattle.kr_types_meaning.specs.Typing.{judged, type_of, type_fault, refusal, IsWellTyped}
 use Rattle.kr_types_meaning.specs.Texts.{at, list_of, class_rule_at, type_rule_at}
@@ -18,131 +18,131 @@ use Rattle.kr_types_meaning.specs.Examples.{family}
 use Rattle.kr_types_meaning.specs.Meanings.{table, scope, nested, variable, field, number, with_arrays, arrays_of_collections, every_kind, numbers_in, whole, whole_class, field_of_class_name, constant_of_class_name, method_of_outer, nested_in_second, classes_on, kept_methods, Meanings}
 
 well_typed : IsWellTyped family
-unfolding table_of is_constant evaluated values_of judged
+unfolding table_of is_constant evaluated constant_width values_of judged
 well_typed = refl
 
 nearest_first : ancestors table 3 ≡ 2 ∷ 0 ∷ []
-unfolding table_of is_constant evaluated values_of judged
+unfolding table_of is_constant evaluated constant_width values_of judged
 nearest_first = refl
 
 inherited_first : map (λ f. f.name) (fields_of table 3) ≡ codes "v" ∷ codes "w" ∷ codes "u" ∷ codes "z" ∷ []
-unfolding table_of is_constant evaluated values_of judged
+unfolding table_of is_constant evaluated constant_width values_of judged
 inherited_first = refl
 
 declared_by : map (λ f. f.class) (fields_of table 3) ≡ 0 ∷ 2 ∷ 2 ∷ 3 ∷ []
-unfolding table_of is_constant evaluated values_of judged
+unfolding table_of is_constant evaluated constant_width values_of judged
 declared_by = refl
 
 overridden : option_map (λ m. m.class) (method_named table 3 (codes "m")) ≡ Some 2
-unfolding table_of is_constant evaluated values_of judged
+unfolding table_of is_constant evaluated constant_width values_of judged
 overridden = refl
 
 inherited : option_map (λ m. m.class) (method_named table 3 (codes "t")) ≡ Some 0
-unfolding table_of is_constant evaluated values_of judged
+unfolding table_of is_constant evaluated constant_width values_of judged
 inherited = refl
 
 constructor : map (λ p. p.type) (constructor_parameters table 3) ≡ int_type ∷ []
-unfolding table_of is_constant evaluated values_of judged
+unfolding table_of is_constant evaluated constant_width values_of judged
 constructor = refl
 
 values : map (λ k. k.value) (values_of table) ≡ Whole (pos 1) ∷ Whole (pos 3) ∷ Truth true ∷ []
-unfolding table_of is_constant evaluated values_of judged
+unfolding table_of is_constant evaluated constant_width values_of judged
 values = refl
 
 older_local : meant scope (codes "x") ≡ LocalName 0 int_type
-unfolding table_of is_constant evaluated values_of judged
+unfolding table_of is_constant evaluated constant_width values_of judged
 older_local = refl
 
 newer_local : meant scope (codes "b") ≡ LocalName 1 BooleanType
-unfolding table_of is_constant evaluated values_of judged
+unfolding table_of is_constant evaluated constant_width values_of judged
 newer_local = refl
 
 inherited_field : meant scope (codes "w") ≡ meant_by [] (field_named table 2 (codes "w")) []
-unfolding table_of is_constant evaluated values_of judged
+unfolding table_of is_constant evaluated constant_width values_of judged
 inherited_field = refl
 
 outer_constant : meant nested (codes "K") ≡ meant_by [] (field_named table 0 (codes "K")) []
-unfolding table_of is_constant evaluated values_of judged
+unfolding table_of is_constant evaluated constant_width values_of judged
 outer_constant = refl
 
 outer_field : meant nested (codes "v") ≡ NoName
-unfolding table_of is_constant evaluated values_of judged
+unfolding table_of is_constant evaluated constant_width values_of judged
 outer_field = refl
 
 class_name : class_before scope (variable (codes "N")) ≡ Some 1
-unfolding table_of is_constant evaluated values_of judged
+unfolding table_of is_constant evaluated constant_width values_of judged
 class_name = refl
 
 no_class_name : class_before scope (variable (codes "x")) ≡ None
-unfolding table_of is_constant evaluated values_of judged
+unfolding table_of is_constant evaluated constant_width values_of judged
 no_class_name = refl
 
 outer_method : option_map (λ m. m.class) (method_meant nested (codes "t")) ≡ Some 0
-unfolding table_of is_constant evaluated values_of judged
+unfolding table_of is_constant evaluated constant_width values_of judged
 outer_method = refl
 
 own_method : option_map (λ m. m.class) (method_meant nested (codes "m")) ≡ Some 1
-unfolding table_of is_constant evaluated values_of judged
+unfolding table_of is_constant evaluated constant_width values_of judged
 own_method = refl
 
 of_local : type_of scope (variable (codes "x")) ≡ Some int_type
-unfolding table_of is_constant evaluated values_of judged
+unfolding table_of is_constant evaluated constant_width values_of judged
 of_local = refl
 
 of_field : type_of scope (variable (codes "w")) ≡ Some (ClassType 0)
-unfolding table_of is_constant evaluated values_of judged
+unfolding table_of is_constant evaluated constant_width values_of judged
 of_field = refl
 
 of_path : type_of scope (field (field (variable (codes "w")) (codes "w")) (codes "w")) ≡ None
-unfolding table_of is_constant evaluated values_of judged
+unfolding table_of is_constant evaluated constant_width values_of judged
 of_path = refl
 
 of_constant : type_of scope (field (variable (codes "C")) (codes "D")) ≡ Some BooleanType
-unfolding table_of is_constant evaluated values_of judged
+unfolding table_of is_constant evaluated constant_width values_of judged
 of_constant = refl
 
 of_operation : type_of scope (trees.Binary (at 0 9 9) Less (variable (codes "x")) (trees.Number (at 0 9 9) 1)) ≡ Some BooleanType
-unfolding table_of is_constant evaluated values_of judged
+unfolding table_of is_constant evaluated constant_width values_of judged
 of_operation = refl
 
 of_broken : type_of scope (trees.Binary (at 0 9 9) Add (variable (codes "x")) (variable (codes "b"))) ≡ None
-unfolding table_of is_constant evaluated values_of judged
+unfolding table_of is_constant evaluated constant_width values_of judged
 of_broken = refl
 
 of_choice : type_of scope (trees.Conditional (at 0 9 9) (variable (codes "b")) (trees.This (at 0 9 9)) (variable (codes "w"))) ≡ Some (ClassType 0)
-unfolding table_of is_constant evaluated values_of judged
+unfolding table_of is_constant evaluated constant_width values_of judged
 of_choice = refl
 
 of_null : type_of scope (trees.Null (at 0 9 9)) ≡ Some NullType
-unfolding table_of is_constant evaluated values_of judged
+unfolding table_of is_constant evaluated constant_width values_of judged
 of_null = refl
 
 down : is_assignable table (ClassType 0) (ClassType 3) ≡ false
-unfolding table_of is_constant evaluated values_of judged
+unfolding table_of is_constant evaluated constant_width values_of judged
 down = refl
 
 up : is_assignable table (ClassType 3) (ClassType 0) ≡ true
-unfolding table_of is_constant evaluated values_of judged
+unfolding table_of is_constant evaluated constant_width values_of judged
 up = refl
 
 arrays : is_assignable table (ArrayType (ClassType 3)) (ArrayType (ClassType 0)) ≡ false
-unfolding table_of is_constant evaluated values_of judged
+unfolding table_of is_constant evaluated constant_width values_of judged
 arrays = refl
 
 inferred : are_related table (SetType (ClassType 0)) (SetType InferredType) ≡ true
-unfolding table_of is_constant evaluated values_of judged
+unfolding table_of is_constant evaluated constant_width values_of judged
 inferred = refl
 
 null : is_assignable table NullType (ArrayType int_type) ≡ true
-unfolding table_of is_constant evaluated values_of judged
+unfolding table_of is_constant evaluated constant_width values_of judged
 null = refl
 
 null_to_int : is_assignable table NullType int_type ≡ false
-unfolding table_of is_constant evaluated values_of judged
+unfolding table_of is_constant evaluated constant_width values_of judged
 null_to_int = refl
 
 of_value : type_of (under_minus scope) (trees.Number (at 0 9 9) 2147483648) ≡ None
-unfolding table_of is_constant evaluated values_of judged
+unfolding table_of is_constant evaluated constant_width values_of judged
 of_value = refl
 
 numbered : array_types_of with_arrays ≡ ArrayType int_type ∷ ArrayType (ArrayType int_type) ∷ ArrayType BooleanType ∷ ArrayType (ClassType 0) ∷ ArrayType (ClassType 1) ∷ []
@@ -171,15 +171,15 @@ unfolding table_of
 class_read = refl
 
 field_first : refusal field_of_class_name ≡ None
-unfolding table_of class_fault is_constant evaluated values_of judged type_fault
+unfolding table_of class_fault is_constant evaluated constant_width values_of judged type_fault
 field_first = refl
 
 constant_first : map (λ k. k.value) (values_of (table_of constant_of_class_name)) ≡ Whole (pos 1) ∷ Whole (pos 2) ∷ []
-unfolding table_of is_constant evaluated values_of
+unfolding table_of is_constant evaluated constant_width values_of
 constant_first = refl
 
 no_outer_method : refusal method_of_outer ≡ Some (type_rule_at 24 0 2 4)
-unfolding table_of class_fault is_constant evaluated values_of judged type_fault
+unfolding table_of class_fault is_constant evaluated constant_width values_of judged type_fault
 no_outer_method = refl
 
 outer_numbers : map (λ d. d.outer) (table_of nested_in_second).classes ≡ None ∷ Some 0 ∷ None ∷ Some 2 ∷ []
@@ -187,15 +187,15 @@ unfolding table_of
 outer_numbers = refl
 
 second_outer : refusal nested_in_second ≡ None
-unfolding table_of class_fault is_constant evaluated values_of judged type_fault
+unfolding table_of class_fault is_constant evaluated constant_width values_of judged type_fault
 second_outer = refl
 
 most_classes : refusal (list_of (classes_on 1 64) ∷ []) ≡ None
-unfolding table_of class_fault is_constant evaluated values_of judged type_fault
+unfolding table_of class_fault is_constant evaluated constant_width values_of judged type_fault
 most_classes = refl
 
 too_many_classes : refusal (list_of (classes_on 1 66) ∷ []) ≡ Some (class_rule_at 8 0 65 7)
-unfolding table_of class_fault is_constant evaluated values_of judged type_fault
+unfolding table_of class_fault is_constant evaluated constant_width values_of judged type_fault
 too_many_classes = refl
 
 object_methods : map (λ f. f.place.line) (flat_map (C6 (table_of kept_methods) 0) (table_of kept_methods).classes) ≡ 1 ∷ 2 ∷ 3 ∷ 4 ∷ 5 ∷ 6 ∷ []
@@ -203,7 +203,7 @@ unfolding table_of
 object_methods = refl
 
 collection_name : refusal (list_of (trees.Class (at 0 1 7) (codes "LinkedList") Nil Nil ∷ []) ∷ []) ≡ Some (class_rule_at 1 0 1 7)
-unfolding table_of class_fault is_constant evaluated values_of judged type_fault
+unfolding table_of class_fault is_constant evaluated constant_width values_of judged type_fault
 collection_name = refl
 
 pub meanings : Meanings

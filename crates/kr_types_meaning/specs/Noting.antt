@@ -4,6 +4,7 @@ use Rattle.std.specs.Prelude.{ℕ, List, [], ◌∷◌, slice_index_or, Option, 
 use Rattle.kr_base.specs.declared.place.Place.{Place}
 use Rattle.kr_ast.specs.Tree as trees
 use Rattle.kr_ast.specs.Tree.{Tree}
+use Rattle.kr_classes_table.specs.Numbers.{Bits32, Bits64}
 use Rattle.kr_classes_table.specs.Types.{JavaType, BooleanType, NullType, InferredType}
 use Rattle.kr_classes_table.specs.Table.{applied, field_named, method_named}
 use Rattle.kr_classes_table.specs.Rules.{Fault, least, sooner}
@@ -75,7 +76,8 @@ noted s (trees.QualifiedType p o n) look = leaf p (type_rule (written s (trees.Q
 noted s (trees.GenericType p h a) look = one p (λ t. type_rule (applied (written s h) t)) (look 1)
 noted s (trees.DiamondType p h) look = leaf p (diamond_rule (applied (written s h) InferredType))
 noted s (trees.ArrayType p e) look = one p array_rule (look 0)
-noted s (trees.Number p n) look = leaf p (number_rule s n)
+noted s (trees.Number p n) look = leaf p (number_rule s Bits32 n)
+noted s (trees.LongNumber p n) look = leaf p (number_rule s Bits64 n)
 noted s (trees.Truth p b) look = leaf p (Fits (Value BooleanType))
 noted s (trees.Null p) look = leaf p (Fits (Value NullType))
 noted s (trees.This p) look = leaf p (this_rule s)

@@ -1,6 +1,6 @@
 -- To be believed: numeric promotion: the type to which operands are converted (Java Language Specification 5.6).
 use Rattle.std.specs.Prelude.{Bool, Option, Some, None, is_some}
-use Rattle.kr_classes_table.specs.Numbers.{Bits32}
+use Rattle.kr_classes_table.specs.Numbers.{wider}
 use Rattle.kr_classes_table.specs.Types.{JavaType, NumberType}
 
 -- the promoted type of one operand: of a sign, of each operand of a shift
@@ -10,7 +10,7 @@ promoted_alone t = None
 
 -- the promoted type of two operands
 abbrev pub promoted : JavaType → JavaType → Option JavaType
-promoted (NumberType Bits32) u = promoted_alone u
+promoted (NumberType v) (NumberType w) = Some (NumberType (wider v w))
 promoted t u = None
 
 -- the types of numbers

@@ -6,7 +6,8 @@ use Rattle.kr_ast.specs.declared.node.UnaryOperator.{UnaryOperator}
 use Rattle.kr_ast.specs.declared.node.UnaryOperator.TheVariants.{Not}
 use Rattle.kr_ast.specs.declared.node.BinaryOperator.{BinaryOperator}
 use Rattle.kr_ast.specs.declared.node.BinaryOperator.TheVariants.{Multiply, Divide, Remainder, Add, Subtract, ShiftLeft, ShiftRight, ShiftRightUnsigned, Less, Greater, LessOrEqual, GreaterOrEqual, Equal, NotEqual, BitAnd, BitXor, BitOr, And, Or}
-use Rattle.kr_classes_table.specs.Types.{JavaType, int_type, BooleanType, ClassType, ArrayType, SetType, ListType, AppliedType, is_same, is_void, is_collection, is_element, is_reference, is_known}
+use Rattle.kr_classes_table.specs.Numbers.{Width, half}
+use Rattle.kr_classes_table.specs.Types.{JavaType, NumberType, int_type, BooleanType, ClassType, ArrayType, SetType, ListType, AppliedType, is_same, is_void, is_collection, is_element, is_reference, is_known}
 use Rattle.kr_classes_table.specs.Table.{Field, Parameter, Method, field_named, method_named, constructor_parameters, is_assignable, are_related}
 use Rattle.kr_classes_table.specs.Constants.{value_at}
 use Rattle.kr_types_meaning.specs.declared.operators.OperatorKind.{OperatorKind}
@@ -107,9 +108,9 @@ array_rule t = Fits (Value (ArrayType t))
 
 -- ---- names, literals, operators
 
--- T6: 2147483648 occurs only under a unary minus
-abbrev pub number_rule : Scope → ℕ → Judgement
-number_rule s n = ask (nat_lt n 2147483648 || is_under_minus s.role) 6 (Fits (Value int_type))
+-- T6: the number after the greatest of a width occurs only under a unary minus
+abbrev pub number_rule : Scope → Width → ℕ → Judgement
+number_rule s w n = ask (nat_lt n (half w) || is_under_minus s.role) 6 (Fits (Value (NumberType w)))
 
 -- T5: `this` isn't used in static code
 abbrev pub this_rule : Scope → Judgement
@@ -346,10 +347,10 @@ initial_fits s None = true
 initial_fits s (Some t) = takes s s.declared t
 
 abbrev pub is_simple : JavaType → Bool
-is_simple t = is_int t || is_boolean t
+is_simple t = is_number t || is_boolean t
 
 -- T4: no other local or parameter in scope has the name; T29, T35: the initial value is assignable; T36: a constant has
--- a value; T37: a static field is `static final int` or `boolean`
+-- a value; T37: a static field is `static final int`, `long` or `boolean`
 abbrev pub declaration_rule : Scope → Declaring → Place → List ℕ → Option JavaType → Judgement
 declaration_rule s Locals p n t = ask (is_new s n (meant s n)) 4 (ask (initial_fits s t) 29 fine)
 declaration_rule s Fields p n t = ask (initial_fits s t) 35 fine

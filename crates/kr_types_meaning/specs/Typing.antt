@@ -6,6 +6,7 @@ use Rattle.kr_ast.specs.declared.node.UnaryOperator.{UnaryOperator}
 use Rattle.kr_ast.specs.declared.node.UnaryOperator.TheVariants.{Minus}
 use Rattle.kr_ast.specs.Tree as trees
 use Rattle.kr_ast.specs.Tree.{Tree}
+use Rattle.kr_classes_table.specs.Numbers.{Bits32, Bits64}
 use Rattle.kr_classes_table.specs.Types.{JavaType, BooleanType, NullType, InferredType}
 use Rattle.kr_classes_table.specs.Table.{Table, applied, class_at, table_of, field_named, method_named}
 use Rattle.kr_classes_table.specs.Rules.{Fault, least, class_fault}
@@ -113,7 +114,8 @@ judged s (trees.GenericType p h a) = one p (λ t. type_rule (applied (written s 
 judged s (trees.DiamondType p h) = leaf p (diamond_rule (applied (written s h) InferredType))
 judged s (trees.ArrayType p e) = one p array_rule (judged s e)
 -- expressions
-judged s (trees.Number p n) = leaf p (number_rule s n)
+judged s (trees.Number p n) = leaf p (number_rule s Bits32 n)
+judged s (trees.LongNumber p n) = leaf p (number_rule s Bits64 n)
 judged s (trees.Truth p b) = leaf p (Fits (Value BooleanType))
 judged s (trees.Null p) = leaf p (Fits (Value NullType))
 judged s (trees.This p) = leaf p (this_rule s)

@@ -128,6 +128,7 @@ module _ (s : Scope) (look : ℕ → Note) where
   noted_is (trees.DiamondType p a) h = kept_judge p _ []
   noted_is (trees.ArrayType p e) h = one_is p array_rule (known (trees.ArrayType p e) h 0 e refl)
   noted_is (trees.Number p n) h = kept_judge p _ []
+  noted_is (trees.LongNumber p n) h = kept_judge p _ []
   noted_is (trees.Truth p b) h = refl
   noted_is (trees.Null p) h = refl
   noted_is (trees.This p) h = kept_judge p _ []

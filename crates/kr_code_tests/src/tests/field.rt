@@ -1,13 +1,14 @@
 // `class A { int v = 7; }`: the nodes of its members, the code of its nodes, and the code of its members.
 ghost use Rattle.kr_code_members.specs.Nodes.{AreMemberNodes, AreShaped};
 ghost use Rattle.kr_classes_members.specs.Rosters.{IsRoster};
+ghost use Rattle.kr_code_lowering.specs.Numbered.{AreNumbers};
 ghost use Rattle.kr_types.specs.Programs.{IsProgram};
 
 use kr_base::{NoMemory, Place};
 use kr_classes_members::Roster;
 use kr_code::{Expression, Node};
 use kr_code_bodies::{Bodies, bodies_of};
-use kr_code_lowering::{Links, resolve_nodes};
+use kr_code_lowering::{Links, NodeNumbers, resolve_nodes};
 use kr_code_members::{ClassNodes, FieldNode, MemberNodes, member_nodes};
 use kr_sources::{Unread, program_of};
 use kr_types::Program;
@@ -58,23 +59,35 @@ fn is_literal(node: Option<&Node>, number: i64) -> bool {
     }
 }
 
-/// Of twelve nodes the initial value alone is a literal, of 7.
-fn resolved_fit(program: &Program, nodes: &[Node]) -> bool
+/// Whether a node has the first number.
+fn is_first(numbers: &NodeNumbers, node: u32) -> bool {
+    match numbers.all.get(node as usize) {
+        Some(number) => *number == 0,
+        None => false,
+    }
+}
+
+/// Of twelve nodes the initial value has the first number of code, and two have code, with its declarator.
+fn numbers_fit(program: &Program, numbers: &NodeNumbers) -> bool
     requires { IsProgram program.now }
 {
     for node in 0..12 {
-        if is_literal(nodes.get(node as usize), 7) != is_initial(program, node) {
+        if is_first(numbers, node) != is_initial(program, node) {
             return false;
         }
     }
-    nodes.len() == 12
+    numbers.all.len() == 12 && numbers.coded == 2
 }
 
-fn is_initialiser(program: &Program, nodes: &[Node]) -> bool
-    requires { IsProgram program.now }
-{
+/// The first node is a literal, of 7, and the other one isn't.
+fn resolved_fit(nodes: &[Node]) -> bool {
+    nodes.len() == 2 && is_literal(nodes.first(), 7) && !is_literal(nodes.last(), 7)
+}
+
+/// The initial value has the first number.
+fn is_initialiser(nodes: &[Node]) -> bool {
     match nodes {
-        [Node::Initialiser(initial)] => is_initial(program, initial.value),
+        [Node::Initialiser(initial)] => initial.value == 0,
         _ => false,
     }
 }
@@ -89,36 +102,46 @@ fn bodies_fit(made: &Bodies) -> bool {
 fn made_fits(
     alloc: Global,
     program: &Program,
+    numbers: &NodeNumbers,
     roster: &Roster,
     members: &MemberNodes,
 ) -> Result<bool, NoMemory>
     requires program { IsProgram program.now }
+    requires numbers { AreNumbers program.now numbers.now }
     requires roster { IsRoster program.now.trees.items roster.now }
     requires members { AreMemberNodes program.now members.now }
 {
     let mut nodes = Vec::new(alloc);
     let mut links = Links::new(alloc);
-    let made = bodies_of(alloc, program, roster, members, &mut nodes, &mut links)?;
-    Ok(links.len() == 2 && bodies_fit(&made) && is_initialiser(program, nodes.as_slice()))
+    let made = bodies_of(
+        alloc, program, numbers, roster, members, &mut nodes, &mut links,
+    )?;
+    Ok(links.len() == 2 && bodies_fit(&made) && is_initialiser(nodes.as_slice()))
 }
 
 /// The nodes of the members, and their code.
-fn members_fit(alloc: Global, program: &Program, roster: &Roster) -> Result<(bool, bool), NoMemory>
+fn members_fit(
+    alloc: Global,
+    program: &Program,
+    numbers: &NodeNumbers,
+    roster: &Roster,
+) -> Result<(bool, bool), NoMemory>
     requires program { IsProgram program.now }
+    requires numbers { AreNumbers program.now numbers.now }
     requires shaped { AreShaped program.now }
     requires roster { IsRoster program.now.trees.items roster.now }
 {
     let members = member_nodes(alloc, program)?;
-    let made = made_fits(alloc, program, roster, &members)?;
+    let made = made_fits(alloc, program, numbers, roster, &members)?;
     Ok((member_nodes_fit(program, &members), made))
 }
 
-fn nodes_fit(alloc: Global, program: &Program, roster: &Roster) -> Result<bool, NoMemory>
+fn nodes_fit(alloc: Global, program: &Program, numbers: &NodeNumbers) -> Result<bool, NoMemory>
     requires program { IsProgram program.now }
-    requires roster { IsRoster program.now.trees.items roster.now }
+    requires numbers { AreNumbers program.now numbers.now }
 {
-    let resolved = resolve_nodes(alloc, program, &[])?;
-    Ok(resolved_fit(program, resolved.nodes.as_slice()))
+    let resolved = resolve_nodes(alloc, program, numbers, &[])?;
+    Ok(numbers_fit(program, numbers) && resolved_fit(resolved.nodes.as_slice()))
 }
 
 /// All three.
@@ -127,8 +150,9 @@ fn program_fits(alloc: Global, program: &Program) -> Result<(bool, bool, bool), 
     requires shaped { AreShaped program.now }
 {
     let roster = Roster::read(alloc, &program.table.members)?;
-    let nodes = nodes_fit(alloc, program, &roster)?;
-    let (members, made) = members_fit(alloc, program, &roster)?;
+    let numbers = NodeNumbers::of(alloc, program)?;
+    let nodes = nodes_fit(alloc, program, &numbers)?;
+    let (members, made) = members_fit(alloc, program, &numbers, &roster)?;
     Ok((nodes, members, made))
 }
 

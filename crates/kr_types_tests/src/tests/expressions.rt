@@ -76,9 +76,9 @@ fn creations_fit(types: &mut Types) -> Result<bool, NoMemory> {
     let other = array_creation_note(types, here, PLACE, boolean, boolean)?;
     let this = this_note(types, here, PLACE, 0)?;
     Ok(
-        array.known == Known::One(Typed::Value(5))
+        array.known == Known::One(Typed::Value(6))
             && broken(other) == 27
-            && this.known == Known::One(Typed::Value(7)),
+            && this.known == Known::One(Typed::Value(8)),
     )
 }
 

@@ -21,7 +21,7 @@ fn is_named(numbers: &NodeTypes, number: u32) -> bool {
 fn numbers_fit(types: &mut Types, numbers: &NodeTypes) -> Result<bool, NoMemory> {
     let element = types.int();
     let array = types.number(TypeForm::Array(element))?;
-    Ok(types.len() == 6 && is_named(numbers, element) && is_named(numbers, array))
+    Ok(types.len() == 7 && is_named(numbers, element) && is_named(numbers, array))
 }
 
 fn read_fit(
@@ -36,7 +36,7 @@ fn read_fit(
     let before = types.len();
     let numbers = NodeTypes::read(alloc, trees, heads, types)?;
     let fit = numbers_fit(types, &numbers)?;
-    Ok(before == 5 && fit)
+    Ok(before == 6 && fit)
 }
 
 /// A class with a field of type `int[]`.

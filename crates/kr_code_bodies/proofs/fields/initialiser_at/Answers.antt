@@ -1,15 +1,11 @@
-use Rattle.std.proofs.Common.{sym, ◌∙◌, arith}
-use Rattle.kr_code_lowering.proofs.Parts.{small_number}
+use Rattle.std.proofs.Common.{sym, ◌∙◌}
 use Rattle.kr_code_bodies.proofs.Initial.{none_static, none_written, written}
 use Rattle.kr_code_bodies.proofs.fields.initialiser_at.Goals as goal
 
-pub overflow_add-result : goal.overflow_add-result
-overflow_add-result c = omega (arith, small_number c.args.program.now c.requires.program c.of-site.result c.of-site.ensures.site c.of-site.result.node c.of-site.ensures.site.node)
-
 pub returns-in_default : goal.returns-in_default
 returns-in_default c = λ f h number.
-    written c.args.program.now c.requires.program c.args.node c.of-site.result (record { site = c.of-site.ensures.site; file = c.of-site.ensures.file; node = c.of-site.ensures.node }) c.entry.result c.entry.ensures f h
-    (sym h.is_static ∙ c.if-node.false) c.in_default.not-Nil c.args.field number
+    rw c.code_number.ensures (written c.args.program.now c.requires.program c.args.node c.of-site.result (record { site = c.of-site.ensures.site; file = c.of-site.ensures.file; node = c.of-site.ensures.node }) c.entry.result c.entry.ensures f h
+    (sym h.is_static ∙ c.if-node.false) c.in_default.not-Nil c.args.field number)
 
 pub returns-in-Nil : goal.returns-in-Nil
 returns-in-Nil c = λ f h number.

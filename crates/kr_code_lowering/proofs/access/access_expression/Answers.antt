@@ -1,4 +1,4 @@
-use Rattle.std.proofs.Common.{sym, ap, ◌∙◌, subst, List, Some, arith}
+use Rattle.std.proofs.Common.{sym, ap, ◌∙◌, subst, List, Some}
 use Rattle.kr_ast.specs.Tree.{Tree}
 use Rattle.kr_ast.specs.Arena.{name_in}
 use Rattle.kr_ast.specs.declared.node.Node.TheVariants.{FieldAccess}
@@ -7,7 +7,7 @@ use Rattle.kr_classes_table.specs.Constants.{Known, constant_of, known_value, va
 use Rattle.kr_types_meaning.specs.Handing.{handed}
 use Rattle.kr_code_members.specs.Nodes.{table}
 use Rattle.kr_code_lowering.specs.Sites.{Resolves, arena_at, scope_at}
-use Rattle.kr_code_lowering.proofs.Parts.{part_scope, small_number, tree_is}
+use Rattle.kr_code_lowering.proofs.Parts.{part_scope, tree_is}
 use Rattle.kr_code_lowering.proofs.Naming.{class_constant_resolves, field_resolves, parts_are, scope_table, scope_values}
 use Rattle.kr_code_lowering.proofs.access.access_expression.Goals as goal
 
@@ -17,12 +17,6 @@ class_before-requires-clause-handed c =
     let s = c.args.site in
     let node = FieldAccess c.args.object c.args.name in
     part_scope p c.requires.program s c.requires.here.site 0 c.args.object (parts_are p s c.args.entry node c.requires.here c.requires.node).0 ∙ ap (λ (t : Tree). handed (scope_at p s) t 0) (tree_is p s c.args.entry node c.requires.here c.requires.node)
-
-pub overflow_add-result : goal.overflow_add-result
-overflow_add-result c =
-    let p = c.args.program.now in
-    let part = (parts_are p c.args.site c.args.entry (FieldAccess c.args.object c.args.name) c.requires.here c.requires.node).0 in
-    omega (arith, small_number p c.requires.program c.args.site c.requires.here.site c.args.object (omega (arith, part.below, c.requires.here.site.node)))
 
 pub returns-in-Some-clause-resolves : goal.returns-in-Some-clause-resolves
 returns-in-Some-clause-resolves c = λ arrays links.
@@ -41,4 +35,4 @@ returns-in_ok-number-in-None-clause-resolves c = λ arrays links.
     let p = c.args.program.now in
     let s = c.args.site in
     let class = sym c.class_before.ensures ∙ c.in-None.is in
-    field_resolves p c.requires.program arrays s c.args.entry c.args.object c.args.name c.requires.here c.requires.node c.number.new.self links c.in_ok-number-in-None.number class (rw c.text.ensures at c.in_ok-number-in-None.ensures.at)
+    rw c.code_number.ensures (field_resolves p c.requires.program arrays s c.args.entry c.args.object c.args.name c.requires.here c.requires.node c.number.new.self links c.in_ok-number-in-None.number class (rw c.text.ensures at c.in_ok-number-in-None.ensures.at))

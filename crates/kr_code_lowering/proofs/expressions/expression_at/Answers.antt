@@ -1,7 +1,7 @@
 use Rattle.std.proofs.Common.{sym, ◌∙◌, subst}
-use Rattle.kr_ast.specs.Arena.{parts, tree_in}
+use Rattle.kr_ast.specs.Arena.{tree_in}
 use Rattle.kr_code_lowering.specs.Sites.{Resolves, arena_at}
-use Rattle.kr_code_lowering.proofs.Dispatch.{few_parts, no_expression_resolves, number_resolves, old_resolves, operator_resolves}
+use Rattle.kr_code_lowering.proofs.Dispatch.{long_number_resolves, no_expression_resolves, number_resolves, old_resolves, operator_resolves}
 use Rattle.kr_code_lowering.proofs.expressions.expression_at.Goals as goal
 
 pub returns-then-is_no_expression-clause-resolves : goal.returns-then-is_no_expression-clause-resolves
@@ -11,9 +11,6 @@ returns-then-is_no_expression-clause-resolves c =
     let e = c.entry-entry.result in
     no_expression_resolves p c.requires.program c.args.arrays.now s e c.entry-entry.ensures c.args.names.now c.args.links.now (sym (c.is_no_expression.ensures (arena_at p s).text (tree_in (arena_at p s)) e.place) ∙ c.if-is_no_expression.true)
 
-pub operator_expression-requires : goal.operator_expression-requires
-operator_expression-requires c = few_parts c.args.program.now c.requires.program c.args.site c.entry-entry.result c.entry-entry.ensures (parts c.entry-entry.result.node) 0 c.entry-entry.ensures.parts
-
 pub returns-then-is_operator-clause-resolves : goal.returns-then-is_operator-clause-resolves
 returns-then-is_operator-clause-resolves c =
     operator_resolves c.args.program.now c.requires.program c.args.arrays.now c.args.site c.entry-entry.result c.entry-entry.ensures c.args.names.now c.args.links.now c.operator_expression.result (sym c.is_operator.ensures ∙ c.if-is_operator.true) c.operator_expression.ensures
@@ -21,6 +18,16 @@ returns-then-is_operator-clause-resolves c =
 pub returns-in-Number-clause-resolves : goal.returns-in-Number-clause-resolves
 returns-in-Number-clause-resolves c =
     subst (Resolves c.args.program.now c.args.arrays.now c.args.site c.args.names.now c.args.links.now) (sym c.int_literal.ensures) (number_resolves c.args.program.now c.requires.program c.args.arrays.now c.args.site c.entry-entry.result c.entry-entry.ensures c.args.names.now c.args.links.now c.in-Number.value c.in-Number.is)
+
+pub returns-in-LongNumber-clause-resolves : goal.returns-in-LongNumber-clause-resolves
+returns-in-LongNumber-clause-resolves c =
+    subst (Resolves c.args.program.now c.args.arrays.now c.args.site c.args.names.now c.args.links.now) (sym c.long_literal.ensures) (long_number_resolves c.args.program.now c.requires.program c.args.arrays.now c.args.site c.entry-entry.result c.entry-entry.ensures c.args.names.now c.args.links.now c.in-LongNumber.value c.in-LongNumber.is)
+
+pub returns-in-Unary-clause-resolves : goal.returns-in-Unary-clause-resolves
+returns-in-Unary-clause-resolves c = c.unary_expression.ensures c.args.arrays.now c.args.links.now c.args.names.now
+
+pub returns-in-Binary-clause-resolves : goal.returns-in-Binary-clause-resolves
+returns-in-Binary-clause-resolves c = c.binary_expression.ensures c.args.arrays.now c.args.links.now c.args.names.now
 
 pub returns-in-Old-clause-resolves : goal.returns-in-Old-clause-resolves
 returns-in-Old-clause-resolves c = old_resolves c.args.program.now c.requires.program c.args.arrays.now c.args.site c.entry-entry.result c.entry-entry.ensures c.args.names.now c.args.links.now c.in-Old.operand c.in-Old.is

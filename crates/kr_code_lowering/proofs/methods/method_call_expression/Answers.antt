@@ -1,9 +1,9 @@
-use Rattle.kr_code_lowering.proofs.Naming.{part_small, parts_are, scope_table}
+use Rattle.kr_code_lowering.proofs.Naming.{parts_are, scope_table}
 use Rattle.kr_code_lowering.specs.Calls.{IsStaticCallee}
 use Rattle.kr_types_meaning.specs.Scopes.{static_only}
 use Rattle.kr_classes_table.specs.Table.{Table, method_named}
 use Rattle.std.specs.Prelude.{option_and_then}
-use Rattle.std.proofs.Common.{sym, ap, ◌∙◌, subst, arith}
+use Rattle.std.proofs.Common.{sym, ap, ◌∙◌, subst}
 use Rattle.kr_ast.specs.Arena.{name_in}
 use Rattle.kr_ast.specs.Tree.{Tree}
 use Rattle.kr_ast.specs.declared.node.Node.TheVariants.{MethodCall}
@@ -23,12 +23,6 @@ class_before-requires-clause-handed c =
     let s = c.args.site in
     let node = MethodCall c.args.object c.args.name c.args.arguments in
     part_scope p c.requires.program s c.requires.here.site 0 c.args.object (parts_are p s c.args.entry node c.requires.here c.requires.node).0 ∙ ap (λ (t : Tree). handed (scope_at p s) t 0) (tree_is p s c.args.entry node c.requires.here c.requires.node)
-
-pub overflow_add-site : goal.overflow_add-site
-overflow_add-site c =
-    let p = c.args.program.now in
-    let s = c.args.site in
-    omega (arith, part_small p c.requires.program s c.args.entry c.requires.here 0 c.args.object (parts_are p s c.args.entry (MethodCall c.args.object c.args.name c.args.arguments) c.requires.here c.requires.node).0)
 
 pub called_on-requires-clause-method : goal.called_on-requires-clause-method
 called_on-requires-clause-method c =
@@ -60,4 +54,4 @@ returns-in-None-clause-resolves c = λ arrays names.
     let linked = rw c.at.ensures at c.in_ok-nodes.ensures.linked in
     called_resolves p c.requires.program arrays s c.args.entry c.requires.here names links c.args.object c.args.arguments c.args.name c.requires.node c.in_ok-nodes.nodes linked m.result c.called_on.result (sym c.class_before.ensures ∙ c.in-None.is)
     found
-    (rw c.text-text.ensures at c.called_on.ensures)
+    (rw (c.text-text.ensures, c.code_number.ensures) at c.called_on.ensures)

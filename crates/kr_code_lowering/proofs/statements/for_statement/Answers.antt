@@ -1,14 +1,5 @@
-use Rattle.std.proofs.Common.{arith}
-use Rattle.kr_ast.specs.declared.node.Node.TheVariants.{For}
-use Rattle.kr_code_lowering.proofs.Naming.{part_small, parts_are}
 use Rattle.kr_code_lowering.proofs.Performed.{for_does, linked_on}
 use Rattle.kr_code_lowering.proofs.statements.for_statement.Goals as goal
-
-pub overflow_add-result : goal.overflow_add-result
-overflow_add-result c =
-    let p = c.args.program.now in
-    let s = c.args.site in
-    omega (arith, part_small p c.requires.program s c.args.entry c.requires.here 3 c.args.body (parts_are p s c.args.entry (For c.args.initial c.args.condition c.args.updates c.args.body) c.requires.here c.requires.node).1.1.1.0)
 
 pub returns-clause-does : goal.returns-clause-does
 returns-clause-does c = λ names.
@@ -19,4 +10,4 @@ returns-clause-does c = λ names.
     let before = linked_on p (record s { node = c.args.initial }) first second c.in_ok-before.before c.in_ok-behind.ensures.grown (rw c.at.ensures at c.in_ok-before.ensures.linked) in
     let behind = rw c.at-2.ensures at c.in_ok-behind.ensures.linked in
     let test = rw c.at-3.ensures at c.maybe_part.ensures in
-    for_does p c.requires.program s c.args.entry c.requires.here names second c.args.initial c.args.condition c.args.updates c.args.body c.in_ok-before.before c.in_ok-behind.behind c.maybe_part.result c.requires.node before test behind
+    rw c.code_number.ensures (for_does p c.requires.program s c.args.entry c.requires.here names second c.args.initial c.args.condition c.args.updates c.args.body c.in_ok-before.before c.in_ok-behind.behind c.maybe_part.result c.requires.node before test behind)

@@ -1,12 +1,8 @@
 use Rattle.std.proofs.Common.{sym, ◌∙◌}
-use Rattle.kr_ast.specs.Arena.{parts, tree_in}
+use Rattle.kr_ast.specs.Arena.{tree_in}
 use Rattle.kr_code_lowering.specs.Sites.{arena_at}
-use Rattle.kr_code_lowering.proofs.Dispatch.{few_parts}
 use Rattle.kr_code_lowering.proofs.Performed.{no_other_statement, no_statement_does, plain_does}
 use Rattle.kr_code_lowering.proofs.statements.statement_at.Goals as goal
-
-pub plain_statement-requires : goal.plain_statement-requires
-plain_statement-requires c = few_parts c.args.program.now c.requires.program c.args.site c.entry-entry.result c.entry-entry.ensures (parts c.entry-entry.result.node) 0 c.entry-entry.ensures.parts
 
 pub returns-then-is_plain-clause-does : goal.returns-then-is_plain-clause-does
 returns-then-is_plain-clause-does c = λ names.

@@ -1,6 +1,5 @@
-use Rattle.std.proofs.Common.{Some, None, arith}
+use Rattle.std.proofs.Common.{Some, None}
 use Rattle.kr_ast.specs.Arena.{name_in}
-use Rattle.kr_ast.specs.declared.node.Node.TheVariants.{FieldAccess}
 use Rattle.kr_types_meaning.specs.Typing.{type_of}
 use Rattle.kr_classes_members.specs.Rosters.{field_numbered}
 use Rattle.kr_code_members.specs.Nodes.{table}
@@ -8,15 +7,8 @@ use Rattle.kr_code_lowering.specs.Origins.{node_tree}
 use Rattle.kr_code_lowering.specs.Sites.{arena_at, scope_at}
 use Rattle.kr_code_lowering.proofs.Meant.{typed_so}
 use Rattle.kr_code_lowering.proofs.Read.{instance_found}
-use Rattle.kr_code_lowering.proofs.Naming.{part_small, parts_are}
 use Rattle.kr_code_lowering.proofs.Variables.{field_written, no_field_written}
 use Rattle.kr_code_lowering.proofs.targets.field_target.Goals as goal
-
-pub overflow_add-result : goal.overflow_add-result
-overflow_add-result c =
-    let p = c.args.program.now in
-    let at = c.args.at in
-    omega (arith, part_small p c.requires.program at c.args.entry c.requires.here 0 c.args.object (parts_are p at c.args.entry (FieldAccess c.args.object c.args.name) c.requires.here c.requires.node).0)
 
 pub returns-in-None-clause-target : goal.returns-in-None-clause-target
 returns-in-None-clause-target c =
@@ -38,4 +30,4 @@ returns-in_ok-number-in-Some-clause-target c =
     let t = node_tree p at.file c.args.object in
     let x = name_in (arena_at p at).text c.args.name in
     let is = rw c.requires.handed at (instance_found p at e c.requires.here c.meaning_at.result c.meaning_at.ensures c.args.object c.args.name c.requires.node (Some c.in-Some.field) (c.in-Some.ensures.shown (table p))) in
-    field_written p c.requires.program r at e c.args.object c.args.name c.requires.here c.requires.node c.requires.handed c.number.new.self c.in-Some.field c.in_ok-number-in-Some.number is (typed_so r.table x (type_of r t) (field_numbered (table p) c.in-Some.field) is) (rw c.text.ensures at c.in_ok-number-in-Some.ensures.at)
+    rw c.code_number.ensures (field_written p c.requires.program r at e c.args.object c.args.name c.requires.here c.requires.node c.requires.handed c.number.new.self c.in-Some.field c.in_ok-number-in-Some.number is (typed_so r.table x (type_of r t) (field_numbered (table p) c.in-Some.field) is) (rw c.text.ensures at c.in_ok-number-in-Some.ensures.at))

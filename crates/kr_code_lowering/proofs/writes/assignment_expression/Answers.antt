@@ -6,4 +6,4 @@ returns-clause-resolves c = λ arrays links.
     let p = c.args.program.now in
     let s = c.args.site in
     let written = rw c.at.ensures at c.in_ok-variable.ensures.target in
-    assignment_resolves p c.requires.program arrays s c.args.entry c.requires.here c.variable_at.new.names links c.args.target c.in_ok-variable.variable written c.args.value c.requires.node
+    rw c.code_number.ensures (assignment_resolves p c.requires.program arrays s c.args.entry c.requires.here c.variable_at.new.names links c.args.target c.in_ok-variable.variable written c.args.value c.requires.node)

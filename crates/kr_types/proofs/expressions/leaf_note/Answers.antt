@@ -1,5 +1,6 @@
 use Rattle.std.proofs.Common.{refl}
 use Rattle.std.specs.Prelude.{None}
+use Rattle.kr_classes_table.specs.Numbers.{Bits32, Bits64}
 use Rattle.kr_types_meaning.specs.Rules as rules
 use Rattle.kr_types_meaning.specs.Noting as noting
 use Rattle.kr_types_expressions.specs.Notes.{typed_in}
@@ -12,8 +13,16 @@ returns-in-Number c =
     let s = c.args.context.now.site in
     let l = c.args.context.now.types.now in
     let ns = c.args.context.now.notes.now in
-    of_none s l ns c.args.context.now.spot (λ v. noting.leaf c.args.context.now.spot.place (rules.number_rule v c.in-Number.value)) _ _ _ c.here.ensures c.in-Number.is c.number_note.ensures.within c.number_note.ensures.no_rest
+    of_none s l ns c.args.context.now.spot (λ v. noting.leaf c.args.context.now.spot.place (rules.number_rule v Bits32 c.in-Number.value)) _ _ _ c.here.ensures c.in-Number.is c.number_note.ensures.within c.number_note.ensures.no_rest
     (c.number_note.ensures.shown s.trees.now (setting_in s.trees.now s.file) s.scopes.now.bindings.items (typed_in l ns) c.requires.context.site.members refl) refl
+
+pub returns-in-LongNumber : goal.returns-in-LongNumber
+returns-in-LongNumber c =
+    let s = c.args.context.now.site in
+    let l = c.args.context.now.types.now in
+    let ns = c.args.context.now.notes.now in
+    of_none s l ns c.args.context.now.spot (λ v. noting.leaf c.args.context.now.spot.place (rules.number_rule v Bits64 c.in-LongNumber.value)) _ _ _ c.here-in-LongNumber.ensures c.in-LongNumber.is c.long_number_note.ensures.within c.long_number_note.ensures.no_rest
+    (c.long_number_note.ensures.shown s.trees.now (setting_in s.trees.now s.file) s.scopes.now.bindings.items (typed_in l ns) c.requires.context.site.members refl) refl
 
 pub returns-in-Break : goal.returns-in-Break
 returns-in-Break c =

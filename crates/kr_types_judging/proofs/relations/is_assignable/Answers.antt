@@ -11,3 +11,7 @@ returns-in-Set c = λ files h.
 pub returns-in-List : goal.returns-in-List
 returns-in-List c = λ files h.
     c.list_goes_into.ensures (table_in files) ∙ ap (λ x. is_assignable (table_in files) x (type_at c.args.types.now c.args.to)) (sym (c.form.ensures.shown ∙ ap (type_of_form c.args.types.now) c.in-List.is))
+
+pub returns-in-Number : goal.returns-in-Number
+returns-in-Number c = λ files h.
+    c.number_goes_into.ensures (table_in files) ∙ ap (λ x. is_assignable (table_in files) x (type_at c.args.types.now c.args.to)) (sym (c.form.ensures.shown ∙ ap (type_of_form c.args.types.now) c.in-Number.is))

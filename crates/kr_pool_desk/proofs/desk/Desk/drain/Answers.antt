@@ -72,11 +72,11 @@ returns-in-Ok-clause-kept g c =
     subst (λ (v : Held g.row.R.Denot × ℕ). rows_kept c.drain.new.self + length c.in-Ok.rows ≤ rows_kept v.0) c.self.view_is
     (drain-kept c.self.inside.board c.drain.new.self c.in-Ok.rows (length c.in-Ok.rows) Noted c.in-Ok.ensures.rows c.in-Ok.ensures.event)
 
-pub returns-in-Ok-clause-told : goal.returns-in-Ok-clause-told
-returns-in-Ok-clause-told g c =
+pub returns-in-Ok-clause-observed : goal.returns-in-Ok-clause-observed
+returns-in-Ok-clause-observed g c =
     let whole = invariant_of-self-in-Ok g c in
     let more = drain-drained c.self.inside.board c.drain.new.self (length c.in-Ok.rows) Noted [] c.in-Ok.ensures.event in
     let given = returns-in-Ok-clause-counted g c in
     let at = c.audit.ensures.whole c.requires.whole in
     let d = c.self.invariant.2 in
-    record { board = c.drain.new.self; calls = c.add.new.self.total; run = whole.0; given = omega (arith, more, given, at, d); told = c.is_finished-finished.ensures }
+    record { board = c.drain.new.self; calls = c.add.new.self.total; run = whole.0; given = omega (arith, more, given, at, d); finished_is = c.is_finished-finished.ensures }
