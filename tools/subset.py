@@ -5,7 +5,7 @@ import re
 TOKEN = re.compile(r"""(?P<gap>\s+|//[^\n\r]*|/\*.*?\*/)|(?P<name>[^\W\d][\w$]*)|(?P<number>\d\w*)
     |(?P<sign>>>>=|>>>|>>=|<<=|>>|<<|==|>=|<=|!=|&&|\|\||\+\+|--|[-+*/&|^%]=|.)""", re.S | re.X)
 PAIRS = {"(": ")", "{": "}", "[": "]"}
-TYPES = {"int", "boolean", "void"}
+TYPES = {"int", "long", "boolean", "void"}
 STATEMENTS = {"if", "while", "for", "do", "return", "break", "continue", "else", "new", "throw"}
 
 

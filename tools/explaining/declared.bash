@@ -207,7 +207,7 @@ type_of() {
 }
 
 array_types() {
-    { echo int; echo boolean; names_of class; } | sed 's/$/[]/'
+    { printf '%s\n' int long boolean; names_of class; } | sed 's/$/[]/'
 }
 
 # What a name could have been meant by that no class has: a number, null, a class with its outer one, or a near one of the names on

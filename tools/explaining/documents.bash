@@ -140,7 +140,7 @@ explain_key() {
 # A domain for a type, to begin with.
 domain_for() {
     case $1 in
-    int) echo '[{ from = 0, to = 2 }]' ;;
+    int | long) echo '[{ from = 0, to = 2 }]' ;;
     boolean) echo '[false, true]' ;;
     HashSet* | LinkedList*) echo '["null"]' ;;
     *) echo "[\"null\", \"$1\"]" ;;

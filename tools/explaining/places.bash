@@ -68,7 +68,7 @@ seen_at() {
 
 # The form of a number that is none, as docs/TOOLS.md names it.
 number_form() {
-    case $1 in
+    case ${1%[lL]} in
     0[xX]*) echo 0x ;;
     0[bB]*) echo 0b ;;
     *[!0-9_lLeEfFdD]*) echo NUMBER ;;

@@ -104,7 +104,7 @@ example=$top/examples/sorted-list
 tried 1 "a class of the subset" '20 calls of insertBehind, 5 fail (trap NullPointerException: 2, repOk: 3); 10 structures, the same as on this JVM' \
     'adapt: nothing to do' --method insertBehind "$example/fin.toml" "$example/SortedList.java"
 tried 0 "a limit" 'the first 3 structures, valid on this JVM too; more follow: --limit, or smaller bounds' '0.0.0 SortedList#0' --limit 3 "$example/fin.toml" "$example/SortedList.java"
-printf 'class Wide {\n    long x;\n    boolean repOk() { return x > 0; }\n}\n' >Wide.java
+printf 'class Wide {\n    double x;\n    boolean repOk() { return x > 0; }\n}\n' >Wide.java
 tried 1 "a class that isn't adapted" 'not adapted: 1 line above: what has to be written otherwise' 'bounds: ' Wide.java
 printf 'class Ring {\n    Ring next;\n    boolean repOk() {\n        for (Ring r = next; r != null; r = r.next) { }\n        return true;\n    }\n}\n' >Ring.java
 tried 1 "a predicate that doesn't end on a cycle" "1 structure below 0.1, valid on this JVM too; the class's own repOk doesn't end on the next candidate, with ten times the fuel either, in the loop at Ring.java:4, as on Ring#0{next=Ring#0}: let it remember or count what it meets" 'adapt: nothing to do' Ring.java

@@ -9,6 +9,8 @@ import javax.lang.model.element.ElementKind;
 import javax.lang.model.element.Modifier;
 import javax.lang.model.element.TypeElement;
 import javax.lang.model.element.VariableElement;
+import javax.lang.model.type.ArrayType;
+import javax.lang.model.type.TypeMirror;
 
 /** The finitization of the adapted sources. */
 final class Bounds {
@@ -29,7 +31,7 @@ final class Bounds {
 
     String adapted(Finitization document) {
         fin = document;
-        String none = kinds.hasNone() ? "# In what Replay reads, null is " + Kinds.NONE + ".\n" : "";
+        String none = kinds.hasNone("") ? "# In what Replay reads, null is " + Kinds.none("~int") + (kinds.hasNone("~long") ? ", of a Long " + Kinds.none("~long") : "") + ".\n" : "";
         String version = fin.written().second() ? "version = 2\n" : "";
         for (Held.One one : kinds.held.all()) none += "# In what Replay reads, " + one.made() + " is a java.util." + one.type() + " of " + String.join(" and ", one.real()) + ".\n";
         StringBuilder text = new StringBuilder(none + version + "root = \"" + fin.written().root() + "\"\nfuel = " + fin.fuel() + "\n");
@@ -83,8 +85,8 @@ final class Bounds {
         Map<String, String> result = new LinkedHashMap<>();
         fin.arrays().forEach((name, bound) -> {
             String kind = Kinds.printed(kinds.arrayKind(name));
-            if (kind.matches("\\?.*(long|float|double|String|Long|Float|Double)\\[]")) {
-                notes.refuse(fin.name(), "`" + name + "` is no type of korat's", "write int, or keep it out of what repOk reads");
+            if (kind.matches("\\?.*(float|double|String|Float|Double)\\[]")) {
+                notes.refuse(fin.name(), "`" + name + "` is no type of korat's", "write int or long, or keep it out of what repOk reads");
                 return;
             }
             if (kind.startsWith("?")) {
@@ -127,6 +129,7 @@ final class Bounds {
                         key + " is final with a constant: Java reads " + field.getConstantValue()
                         + " whatever the domain says, korat would have a slot; it is a constant now");
             } else {
+                refuseLongs(key, field, kinds.of(field));
                 checkRange(key, items, field.asType().toString());
                 result.put(key, domain(items,
                         program.types.asElement(field.asType()) instanceof TypeElement type ? type : null, kinds.of(field)));
@@ -135,6 +138,15 @@ final class Bounds {
         addOuters(result);
         kinds.held.all().forEach(one -> addCollection(result, one));
         return result;
+    }
+
+    /** Refuses longs where the declared type says nothing of it, so that a number of a row might be an Integer too. */
+    private void refuseLongs(String key, VariableElement place, String kind) {
+        TypeMirror type = place.asType();
+        while (type instanceof ArrayType array) type = array.getComponentType();
+        boolean isCollection = kinds.held.has(place);
+        if (!isCollection && Boxes.isAny(type) && kind.replaceAll("\\[]|~", "").matches("long|BoxedLong"))
+            notes.refuse(fin.name(), key + " is declared as " + place.asType() + ", and its values are of type long", "declare it as long or Long");
     }
 
     /** The object around an object of an inner class that uses it is the one of its class. */
@@ -194,6 +206,7 @@ final class Bounds {
                 .filter(one -> one.getSimpleName().contentEquals(key.substring(key.lastIndexOf('.') + 1))).findFirst().orElse(null);
         if (parameter == null) return domain(items, null, "");
         String kind = kinds.of(parameter);
+        refuseLongs(key, parameter, kind);
         if (Kinds.isBoxable(Kinds.unboxOf(kind)) && Finitization.hasNull(items))
                 notes.refuse(fin.name(), "null among the values of " + key, "leave it out: korat has no parameter that is a number or null");
         return domain(items, program.types.asElement(parameter.asType()) instanceof TypeElement type ? type : null, kind);
@@ -207,7 +220,7 @@ final class Bounds {
         List<String> texts = new ArrayList<>();
         for (Object item : items) {
             if (isEnum && "null".equals(item)) texts.add("-1");
-            else if (Kinds.isStored(kind) && "null".equals(item)) texts.add(String.valueOf(Kinds.NONE));
+            else if (Kinds.isStored(kind) && "null".equals(item)) texts.add(String.valueOf(Kinds.none(kind)));
             else if (kind.equals("~boolean") && item instanceof Boolean truth) texts.add(truth ? "1" : "0");
             else if (isEnum && item instanceof String name && fin.written().classOf(name).equals(type.getSimpleName().toString())) for (int i =
                     0; i < constants.size(); i++) texts.add(String.valueOf(i));

@@ -14,7 +14,7 @@ import javax.lang.model.type.TypeMirror;
 
 /** Of which classes numbers are where a type says nothing of it, as in an `Object` or a `T`: those that flow into any such place. */
 final class Boxes {
-    private static final String NUMBERS = "Integer|Character|Byte|Short";
+    private static final String NUMBERS = "Integer|Long|Character|Byte|Short";
     private final Program program;
     private final Kinds kinds;
     private Set<String> all;
@@ -60,7 +60,8 @@ final class Boxes {
         all = new TreeSet<>();
         for (Flow.Edge edge : kinds.flow.edges) if (isAny(typeOf(edge.to()))) add(edge.from());
         for (String key : kinds.fin.fields().keySet()) addCandidates(kinds.field(key));
-        if (kinds.held.hasNumbersOfAny()) all.add("Integer");
+        if (kinds.held.hasNumbersOfAny("int")) all.add("Integer");
+        if (kinds.held.hasNumbersOfAny("long")) all.add("Long");
         return all;
     }
 
@@ -73,12 +74,13 @@ final class Boxes {
         } else if (!of(program.type(bare)).isEmpty()) all.add(of(program.type(bare)));
     }
 
-    /** A candidate's number is an Integer where its type doesn't say it. */
+    /** A candidate's number is an Integer or a Long where its type doesn't say it. */
     private void addCandidates(VariableElement field) {
         if (field == null) return;
         TypeMirror type = field.asType();
         while (type instanceof ArrayType array) type = array.getComponentType();
-        if (isAny(type) && kinds.of(field).replace("[]", "").matches("~?(int|BoxedInt)")) all.add("Integer");
+        String kind = kinds.of(field).replaceAll("\\[]|~", "");
+        if (isAny(type) && Kinds.isNumber(kind)) all.add(Kinds.isInt(kind) ? "Integer" : "Long");
     }
 
     private TypeMirror typeOf(Object place) {

@@ -44,7 +44,7 @@ final class Calls {
         if (owner.equals("java.lang.Enum") && kinds.receiver(tree) == null && method.getSimpleName().contentEquals("compareTo"))
                 return "(" + expressions.self() + " - " + library.method("ordinal") + "(" + argument(tree, 0, kinds.of(tree.getArguments().get(0))) + "))";
         String text = switch (owner) {
-            case "java.lang.Math", "java.lang.StrictMath" -> helper(tree, method, "max|min|abs|floorMod|floorDiv");
+            case "java.lang.Math", "java.lang.StrictMath" -> helper(tree, method, "max|min|abs|floorMod|floorDiv|(add|subtract|multiply|increment|decrement|negate|toInt)Exact");
             case "java.util.Objects" -> objects(tree, method);
             case "java.util.Arrays" -> arrays(tree, method);
             case "java.util.Collections", "java.util.List", "java.util.Set" -> collected(tree, method);
@@ -73,33 +73,44 @@ final class Calls {
         return tree.getArguments().stream().map(argument -> expressions.value(argument, kind)).toList();
     }
 
-    /** A call of an added method over ints. */
+    /** A call of an added method over ints, or over longs where the library's is. */
     private String helper(MethodInvocationTree tree, ExecutableElement method, String known) {
         String name = method.getSimpleName().toString();
         if (!name.matches(known) || tree.getArguments().stream().anyMatch(argument -> !Kinds.isNumber(kinds.of(argument)))) return null;
         notes.changed(program.place(tree), Program.classOf(method).getSimpleName() + "." + name + " became an added method");
-        return library.method(name) + "(" + String.join(", ", arguments(tree, "int")) + ")";
+        boolean isLong = method.getParameters().stream().anyMatch(parameter -> parameter.asType().getKind() == TypeKind.LONG);
+        String call = library.method(name + (isLong && !name.startsWith("to") ? "Long" : "")) + "(" + String.join(", ", numbers(tree)) + ")";
+        return isLong && name.equals("floorMod") && method.getReturnType().getKind() == TypeKind.INT ? "(int) " + call : call;
+    }
+
+    /** The arguments of a call as numbers of their own width. */
+    private List<String> numbers(MethodInvocationTree tree) {
+        return tree.getArguments().stream().map(argument -> expressions.value(argument, Kinds.unboxOf(kinds.of(argument)))).toList();
     }
 
     private String numbers(MethodInvocationTree tree, ExecutableElement method, String owner) {
         String name = method.getSimpleName().toString();
-        if (name.equals("valueOf") && Program.classOf(method).getKind() == ElementKind.ENUM || !owner.matches("java\\.lang\\.(Integer|Short|Byte|Character|Boolean)"))
+        if (name.equals("valueOf") && Program.classOf(method).getKind() == ElementKind.ENUM || !owner.matches("java\\.lang\\.(Integer|Long|Short|Byte|Character|Boolean)"))
                 return null;
         boolean one = tree.getArguments().size() == 1;
         if (owner.endsWith("Boolean"))
                 return name.equals("compare") ? library.method("compareBoolean") + "("
                 + String.join(", ", arguments(tree, "boolean")) + ")" : name.equals("valueOf") ? argument(tree, 0, "boolean")
                 : null;
+        if (one && owner.endsWith("Long") && name.matches("valueOf|hashCode") && Kinds.isNumber(kinds.of(tree.getArguments().get(0)))) {
+            String value = "(long) " + operand(tree, 0, Kinds.unboxOf(kinds.of(tree.getArguments().get(0))));
+            return name.equals("valueOf") ? "(" + value + ")" : library.method("hashOfLong") + "(" + argument(tree, 0, "long") + ")";
+        }
         if (one && name.matches("valueOf|hashCode") && Kinds.isNumber(kinds.of(tree.getArguments().get(0))))
                 return "(" + argument(tree, 0, "int") + ")";
-        if (name.equals("compare") && !owner.endsWith("Integer"))
+        if (name.equals("compare") && !owner.matches(".*(Integer|Long)"))
                 return library.method("difference") + "(" + String.join(", ", arguments(tree, "int")) + ")";
         boolean letters = owner.endsWith("Character");
         if (letters && name.startsWith("is"))
                 notes.warn(program.place(tree), name + " knows the letters and digits of ASCII alone");
         return helper(tree, method,
                 letters ? "isDigit|isLetter|isLowerCase|isUpperCase"
-                : "max|min|sum|compare|signum|bitCount|numberOfTrailingZeros|numberOfLeadingZeros|highestOneBit|lowestOneBit");
+                : "max|min|sum|compare|signum|bitCount|numberOfTrailingZeros|numberOfLeadingZeros|highestOneBit|lowestOneBit" + (owner.endsWith("Integer") ? "|toUnsignedLong" : ""));
     }
 
     // ---- methods of objects
@@ -127,23 +138,24 @@ final class Calls {
     private String onNumber(MethodInvocationTree tree, String name, ExpressionTree receiver) {
         String value = expressions.operand(receiver);
         String kind = Kinds.unboxOf(kinds.of(receiver));
-        String of = kind.equals("int") ? "" : "Truth";
+        String narrowed = kind.equals("long") ? "(int) " + value : value;
         switch (name) {
-            case "intValue": case "charValue": return value;
-            case "shortValue": return "(" + value + " << 16 >> 16)";
-            case "byteValue": return "(" + value + " << 24 >> 24)";
+            case "intValue": case "charValue": return kind.equals("long") ? "(" + narrowed + ")" : value;
+            case "longValue": return kind.equals("long") ? value : "((long) " + value + ")";
+            case "shortValue": return "(" + narrowed + " << 16 >> 16)";
+            case "byteValue": return "(" + narrowed + " << 24 >> 24)";
             case "booleanValue": return value;
-            case "hashCode": return kind.equals("int") ? value : null;
+            case "hashCode": return kind.equals("int") ? value : kind.equals("long") ? library.method("hashOfLong") + "(" + value + ")" : null;
             case "equals":
                 ExpressionTree other = tree.getArguments().get(0);
                 if (!Program.isNull(other) && !isSameBox(receiver, other)) return differing(tree, receiver, other);
                 if (!Program.isNull(other) && !Kinds.isBox(kinds.of(other)))
                         return "(" + value + " == " + expressions.operand(other) + ")";
                 library.box(Kinds.boxOf(kind));
-                return library.method("isBoxOf" + of) + "(" + value + ", " + rewriter.of(other) + ")";
+                return library.method("isBoxOf" + Kinds.suffix(kind)) + "(" + value + ", " + rewriter.of(other) + ")";
             case "compareTo":
                 String order = compared(tree, receiver);
-                return order == null ? null : library.method(kind.equals("int") ? order : "compareBoolean") + "(" + value + ", " + argument(tree, 0, kind) + ")";
+                return order == null ? null : library.method(kind.equals("boolean") ? "compareBoolean" : order + Kinds.suffix(kind)) + "(" + value + ", " + argument(tree, 0, kind) + ")";
             default: return null;
         }
     }
@@ -157,7 +169,7 @@ final class Calls {
         boolean same = kinds.boxes.areOne(receiver, tree.getArguments().get(0));
         if (!same || box(receiver).isEmpty() && kinds.hasSmallBoxes() && !sign)
                 return rewriter.refused(tree, "`compareTo` of a type that stands for numbers of two types", "compare numbers of one, and the result with 0 at once") == null ? "" : "compare";
-        return found.size() == 1 && !found.contains("Integer") ? "difference" : "compare";
+        return found.size() == 1 && !found.contains("Integer") && !found.contains("Long") ? "difference" : "compare";
     }
 
     /** The class of a number's box, or nothing where the type doesn't say it. */
@@ -168,13 +180,14 @@ final class Calls {
     static String box(javax.lang.model.type.TypeMirror type) {
         switch (type.getKind()) {
             case INT: return "Integer";
+            case LONG: return "Long";
             case CHAR: return "Character";
             case BYTE: return "Byte";
             case SHORT: return "Short";
             case BOOLEAN: return "Boolean";
             default:
                 String name = type.toString();
-                return name.matches("java\\.lang\\.(Integer|Character|Byte|Short|Boolean)") ? name.substring(10) : "";
+                return name.matches("java\\.lang\\.(Integer|Long|Character|Byte|Short|Boolean)") ? name.substring(10) : "";
         }
     }
 
@@ -312,8 +325,8 @@ final class Calls {
         String[] sides = kinds.elementOf(kind).split(" ");
         library.need(kinds, kind, expressions);
         String receiver = expressions.operand(kinds.receiver(tree));
-        if (name.equals("merge") && tree.getArguments().get(2).toString().equals("Integer::sum"))
-                return receiver + ".addTo(" + argument(tree, 0, sides[0]) + ", " + argument(tree, 1, "int") + ")";
+        if (name.equals("merge") && tree.getArguments().get(2).toString().matches("(Integer|Long)::sum") && Kinds.isPlainNumber(sides[1]))
+                return receiver + ".addTo(" + argument(tree, 0, sides[0]) + ", " + argument(tree, 1, sides[1]) + ")";
         if (name.matches("firstKey|lastKey") && kind.startsWith("Sorted")) return receiver + "." + name + "()";
         if (!name.matches("get|getOrDefault|containsKey|put|putIfAbsent|remove|size|isEmpty|clear") || name.equals("remove")
                 && tree.getArguments().size() > 1) return null;
@@ -360,7 +373,7 @@ final class Calls {
                 return rewriter.type(tree, kind.startsWith("?") ? kind : "?" + type.getSimpleName());
         String element = kinds.elementOf(kind);
         if (held != null) kind = held.made();
-        else if (type.getSimpleName().contentEquals("ArrayDeque") && !element.equals("int")) kind = kinds.added("DequeOf", element);
+        else if (type.getSimpleName().contentEquals("ArrayDeque") && !Kinds.isPlainNumber(element)) kind = kinds.added("DequeOf", element);
         rewriter.type(tree, kind);
         if (tree.getArguments().size() > 2 || tree.getArguments().size() == 2 && !(tree.getArguments().get(1) instanceof LiteralTree))
                 return rewriter.refused(tree, "`new " + type.getSimpleName() + "` with these arguments", "make it without them");
@@ -369,7 +382,7 @@ final class Calls {
         String argument = kinds.of(tree.getArguments().get(0));
         if (tree.getArguments().size() > 2 || tree.getArguments().size() == 2 && !(tree.getArguments().get(1) instanceof LiteralTree))
                 return rewriter.refused(tree, "`new " + type.getSimpleName() + "` with these arguments", "make it without them");
-        if (Kinds.isNumber(argument)) return sized(tree, kind, type);
+        if (Kinds.isInt(argument)) return sized(tree, kind, type);
         if (!kinds.isList(argument) || kinds.isMap(kind))
                 return rewriter.refused(tree, "a collection made of " + program.text(tree.getArguments().get(0)),
                 "add the members one by one");
@@ -398,7 +411,7 @@ final class Calls {
 
     private String made(MethodInvocationTree tree, String kind, boolean withoutNull) {
         String element = kinds.elementOf(kind);
-        if (withoutNull && kind.startsWith("ListOf") && !element.equals("int")) kind = kinds.added("DequeOf", element);
+        if (withoutNull && kind.startsWith("ListOf") && !Kinds.isPlainNumber(element)) kind = kinds.added("DequeOf", element);
         if (tree.getArguments().size() == 1 && kinds.of(tree.getArguments().get(0)).endsWith("[]")) return null;
         rewriter.type(tree, kind);
         notes.changed(program.place(tree), "`" + tree.getMethodSelect() + "` became new " + kind);
@@ -441,7 +454,8 @@ final class Calls {
         String text = rewriter.of(tree);
         if (kind.equals("int")) return "(" + text + ")";
         if (kind.equals("boolean")) return "(" + Expressions.tight(text) + " ? 1231 : 1237)";
-        if (kind.equals(Kinds.BOX)) return library.method("hashOfBox") + "(" + text + ")";
+        if (kind.equals("long")) return library.method("hashOfLong") + "(" + text + ")";
+        if (kind.equals(Kinds.BOX) || kind.equals(Kinds.LONG_BOX)) return library.method("hashOfBox" + Kinds.suffix(kind)) + "(" + text + ")";
         return kinds.hasEquals(kind) && program.hashing(program.classes.get(kind)) != null && program.isWritten(program.hashing(program.classes.get(kind)))
                 ? library.method("hashOf@", kind, "") + "(" + text + ")" : null;
     }
@@ -469,14 +483,14 @@ final class Calls {
         int count = tree.getArguments().size();
         if (kind.startsWith("ArrayOf") && name.equals("fill") && count == 2)
                 return expressions.operand(tree.getArguments().get(0)) + ".fill(" + argument(tree, 1, element) + ")";
-        if (kind.startsWith("ArrayOf") && name.equals("sort") && count == 1 && element.equals("int"))
+        if (kind.startsWith("ArrayOf") && name.equals("sort") && count == 1 && Kinds.isPlainNumber(element))
                 return expressions.operand(tree.getArguments().get(0)) + ".sort()";
         if (name.equals("equals") && count == 2) return equalArrays(tree, kind, element);
         if (!kind.endsWith("[]")) return null;
         if (name.equals("fill"))
                 return library.method(count == 2 ? "fill@" : "fillRange@", element, "") + "("
                 + String.join(", ", withLast(tree, element)) + ")";
-        if (name.equals("sort") && count == 1 && element.equals("int"))
+        if (name.equals("sort") && count == 1 && Kinds.isPlainNumber(element))
                 return library.method("sort@", element, "") + "(" + argument(tree, 0, kind) + ")";
         if (name.equals("copyOf")) return copy(tree, argument(tree, 0, kind), "0", argument(tree, 1, "int"));
         return name.equals("copyOfRange")

@@ -99,7 +99,7 @@ final class Carried {
         if (!reach.kept.contains(field) || field.getModifiers().contains(Modifier.STATIC) || Bounds.isConstant((VariableElement) field)) return "";
         String kind = kinds.of(field);
         String value = tree.getInitializer() != null ? expressions.value(tree.getInitializer(), kind)
-                : Kinds.isEnum(kind) ? "-1" : Kinds.isStored(kind) ? Expressions.number(Kinds.NONE) : null;
+                : Kinds.isEnum(kind) ? "-1" : Kinds.isStored(kind) ? Expressions.number(Kinds.none(kind)) : null;
         return value == null ? "" : "this." + field.getSimpleName() + " = " + value + "; ";
     }
 

@@ -126,7 +126,7 @@ final class Clauses {
 
     /** A contract may make no object, but call a method that does. */
     private static String withoutNew(String text, Library library) {
-        for (String box : List.of(Kinds.BOX, Kinds.BOOLEAN_BOX)) {
+        for (String box : List.of(Kinds.BOX, Kinds.LONG_BOX, Kinds.BOOLEAN_BOX)) {
             if (text.contains("new " + box + "(")) text = text.replace("new " + box + "(", library.method("new" + box) + "(");
         }
         return text;

@@ -90,7 +90,7 @@ final class Constants {
     private boolean isConstant(ExpressionTree tree) {
         Element element = program.element(Program.bare(tree));
         boolean constant = element instanceof VariableElement variable && (variable.getConstantValue() != null || variable.getKind() == ElementKind.ENUM_CONSTANT);
-        return constant || Numbers.of(program, tree) != 0 || List.of("0", "true", "false", "null").contains(tree.toString())
-                || tree.getKind() == Tree.Kind.CHAR_LITERAL || tree.toString().matches("-[0-9]+");
+        return constant || Numbers.of(program, tree) != 0 || List.of("true", "false", "null").contains(tree.toString())
+                || tree.getKind() == Tree.Kind.CHAR_LITERAL || tree.toString().matches("-?[0-9]+[lL]?");
     }
 }

@@ -86,7 +86,7 @@ final class Expressions extends SimpleTreeVisitor<String, Void> {
     String value(ExpressionTree tree, String wanted) {
         if (Program.isNull(tree)) {
             if (Kinds.isEnum(wanted)) return "(-1)";
-            if (Kinds.isStored(wanted)) return number(Kinds.NONE);
+            if (Kinds.isStored(wanted)) return number(Kinds.none(wanted));
             if (Kinds.isBoxable(wanted))
                     return rewriter.refused(tree, "null where the values are numbers", "use a number that stands for none");
         }
@@ -137,7 +137,7 @@ final class Expressions extends SimpleTreeVisitor<String, Void> {
 
     /** A value as it is kept in a candidate's place where it may be null. */
     private String stored(String text, String kind) {
-        if (Kinds.isBox(kind)) return library.method(kind.equals(Kinds.BOX) ? "numberOf" : "numberOfTruth") + "(" + text + ")";
+        if (Kinds.isBox(kind)) return library.method("numberOf" + Kinds.suffix(kind)) + "(" + text + ")";
         return kind.equals("boolean") ? "(" + tight(text) + " ? 1 : 0)" : text;
     }
 
@@ -145,7 +145,7 @@ final class Expressions extends SimpleTreeVisitor<String, Void> {
     String read(String text, String place) {
         if (!Kinds.isStored(place)) return text;
         library.box(Kinds.read(place));
-        return library.method(place.equals("~int") ? "boxed" : "boxedTruth") + "(" + text + ")";
+        return library.method("boxed" + Kinds.suffix(place)) + "(" + text + ")";
     }
 
     private static String unboxed(String text) {
@@ -154,7 +154,7 @@ final class Expressions extends SimpleTreeVisitor<String, Void> {
 
     /** An expression as the operand of another. */
     String operand(ExpressionTree tree) {
-        String text = value(tree, Kinds.isBox(kinds.of(tree)) ? "int" : "");
+        String text = value(tree, Kinds.isBox(kinds.of(tree)) ? Kinds.unboxOf(kinds.of(tree)) : "");
         return isTight(text) ? text : "(" + text + ")";
     }
 
@@ -196,7 +196,7 @@ final class Expressions extends SimpleTreeVisitor<String, Void> {
     String equality(String kind) {
         if (Kinds.isBox(kind)) {
             library.box(kind);
-            return library.method("holdSame" + (kind.equals(Kinds.BOX) ? "" : "Truth")) + "(a, b)";
+            return library.method("holdSame" + Kinds.suffix(kind)) + "(a, b)";
         }
         if (!kinds.hasEquals(kind)) return "a == b";
         return "(a == null ? b == null : a." + names.of(program.equality(program.classes.get(kind))) + "(b))";
@@ -212,8 +212,9 @@ final class Expressions extends SimpleTreeVisitor<String, Void> {
     }
 
     static String number(Object value) {
-        int number = value instanceof Character c ? c : ((Number) value).intValue();
-        return number < 0 ? "(" + number + ")" : String.valueOf(number);
+        long number = value instanceof Character c ? c : ((Number) value).longValue();
+        String text = number + (value instanceof Long ? "L" : "");
+        return number < 0 ? "(" + text + ")" : text;
     }
 
     // ---- literals and names
@@ -222,9 +223,9 @@ final class Expressions extends SimpleTreeVisitor<String, Void> {
     public String visitLiteral(LiteralTree tree, Void nothing) {
         switch (tree.getKind()) {
             case NULL_LITERAL: case BOOLEAN_LITERAL: return program.text(tree);
-            case INT_LITERAL:
+            case INT_LITERAL: case LONG_LITERAL:
                 String text = program.text(tree);
-                boolean plain = text.matches("0|-?\\s*[1-9][0-9]*");
+                boolean plain = text.matches("(0|-?\\s*[1-9][0-9]*)[lL]?");
                 if (!plain) notes.changed(program.place(tree), text + " became " + number(tree.getValue()));
                 return plain ? text : number(tree.getValue());
             case CHAR_LITERAL:
@@ -278,10 +279,9 @@ final class Expressions extends SimpleTreeVisitor<String, Void> {
         if (Program.classOf(variable).getQualifiedName().contentEquals("java.lang.Boolean") && variable.getSimpleName().toString().matches("TRUE|FALSE"))
                 return variable.getSimpleName().toString().toLowerCase(java.util.Locale.ROOT);
         Object value = variable.getConstantValue();
-        if (!(value instanceof Number || value instanceof Character) || value instanceof Long || value instanceof Double
-                || value instanceof Float) {
+        if (!(value instanceof Number || value instanceof Character) || value instanceof Double || value instanceof Float) {
             return rewriter.refused(tree, "`" + variable.getSimpleName() + "` of " + Program.classOf(variable).getSimpleName(),
-                    "write the value as an int");
+                    "write the value as an int or a long");
         }
         notes.changed(program.place(tree), program.text(tree) + " became " + number(value));
         return number(value);
@@ -339,15 +339,18 @@ final class Expressions extends SimpleTreeVisitor<String, Void> {
             if (!equality && kind.startsWith("?")) return isDeclared(side) ? program.text(tree) : rewriter.type(side, kind);
         }
         String kind = Kinds.unboxOf(kinds.of(left));
-        if (!Kinds.isBoxable(kind) || !kind.equals(Kinds.unboxOf(kinds.of(right)))) return rewriter.plain(tree);
+        String other = Kinds.unboxOf(kinds.of(right));
+        boolean numbers = Kinds.isPlainNumber(kind) && Kinds.isPlainNumber(other);
+        if (!numbers && (!Kinds.isBoxable(kind) || !kind.equals(other))) return rewriter.plain(tree);
         boolean boxes = equality && !program.type(left).getKind().isPrimitive() && !program.type(right).getKind().isPrimitive();
+        if (boxes && !kind.equals(other)) return rewriter.refused(tree, "a comparison of boxes of an int and a long, which are never the same object", "compare their values");
         if (boxes) {
-            if (kind.equals("int")) notes.warn(program.place(tree),
+            if (numbers) notes.warn(program.place(tree),
                     "Java compares the objects here, and korat their numbers: the two agree from -128 to 127");
             boolean nullable = Kinds.isBox(kinds.of(left)) || Kinds.isBox(kinds.of(right));
             if (nullable) return (tree.getKind() == Tree.Kind.EQUAL_TO ? "" : "!") + areEqual(left, right, Kinds.boxOf(kind));
         }
-        return rewriter.composed(tree, Map.of(left, value(left, kind), right, value(right, kind)));
+        return rewriter.composed(tree, Map.of(left, value(left, kind), right, value(right, other)));
     }
 
     /** Whether an expression is a variable of the sources, whose declaration is refused already. */
@@ -363,7 +366,7 @@ final class Expressions extends SimpleTreeVisitor<String, Void> {
     /** Whether two boxes, of which each may be null, hold the same. */
     String areEqual(ExpressionTree left, ExpressionTree right, String box) {
         library.box(box);
-        return library.method("holdSame" + (box.equals(Kinds.BOX) ? "" : "Truth")) + "(" + value(left, box) + ", " + value(right, box) + ")";
+        return library.method("holdSame" + Kinds.suffix(box)) + "(" + value(left, box) + ", " + value(right, box) + ")";
     }
 
     private static boolean isClassOf(ExpressionTree tree) {
@@ -392,8 +395,8 @@ final class Expressions extends SimpleTreeVisitor<String, Void> {
         String kind = kinds.of(other);
         if (Kinds.isEnum(kind)) return rewriter.composed(tree, Map.of(tree.getLeftOperand(), value(tree.getLeftOperand(), kind),
                 tree.getRightOperand(), value(tree.getRightOperand(), kind)));
-        if (kinds.placeOf(other).equals("~int"))
-                return "(" + raw(other) + (tree.getKind() == Tree.Kind.EQUAL_TO ? " == " : " != ") + number(Kinds.NONE) + ")";
+        if (kinds.placeOf(other).matches("~(int|long)"))
+                return "(" + raw(other) + (tree.getKind() == Tree.Kind.EQUAL_TO ? " == " : " != ") + number(Kinds.none(kinds.placeOf(other))) + ")";
         if (!Kinds.isBoxable(kind)) return rewriter.plain(tree);
         boolean equal = tree.getKind() == Tree.Kind.EQUAL_TO;
         notes.changed(program.place(tree), "`" + program.text(tree) + "` became " + !equal + ", since numbers are never null");
@@ -423,7 +426,7 @@ final class Expressions extends SimpleTreeVisitor<String, Void> {
         if (valueUsed || !isPlain(target))
                 return rewriter.refused(tree, "a step within an expression, of " + program.text(target),
                 "write the step as a statement of its own");
-        return written(tree, target, kind.endsWith("INCREMENT") ? "+" : "-", "1");
+        return written(tree, target, kind.endsWith("INCREMENT") ? "+" : "-", "1", false);
     }
 
     @Override
@@ -431,21 +434,23 @@ final class Expressions extends SimpleTreeVisitor<String, Void> {
         ExpressionTree target = Program.bare(tree.getVariable());
         if (kinds.of(tree.getExpression()).startsWith("?"))
                 return rewriter.type(tree.getExpression(), kinds.of(tree.getExpression()));
-        String text = value(tree.getExpression(), Kinds.unboxOf(kinds.of(target)));
+        boolean isLong = Kinds.unboxOf(kinds.of(tree.getExpression())).equals("long");
+        String text = value(tree.getExpression(), isLong ? "long" : Kinds.unboxOf(kinds.of(target)));
         if (!isScratchElement(target) && narrow(program.type(target)) == null && !Kinds.isBox(kinds.of(target)))
                 return rewriter.composed(tree, Map.of(tree.getExpression(), text));
         if (!isPlain(target))
                 return rewriter.refused(tree, "a compound assignment to " + program.text(target),
                 "write `a = a + b` with a plain a");
         return written(tree, target, OPERATORS.get(tree.getKind().toString().replace("_ASSIGNMENT", "")),
-                isTight(text) ? text : "(" + text + ")");
+                isTight(text) ? text : "(" + text + ")", isLong);
     }
 
     /** A step or compound assignment as an assignment, within the range of the target's type. */
-    private String written(Tree tree, ExpressionTree target, String operator, String operand) {
+    private String written(Tree tree, ExpressionTree target, String operator, String operand, boolean isLong) {
         String range = narrow(program.type(target));
         String before = operand(target);
         String value = before + " " + operator + " " + operand;
+        if (isLong && Kinds.isInt(kinds.of(target))) value = "(int) (" + value + ")";
         String text = range == null ? value : range.replace("#", "(" + value + ")");
         if (Kinds.isBox(kinds.placeOf(target))) text = "new " + library.box(kinds.of(target)) + "(" + text + ")";
         boolean statement = program.parent(tree) instanceof ExpressionStatementTree
@@ -512,7 +517,7 @@ final class Expressions extends SimpleTreeVisitor<String, Void> {
     public String visitConditionalExpression(ConditionalExpressionTree tree, Void nothing) {
         String kind = kinds.of(tree);
         List<String> both = List.of(Kinds.unboxOf(kinds.of(tree.getTrueExpression())), Kinds.unboxOf(kinds.of(tree.getFalseExpression())));
-        if (both.containsAll(List.of("int", "boolean"))) return rewriter.refused(tree, "a choice between a number and a truth value", "use variables of one type");
+        if (both.contains("boolean") && both.stream().anyMatch(Kinds::isPlainNumber)) return rewriter.refused(tree, "a choice between a number and a truth value", "use variables of one type");
         return rewriter.composed(tree,
                 Map.of(tree.getCondition(), value(tree.getCondition(), "boolean"), tree.getTrueExpression(), common(tree) + value(tree.getTrueExpression(), kind), tree.getFalseExpression(),
                 value(tree.getFalseExpression(), kind)));
@@ -536,12 +541,12 @@ final class Expressions extends SimpleTreeVisitor<String, Void> {
         String from = kinds.of(tree.getExpression());
         if (type.getKind().isPrimitive() && (kind.startsWith("?") || from.startsWith("?")))
                 return rewriter.type(tree, kind.startsWith("?") ? kind : from);
-        if (Boxes.isAny(program.type(Program.bare(tree.getExpression()))) && Kinds.unboxOf(from).equals("int") && !isOfBox(tree.getExpression(), type))
+        if (Boxes.isAny(program.type(Program.bare(tree.getExpression()))) && Kinds.isNumber(from) && !isOfBox(tree.getExpression(), type))
                 return rewriter.refused(tree, "a cast to " + type + " of numbers of two types", "use variables of one");
         String range = narrow(type);
         if (range != null) {
             notes.changed(program.place(tree), "the cast to " + type + " became arithmetic");
-            return range.replace("#", operand(tree.getExpression()));
+            return range.replace("#", (Kinds.isInt(from) ? "" : "(int) ") + operand(tree.getExpression()));
         }
         boolean collection = kinds.isList(kind) || kinds.isMap(kind);
         if (collection && !program.types.isSubtype(program.types.erasure(program.type(tree.getExpression())), program.types.erasure(type)))
@@ -608,7 +613,7 @@ final class Expressions extends SimpleTreeVisitor<String, Void> {
         for (CaseTree one : tree.getCases()) {
             if (one.getBody() instanceof com.sun.source.tree.ThrowTree && isPlain(chosen)) {
                 String kind = kinds.kind(program.type(tree));
-                String trap = kind.equals("int") || Kinds.isEnum(kind) ? "1 / 0" : kind.equals("boolean") ? "1 / 0 == 0" : "(1 / 0 == 0 ? null : null)";
+                String trap = Kinds.isPlainNumber(kind) || Kinds.isEnum(kind) ? "1 / 0" : kind.equals("boolean") ? "1 / 0 == 0" : "(1 / 0 == 0 ? null : null)";
                 if (one.getExpressions().isEmpty()) last = trap;
                 else text.append(one.getExpressions().stream().map(label -> chosen(chosen) + " == " + switchLabel(tree, label))
                         .collect(Collectors.joining(" || "))).append(" ? ").append(trap).append(" : ");
@@ -624,7 +629,7 @@ final class Expressions extends SimpleTreeVisitor<String, Void> {
                     .collect(Collectors.joining(" || "))).append(" ? ").append(value).append(" : ");
         }
         String kind = kinds.kind(program.type(tree));
-        String trap = kind.equals("int") || Kinds.isEnum(kind) ? "1 / 0" : kind.equals("boolean") ? "1 / 0 == 0" : "1 / 0 == 0 ? null : null";
+        String trap = Kinds.isPlainNumber(kind) || Kinds.isEnum(kind) ? "1 / 0" : kind.equals("boolean") ? "1 / 0 == 0" : "1 / 0 == 0 ? null : null";
         notes.changed(program.place(tree), "`switch` became `?:`");
         return "(" + text + (last == null ? trap : last) + ")";
     }
@@ -671,7 +676,7 @@ final class Expressions extends SimpleTreeVisitor<String, Void> {
             String length = value(tree.getDimensions().get(0), "int");
             if (Kinds.isStored(element) || Kinds.isEnum(element)) {
                 rewriter.type(tree, element);
-                return library.method(Kinds.isEnum(element) ? "constants" : "numbers") + "(" + length + ")";
+                return library.method(Kinds.isEnum(element) ? "constants" : "numbers" + (element.equals("~long") ? "Long" : "")) + "(" + length + ")";
             }
             return "new " + rewriter.type(tree, element) + "[" + length + "]";
         }

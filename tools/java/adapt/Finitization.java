@@ -88,6 +88,12 @@ record Finitization(String name, String root, long fuel, Map<String, Long> objec
         return domain.contains("null");
     }
 
+    /** Whether a domain has a number that no int is. */
+    static boolean hasLongs(List<Object> domain) {
+        return domain.stream().anyMatch(item -> item instanceof Long number && number != number.intValue()
+                || item instanceof Map<?, ?> range && range.values().stream().anyMatch(end -> end instanceof Long number && number != number.intValue()));
+    }
+
     static boolean hasNumbers(List<Object> domain) {
         return domain.stream().anyMatch(item -> item instanceof Long || item instanceof Map);
     }

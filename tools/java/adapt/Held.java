@@ -31,7 +31,7 @@ final class Held {
 
         /** The class of its objects. */
         String made() {
-            return type.equals("ArrayDeque") && !members.get(0).equals("int") ? "DequeOf" + part : kind;
+            return type.equals("ArrayDeque") && !Kinds.isPlainNumber(members.get(0)) ? "DequeOf" + part : kind;
         }
 
         /** The class that has its first member and its size. */
@@ -94,8 +94,8 @@ final class Held {
     }
 
     /** Whether members are numbers, and their type doesn't say of which class. */
-    boolean hasNumbersOfAny() {
-        return names.keySet().stream().anyMatch(field -> argumentsOf(field).stream().anyMatch(argument -> Boxes.isAny(argument) && kinds.kind(argument).equals("int")));
+    boolean hasNumbersOfAny(String kind) {
+        return names.keySet().stream().anyMatch(field -> argumentsOf(field).stream().anyMatch(argument -> Boxes.isAny(argument) && kinds.kind(argument).equals(kind)));
     }
 
     /** The collections whose members are known. */
@@ -152,8 +152,8 @@ final class Held {
     private String real(TypeMirror argument, String member) {
         TypeMirror type = argument instanceof WildcardType wild && wild.getExtendsBound() != null ? wild.getExtendsBound() : argument;
         String whole = program.types.erasure(type).toString();
-        if (type.getKind() == TypeKind.DECLARED && whole.matches("java\\.lang\\.(Integer|Character|Byte|Short|Boolean)")) return whole;
-        if (member.equals("int")) return "java.lang.Integer";
+        if (type.getKind() == TypeKind.DECLARED && whole.matches("java\\.lang\\.(Integer|Long|Character|Byte|Short|Boolean)")) return whole;
+        if (Kinds.isPlainNumber(member)) return member.equals("int") ? "java.lang.Integer" : "java.lang.Long";
         return member.equals("boolean") ? "java.lang.Boolean" : member.replace("#", "");
     }
 
@@ -224,7 +224,7 @@ final class Held {
         if (one == null) return;
         List<? extends TypeMirror> arguments = argumentsOf(field);
         List<String> members = arguments.stream().map(kinds::kind).toList();
-        boolean open = arguments.stream().anyMatch(argument -> argument.getKind() == TypeKind.TYPEVAR && kinds.kind(argument).equals("int"));
+        boolean open = arguments.stream().anyMatch(argument -> argument.getKind() == TypeKind.TYPEVAR && Kinds.isPlainNumber(kinds.kind(argument)));
         if (open && kinds.hasSmallBoxes())
             notes.refuse(program.place(program.trees.getTree(field)), "members of `" + field + "` of a type that stands for numbers of two types", "declare the field with their class");
         if (!members.equals(one.members) || !real(arguments, members).equals(one.real))

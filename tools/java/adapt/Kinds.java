@@ -39,13 +39,12 @@ import javax.lang.model.type.WildcardType;
 
 /**
  * The types of the subset that the types of the sources become, as they are written. A `?` begins one that there is not, `#` an enum,
- * whose constants are ints from 0 and whose null is -1, and `~` a number of a candidate that may be null, which then is {@link #NONE}.
+ * whose constants are ints from 0 and whose null is -1, and `~` a number of a candidate that may be null, which then is {@link #none}.
  */
 final class Kinds {
     static final String BOX = "BoxedInt";
+    static final String LONG_BOX = "BoxedLong";
     static final String BOOLEAN_BOX = "BoxedBoolean";
-    /** The number that null is where a candidate has it among numbers. */
-    static final int NONE = Integer.MIN_VALUE;
     private static final Set<String> LISTS =
             Set.of("Collection", "AbstractCollection", "Iterable", "List", "AbstractList", "ArrayList",
             "LinkedList", "Vector", "Stack", "Queue", "Deque", "ArrayDeque");
@@ -108,7 +107,7 @@ final class Kinds {
         String kind = ofDomain(domain);
         if (domain.equals(List.of("null")) && type instanceof DeclaredType && kind(type).startsWith("?")) given.put(field, fin.root());
         if (kind.startsWith("?") || !isOpen(type)) return;
-        boolean number = isBoxable(kind) || kind.matches("~?(int|boolean)\\[]");
+        boolean number = isBoxable(kind) || kind.matches("~?(int|long|boolean)\\[]");
         if (number && !type.toString().replaceAll("<.*>|\\[]", "").matches("[\\w$]+|java\\.lang\\.(Object|Comparable)|java\\.io\\.Serializable")) return;
         if (type.getKind() == TypeKind.TYPEVAR) bind(program.types.asElement(type), kind);
         else if (type instanceof ArrayType array && array.getComponentType().getKind() == TypeKind.TYPEVAR
@@ -130,7 +129,7 @@ final class Kinds {
     /** What the values of a domain are. */
     private String ofDomain(List<Object> domain) {
         List<String> names = Finitization.names(domain);
-        if (Finitization.hasNumbers(domain)) return "int";
+        if (Finitization.hasNumbers(domain)) return Finitization.hasLongs(domain) ? "long" : "int";
         if (domain.stream().anyMatch(Boolean.class::isInstance)) return "boolean";
         if (names.isEmpty()) return "?";
         if (names.get(0).endsWith("[]")) return arrayKind(names.get(0));
@@ -155,19 +154,19 @@ final class Kinds {
         TypeElement type = program.classes.get(element);
         if (type != null) return kind(type.asType()) + "[]";
         if (Set.of("int", "byte", "short", "char").contains(element)) return "int[]";
-        if (element.equals("boolean")) return "boolean[]";
-        if (Set.of("long", "float", "double", "String", "Long", "Float", "Double").contains(element)) return "?" + name;
+        if (Set.of("long", "boolean").contains(element)) return element + "[]";
+        if (Set.of("float", "double", "String", "Float", "Double").contains(element)) return "?" + name;
         List<Object> domain = fin.fields().getOrDefault(name + ".*", List.of());
         boolean number = Set.of("Integer", "Byte", "Short", "Character").contains(element);
-        String kind = number ? "int" : element.equals("Boolean") ? "boolean" : ofDomain(domain);
-        return (kind.equals("int") && Finitization.hasNull(domain) ? "~int" : kind) + "[]";
+        String kind = number ? "int" : element.equals("Long") ? "long" : element.equals("Boolean") ? "boolean" : ofDomain(domain);
+        return (isPlainNumber(kind) && Finitization.hasNull(domain) ? "~" : "") + kind + "[]";
     }
 
     /** What the elements of arrays of objects are that become numbers: of a candidate as the finitization says, else boxes. */
     private String boxesIn(String kind) {
         if (!isBoxable(kind)) return kind;
         for (String name : fin.arrays().keySet()) {
-            boolean primitive = Set.of("int", "byte", "short", "char", "boolean").contains(name.substring(0, name.length() - 2));
+            boolean primitive = Set.of("int", "byte", "short", "char", "long", "boolean").contains(name.substring(0, name.length() - 2));
             String counted = arrayKind(name);
             if (!primitive && (counted.equals(kind + "[]") || counted.equals("~" + kind + "[]"))) return elementOf(counted);
         }
@@ -176,24 +175,45 @@ final class Kinds {
 
     /** Numbers and truth values, which have boxes. */
     static boolean isBoxable(String kind) {
-        return kind.equals("int") || kind.equals("boolean");
+        return isPlainNumber(kind) || kind.equals("boolean");
     }
 
     static String boxOf(String kind) {
-        return kind.equals("int") ? BOX : kind.equals("boolean") ? BOOLEAN_BOX : kind;
+        return kind.equals("int") ? BOX : kind.equals("long") ? LONG_BOX : kind.equals("boolean") ? BOOLEAN_BOX : kind;
     }
 
     static boolean isBox(String kind) {
-        return kind.equals(BOX) || kind.equals(BOOLEAN_BOX);
+        return kind.equals(BOX) || kind.equals(LONG_BOX) || kind.equals(BOOLEAN_BOX);
     }
 
     /** The number or truth value in a box, as a kind. */
     static String unboxOf(String kind) {
-        return kind.equals(BOX) ? "int" : kind.equals(BOOLEAN_BOX) ? "boolean" : kind;
+        return kind.equals(BOX) ? "int" : kind.equals(LONG_BOX) ? "long" : kind.equals(BOOLEAN_BOX) ? "boolean" : kind;
     }
 
+    /** An int, or a box of one. */
+    static boolean isInt(String kind) {
+        return unboxOf(kind).equals("int");
+    }
+
+    /** A number of either width, or a box of one. */
     static boolean isNumber(String kind) {
-        return kind.equals("int") || kind.equals(BOX);
+        return isPlainNumber(unboxOf(kind));
+    }
+
+    /** A number of either width that is no box. */
+    static boolean isPlainNumber(String kind) {
+        return kind.equals("int") || kind.equals("long");
+    }
+
+    /** The number that null is where a candidate has it among numbers or truth values. */
+    static Number none(String kind) {
+        return kind.equals("~long") ? (Number) Long.MIN_VALUE : (Number) Integer.MIN_VALUE;
+    }
+
+    /** What is behind the name of an added method that there is for ints, for longs and for truth values. */
+    static String suffix(String kind) {
+        return unboxOf(read(kind)).equals("long") ? "Long" : unboxOf(read(kind)).equals("boolean") ? "Truth" : "";
     }
 
     static boolean isEnum(String kind) {
@@ -287,6 +307,7 @@ final class Kinds {
         switch (type.getKind()) {
             case BOOLEAN: return "boolean";
             case INT: case SHORT: case BYTE: case CHAR: return "int";
+            case LONG: return "long";
             case VOID: return "void";
             case NULL: return "null";
             case ARRAY:
@@ -322,6 +343,7 @@ final class Kinds {
         String whole = element.getQualifiedName().toString();
         if (Set.of("java.lang.Integer", "java.lang.Short", "java.lang.Byte", "java.lang.Character").contains(whole))
                 return "int";
+        if (whole.equals("java.lang.Long")) return "long";
         if (whole.equals("java.lang.Boolean")) return "boolean";
         List<String> arguments = type.getTypeArguments().stream().map(this::member).toList();
         if (!whole.matches("java\\.(util|lang)\\..*") || arguments.isEmpty()) return "?" + name;
@@ -498,7 +520,7 @@ final class Kinds {
     private boolean isOpen(TypeMirror type) {
         if (type.getKind() == TypeKind.TYPEVAR || type.getKind() == TypeKind.WILDCARD) return true;
         if (type instanceof ArrayType array) return isOpen(array.getComponentType());
-        return type instanceof DeclaredType && !type.toString().matches("java\\.lang\\.(String|Long|Float|Double|Number|CharSequence)");
+        return type instanceof DeclaredType && !type.toString().matches("java\\.lang\\.(String|Float|Double|Number|CharSequence)");
     }
 
     private boolean mayBeNullInCandidates(Element field) {
@@ -516,10 +538,15 @@ final class Kinds {
         }
     }
 
-    /** Whether null stands among numbers in a domain. */
-    boolean hasNone() {
-        return fin.fields().entrySet().stream().anyMatch(entry -> (entry.getKey().endsWith("[].*") ? elementOf(arrayKind(entry.getKey().substring(0, entry.getKey().length() - 2))).startsWith("~")
-                        : field(entry.getKey()) != null && of(field(entry.getKey())).startsWith("~")));
+    /** Whether null stands among numbers in a domain, of this kind where one is said. */
+    boolean hasNone(String wanted) {
+        return fin.fields().keySet().stream().map(this::kindOfKey).anyMatch(kind -> wanted.isEmpty() ? kind.startsWith("~") : kind.equals(wanted));
+    }
+
+    /** What the values of a key of the finitization are. */
+    private String kindOfKey(String key) {
+        if (key.endsWith("[].*")) return elementOf(arrayKind(key.substring(0, key.length() - 2)));
+        return field(key) == null ? "?" : of(field(key));
     }
 
     /** Says that a loop over an expression gives a variable its elements. */
@@ -534,12 +561,12 @@ final class Kinds {
 
     /** Whether a place of a candidate holds a number or truth value that may be null. */
     static boolean isStored(String kind) {
-        return kind.equals("~int") || kind.equals("~boolean");
+        return kind.equals("~int") || kind.equals("~long") || kind.equals("~boolean");
     }
 
     /** What reading a place of a kind gives. */
     static String read(String kind) {
-        return kind.equals("~int") ? BOX : kind.equals("~boolean") ? BOOLEAN_BOX : kind;
+        return isStored(kind) ? boxOf(kind.substring(1)) : kind;
     }
 
     /** The class of an array of the predicate's own: its elements begin as Java's do. */
@@ -613,9 +640,8 @@ final class Kinds {
         if (bare instanceof AssignmentTree assignment) return of(assignment.getVariable());
         if (bare instanceof ArrayAccessTree access) return elementOf(of(access.getExpression()));
         if (bare instanceof ConditionalExpressionTree choice) {
-            String kind = either(of(choice.getTrueExpression()), of(choice.getFalseExpression()));
             TypeMirror type = program.type(bare);
-            return type != null && type.getKind().isPrimitive() ? unboxOf(kind) : kind;
+            return type != null && type.getKind().isPrimitive() ? kind(type) : either(of(choice.getTrueExpression()), of(choice.getFalseExpression()));
         }
         if (bare instanceof MethodInvocationTree call) {
             String kind = result(call);

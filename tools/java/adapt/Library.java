@@ -35,6 +35,21 @@ final class Library {
             Map.entry("lowestOneBit", "static int $(int a) { return a & -a; }"),
             Map.entry("numberOfTrailingZeros", "static int $(int a) { int count = 0; while (count < 32 && (a >>> count & 1) == 0) count++; return count; }"),
             Map.entry("numberOfLeadingZeros", "static int $(int a) { int count = 0; while (count < 32 && (a << count) >= 0) count++; return a == 0 ? 32 : count; }"),
+            Map.entry("addExact", "static int $(int a, int b) { int sum = a + b; return ((a ^ sum) & (b ^ sum)) < 0 ? 1 / 0 : sum; }"),
+            Map.entry("subtractExact", "static int $(int a, int b) { int rest = a - b; return ((a ^ b) & (a ^ rest)) < 0 ? 1 / 0 : rest; }"),
+            Map.entry("multiplyExact", "static int $(int a, int b) { int product = a * b; return a != 0 && (product / a != b || a == -1 && b == -b && b != 0) ? 1 / 0 : product; }"),
+            Map.entry("incrementExact", "static int $(int a) { return a + 1 < a ? 1 / 0 : a + 1; }"),
+            Map.entry("decrementExact", "static int $(int a) { return a - 1 > a ? 1 / 0 : a - 1; }"),
+            Map.entry("negateExact", "static int $(int a) { return a == -a && a != 0 ? 1 / 0 : -a; }"),
+            Map.entry("toIntExact", "static int $(long a) { return a == (int) a ? (int) a : 1 / 0; }"),
+            Map.entry("toUnsignedLong", "static long $(int a) { return a & 4294967295L; }"),
+            Map.entry("signumLong", "static int $(long a) { return a < 0 ? -1 : a > 0 ? 1 : 0; }"),
+            Map.entry("compareLong", "static int $(long a, long b) { return a < b ? -1 : a == b ? 0 : 1; }"),
+            Map.entry("bitCountLong", "static int $(long a) { int count = 0; for (long rest = a; rest != 0; rest &= rest - 1) count++; return count; }"),
+            Map.entry("numberOfTrailingZerosLong", "static int $(long a) { int count = 0; while (count < 64 && (a >>> count & 1) == 0) count++; return count; }"),
+            Map.entry("numberOfLeadingZerosLong", "static int $(long a) { int count = 0; while (count < 64 && (a << count) >= 0) count++; return a == 0 ? 64 : count; }"),
+            Map.entry("hashOfLong", "static int $(long a) { return (int) (a ^ a >>> 32); }"),
+            Map.entry("hashOfBoxLong", "static int $(BoxedLong box) { return box == null ? 0 : (int) (box.value ^ box.value >>> 32); }"),
             Map.entry("isDigit", "static boolean $(int c) { return c >= 48 && c <= 57; }"),
             Map.entry("isLowerCase", "static boolean $(int c) { return c >= 97 && c <= 122; }"),
             Map.entry("isUpperCase", "static boolean $(int c) { return c >= 65 && c <= 90; }"),
@@ -47,6 +62,7 @@ final class Library {
             Map.entry("boxed", "static BoxedInt $(int number) { return number == -2147483648 ? null : new BoxedInt(number); }"),
             Map.entry("boxedTruth", "static BoxedBoolean $(int number) { return number < 0 ? null : new BoxedBoolean(number == 1); }"),
             Map.entry("newBoxedInt", "static BoxedInt $(int number) { return new BoxedInt(number); }"),
+            Map.entry("newBoxedLong", "static BoxedLong $(long number) { return new BoxedLong(number); }"),
             Map.entry("newBoxedBoolean", "static BoxedBoolean $(boolean truth) { return new BoxedBoolean(truth); }"),
             Map.entry("numberOf", "static int $(BoxedInt box) { return box == null ? -2147483648 : box.value == -2147483648 ? 1 / 0 : box.value; }"),
             Map.entry("numberOfTruth", "static int $(BoxedBoolean box) { return box == null ? -2147483648 : box.value ? 1 : 0; }"),
@@ -55,6 +71,7 @@ final class Library {
             Map.entry("isBoxOf", "static boolean $(int number, BoxedInt box) { return box != null && number == box.value; }"),
             Map.entry("isBoxOfTruth", "static boolean $(boolean truth, BoxedBoolean box) { return box != null && truth == box.value; }"),
             Map.entry("numbers", "static int[] $(int length) { int[] made = new int[length]; for (int i = 0; i < length; i++) made[i] = -2147483648; return made; }"),
+            Map.entry("numbersLong", "static long[] $(int length) { long[] made = new long[length]; for (int i = 0; i < length; i++) made[i] = -9223372036854775808L; return made; }"),
             Map.entry("constants", "static int[] $(int length) { int[] made = new int[length]; for (int i = 0; i < length; i++) made[i] = -1; return made; }"),
             Map.entry("ordinal", "static int $(int constant) { int[] none = null; return constant < 0 ? none.length : constant; }"),
             Map.entry("constantAt", "static int $(int index, int count) { BoxedInt[] none = new BoxedInt[0]; return index < 0 || index >= count ? none[0].value : index; }"),
@@ -100,10 +117,15 @@ final class Library {
     /** How an added method is called. */
     String method(String key, String kind, String equal) {
         String of = kind.isEmpty() ? "" : Kinds.mangled(kind);
-        String text = METHODS.get(key);
+        String text = METHODS.containsKey(key) ? METHODS.get(key) : ofLongs(key);
         return add(key.replace("@", of),
                 text.replace("@", of).replace("#", Kinds.printed(kind)).replace("(=)", "(" + equal + ")").replace("return =;",
                 "return " + equal + ";"));
+    }
+
+    /** A method over longs where there is one over ints alone: it differs in the types. */
+    private static String ofLongs(String key) {
+        return METHODS.get(key.substring(0, key.length() - "Long".length())).replace("int", "long").replace("BoxedInt", Kinds.LONG_BOX).replace("2147483648", "9223372036854775808L");
     }
 
     String method(String key) {
@@ -117,7 +139,7 @@ final class Library {
             for (int i = 2; !taken.add(name); i++) name = wanted + i;
             names.put(wanted, name);
             methods.put(wanted, text.replace("$", name));
-            if (text.contains(Kinds.BOX)) box(Kinds.BOX);
+            for (String box : List.of(Kinds.BOX, Kinds.LONG_BOX, Kinds.BOOLEAN_BOX)) if (text.contains(box)) box(box);
         }
         return Program.outermost(host).getSimpleName() + "." + name;
     }
@@ -268,7 +290,7 @@ final class Library {
     static String isLess(String element, String a, String b) {
         String value = Kinds.isBox(element) ? ".value" : "";
         String plain = Kinds.unboxOf(element);
-        if (plain.equals("int") || Kinds.isEnum(element)) return a + value + " < " + b + value;
+        if (Kinds.isPlainNumber(plain) || Kinds.isEnum(element)) return a + value + " < " + b + value;
         return plain.equals("boolean") ? "!" + a + value + " && " + b + value : b + ".compareTo(" + a + ") > 0";
     }
 
@@ -295,7 +317,7 @@ final class Library {
         Held.One held = kinds.held.ofKind(kind);
         String plain = held != null && held.isAscending() ? Templates.MAP.replaceFirst("(?m)^ *void append.*$", java.util.regex.Matcher.quoteReplacement(Templates.INSERTING_PAIR)) : Templates.MAP;
         add("MapOf" + of, name -> Templates.fill(plain, words)
-                + (sides[1].equals("int") ? Templates.fill(Templates.SUM, words) : "") + "}\n");
+                + (Kinds.isPlainNumber(sides[1]) ? Templates.fill(Templates.SUM, words) : "") + "}\n");
         if (kind.startsWith("LinkedMapOf")) add(kind, name -> "// A map.\nclass " + name + " extends MapOf" + of + " { }\n");
         if (kind.startsWith("SortedMapOf")) add(kind, name -> Templates.fill(Templates.SORTED_MAP, words));
     }
@@ -306,6 +328,6 @@ final class Library {
         add(kind.replaceFirst("Array", "Slot"), name -> Templates.fill(Templates.SLOT, words));
         add(kind, name -> Templates.fill(Templates.ARRAY, words)
                 + (element.startsWith("ArrayOf") ? Templates.fill(Templates.ROWS, words) : "")
-                + (element.equals("int") ? Templates.SORT : "") + "}\n");
+                + (Kinds.isPlainNumber(element) ? Templates.fill(Templates.SORT, words) : "") + "}\n");
     }
 }

@@ -79,7 +79,7 @@ final class Reach {
         if (predicate == null) return;
         for (TypeElement type : program.classes.values()) {
             String name = program.nameOf(type);
-            if (name.matches("HashSet|LinkedList|Object|BoxedInt|BoxedBoolean")) notes.refuse(program.place(program.trees.getTree(type)),
+            if (name.matches("HashSet|LinkedList|Object|BoxedInt|BoxedLong|BoxedBoolean")) notes.refuse(program.place(program.trees.getTree(type)),
                     "a class named " + name + ", which korat or Adapt has another one for", "rename it");
         }
         fin.objects().forEach((name, count) -> refuseAbstract(program.classes.get(name), count));

@@ -70,7 +70,7 @@ final class Rewriter {
         if (tree instanceof ClassTree local) return local(local);
         if (tree instanceof StatementTree statement) return statement.accept(statements, null);
         TypeMirror type = tree instanceof ExpressionTree ? program.type(tree) : null;
-        if (type != null && Set.of(TypeKind.LONG, TypeKind.FLOAT, TypeKind.DOUBLE).contains(type.getKind()))
+        if (type != null && Set.of(TypeKind.FLOAT, TypeKind.DOUBLE).contains(type.getKind()))
                 return expressions.isDeclared((ExpressionTree) tree) ? program.text(tree) : refusedNumber(tree, type.toString());
         String text = tree.accept(expressions, null);
         boolean place = tree instanceof IdentifierTree || tree instanceof MemberSelectTree || tree instanceof ArrayAccessTree;
@@ -80,7 +80,7 @@ final class Rewriter {
     }
 
     private String refusedNumber(Tree tree, String type) {
-        return refused(tree, "`" + type + "` is no type of korat's", "write int, or keep it out of what repOk reads");
+        return refused(tree, "`" + type + "` is no type of korat's", "write int or long, or keep it out of what repOk reads");
     }
 
     /** A tree's own text around the texts of its parts. */
@@ -173,7 +173,7 @@ final class Rewriter {
         boolean parameter = type.length() <= 1 || Character.isUpperCase(type.charAt(0)) && !ofLibrary
                 && program.elements.getTypeElement("java.lang." + type) == null
                 && program.elements.getTypeElement("java.util." + type) == null && !type.contains(".");
-        if (type.matches("(long|float|double|Long|Float|Double)(\\[])*")) refusedNumber(at, type);
+        if (type.matches("(float|double|Float|Double)(\\[])*")) refusedNumber(at, type);
         else if (type.equals("String")) refused(at, "`String` is no type of korat's",
                 "write a number or an object of a class of your own in its place");
         else if (type.equals("Object") && program.type(at) instanceof DeclaredType declared && !declared.getTypeArguments().isEmpty())
@@ -513,7 +513,7 @@ final class Rewriter {
         String start = (access.isEmpty() ? "" : access + " ") + type(tree, kind) + "\t" + field.getSimpleName();
         if (!reach.made.contains(type) || outers.isExtended(type)) return start;
         if (tree.getInitializer() != null) return start + " = " + expressions.value(tree.getInitializer(), kind);
-        return Kinds.isEnum(kind) ? start + " = -1" : Kinds.isStored(kind) ? start + " = " + Expressions.number(Kinds.NONE) : start;
+        return Kinds.isEnum(kind) ? start + " = -1" : Kinds.isStored(kind) ? start + " = " + Expressions.number(Kinds.none(kind)) : start;
     }
 
     /** Whether a field is declared as one of the library's collections, whatever its members are. */

@@ -101,7 +101,7 @@ final class Statements extends SimpleTreeVisitor<String, Void> {
         boolean constructor = method.getKind() == ElementKind.CONSTRUCTOR;
         String kind = !constructor ? kinds.of(method) : expressions.isMethod(method) ? "" : "void";
         if (kind.equals("void")) return "if (1 / 0 == 0) return;";
-        if (kind.equals("int") || Kinds.isEnum(kind)) return "return 1 / 0;";
+        if (Kinds.isPlainNumber(kind) || Kinds.isEnum(kind)) return "return 1 / 0;";
         return "return 1 / 0 == 0" + (kind.equals("boolean") ? ";" : " ? null : null;");
     }
 
@@ -378,7 +378,7 @@ final class Statements extends SimpleTreeVisitor<String, Void> {
     @Override
     public String visitSwitch(SwitchTree tree, Void nothing) {
         String kind = kinds.of(tree.getExpression());
-        if (!Kinds.isNumber(kind) && !Kinds.isEnum(kind))
+        if (!Kinds.isInt(kind) && !Kinds.isEnum(kind))
                 return rewriter.refused(tree, "a `switch` over " + kind.replace("?", ""), "write it as ifs");
         String chosen = program.freshName("chosen");
         declareShared(tree);

@@ -160,7 +160,7 @@ final class Templates {
             }
             """;
     static final String SUM = """
-                int addTo($K key, int value) { $Q pair = find(key); if (pair == null) put(key, value); else pair.value += value; return find(key).value; }
+                $V addTo($K key, $V value) { $Q pair = find(key); if (pair == null) put(key, value); else pair.value += value; return find(key).value; }
             """;
     static final String SLOT = """
             // An element of a long array that was met.
@@ -190,6 +190,6 @@ final class Templates {
                 static $N rows(int length, int width) { $N rows = new $N(length); for (int i = 0; i < length; i++) rows.set(i, new $X(width)); return rows; }
             """;
     static final String SORT = """
-                void sort() { for (int i = 1; i < length; i++) for (int j = i; j > 0 && get(j - 1) > get(j); j--) { int item = get(j); set(j, get(j - 1)); set(j - 1, item); } }
+                void sort() { for (int i = 1; i < length; i++) for (int j = i; j > 0 && get(j - 1) > get(j); j--) { $X item = get(j); set(j, get(j - 1)); set(j - 1, item); } }
             """;
 }

@@ -102,7 +102,7 @@ final class First {
     /** Whether the source looks whether a field of a box's type, or of any, is null. */
     private boolean isTestedForNull(VariableElement field) {
         String text = program.sourceOf(program.trees.getPath(field).getCompilationUnit()).text();
-        boolean any = field.asType().getKind() == TypeKind.TYPEVAR || field.asType().toString().matches("java\\.lang\\.(Integer|Boolean|Object)");
+        boolean any = field.asType().getKind() == TypeKind.TYPEVAR || field.asType().toString().matches("java\\.lang\\.(Integer|Long|Boolean|Object)");
         return any && Pattern.compile("\\b" + field.getSimpleName() + "\\s*[!=]=\\s*null\\b").matcher(text).find();
     }
 
@@ -116,10 +116,10 @@ final class First {
         String simple = simpleName(type);
         switch (simple) {
             case "boolean", "Boolean" -> { return "[false, true]"; }
-            case "byte", "short", "int", "Byte", "Short" -> { return numbers(name); }
+            case "byte", "short", "int", "long", "Byte", "Short" -> { return numbers(name); }
             case "char", "Character" -> { return "[{ from = 97, to = 99 }]  # 'a' to 'c'"; }
-            case "long", "Long", "float", "Float", "double", "Double" -> { return "[{ from = 0, to = 2 }]  # a " + simple + ": Adapt takes int alone"; }
-            case "Integer" -> { return "[{ from = 1, to = 3 }]  # `\"null\"` too, where it may be null"; }
+            case "float", "Float", "double", "Double" -> { return "[{ from = 0, to = 2 }]  # a " + simple + ": Adapt takes int and long alone"; }
+            case "Integer", "Long" -> { return "[{ from = 1, to = 3 }]  # `\"null\"` too, where it may be null"; }
             default -> { }
         }
         if (!(program.types.asElement(type) instanceof TypeElement named)) return "[{ from = 1, to = 3 }]  # values of any type: numbers, or a class of the sources";

@@ -9,7 +9,7 @@ import java.util.Map;
 /** A finitization, as far as rows and their enumeration need it. */
 final class Finitization {
     private static final int VALUES = 65_536;
-    /** The number that Adapt has for null among numbers, in a finitization that says so in its first line. */
+    /** The number that Adapt has for null among numbers, of a Long the least one, in a finitization that says so in its first line. */
     static final int NONE = Integer.MIN_VALUE;
     boolean hasNone;
     private final Path file;
@@ -147,7 +147,7 @@ final class Finitization {
         Map<String, Object> range = table(Map.of(item, value), item);
         long from = typed(Long.class, range.get("from"), item);
         long to = typed(Long.class, range.get("to"), item);
-        if (to - from >= VALUES) {
+        if (from <= to && (to - from < 0 || to - from >= VALUES)) {
             throw fault(item, "more than " + VALUES + " values");
         }
         return new Item(from, to, null, null);

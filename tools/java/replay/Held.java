@@ -166,6 +166,9 @@ record Held(String name, Class<?> type, List<String> members) {
             }
             return values.stream().filter(value -> !before.contains(value.told())).toList();
         }
+        if (slot > 0 && order(told.get(slot - step)) == Long.MAX_VALUE) {
+            return List.of();
+        }
         long least = slot == 0 ? Long.MIN_VALUE : order(told.get(slot - step)) + 1;
         long[] orders = values.stream().mapToLong(value -> order(value.told())).distinct().sorted().toArray();
         int after = (told.size() - slot) / step - 1;
@@ -174,6 +177,6 @@ record Held(String name, Class<?> type, List<String> members) {
     }
 
     private static long order(Object told) {
-        return told instanceof Boolean truth ? truth ? 1 : 0 : told instanceof Integer number ? number : Long.MIN_VALUE;
+        return told instanceof Boolean truth ? truth ? 1 : 0 : told instanceof Number number ? number.longValue() : Long.MIN_VALUE;
     }
 }

@@ -168,8 +168,9 @@ final class Model {
 
     /** What a number or a truth value of a row is where this type is wanted. */
     Object converted(Class<?> wanted, Object value, String place) throws Fault {
-        Object fit = value instanceof Integer number ? number(wanted, number) : value;
-        if (Integer.valueOf(Finitization.NONE).equals(value) && bounds.hasNone && !wanted.isPrimitive() || wanted.isEnum() && Integer.valueOf(-1).equals(value)) {
+        Object fit = value instanceof Number number ? number(wanted, number.longValue()) : value;
+        Object none = Structure.told(wanted == Long.class ? Long.MIN_VALUE : Finitization.NONE);
+        if (none.equals(value) && bounds.hasNone && !wanted.isPrimitive() || wanted.isEnum() && Integer.valueOf(-1).equals(value)) {
             fit = null;
         }
         if (fit == null ? wanted.isPrimitive() : !boxed(wanted).isInstance(fit)) {
@@ -183,14 +184,14 @@ final class Model {
     }
 
     /** The number as a value of the type: a character by its code, a constant of an enumeration by its place. */
-    private static Object number(Class<?> wanted, int number) {
+    private static Object number(Class<?> wanted, long number) {
         if (wanted.isEnum()) {
             Object[] constants = wanted.getEnumConstants();
-            return number >= 0 && number < constants.length ? constants[number] : number;
+            return number >= 0 && number < constants.length ? constants[(int) number] : number;
         }
         Class<?> type = boxed(wanted);
         if (type == Long.class) {
-            return (long) number;
+            return number;
         } else if (type == Boolean.class && !wanted.isPrimitive() && (number == 0 || number == 1)) {
             return number == 1;
         } else if (type == Character.class && number == (char) number) {
@@ -200,7 +201,7 @@ final class Model {
         } else if (type == Short.class && number == (short) number) {
             return (short) number;
         }
-        return number;
+        return Structure.told(number);
     }
 
     /** A new object of the name's class: of its constructor without parameters, or of none where it has no such one that returns. */

@@ -139,7 +139,11 @@ final class Space implements ObjIntConsumer<Object> {
                 choices.add(new Choice(item.truth(), model.converted(wanted, item.truth(), place), null));
             }
             for (long number = item.from(); number <= item.to(); number++) {
-                choices.add(new Choice((int) number, model.converted(wanted, (int) number, place), null));
+                Object told = Structure.told(number);
+                choices.add(new Choice(told, model.converted(wanted, told, place), null));
+                if (number == Long.MAX_VALUE) {
+                    break;
+                }
             }
         }
         return choices;

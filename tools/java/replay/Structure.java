@@ -48,12 +48,17 @@ record Structure(Map<Name, Map<String, Object>> objects) {
         };
     }
 
-    private static Integer number(String text) throws Fault {
+    private static Object number(String text) throws Fault {
         try {
-            return Integer.valueOf(text);
+            return told(Long.parseLong(text));
         } catch (NumberFormatException other) {
             throw new Fault("no value of a row: " + text);
         }
+    }
+
+    /** A number as it is told: an Integer where it is one, else a Long. */
+    static Object told(long number) {
+        return number == (int) number ? (Object) (int) number : (Object) number;
     }
 
     Name root() {

@@ -6,7 +6,7 @@ import java.util.Random;
 
 /** A class made at random: fields, locals of every kind that Adapt knows, collections, enums, boxes, arrays, loops, methods. */
 final class RandomClass {
-    private static final List<String> TYPES = List.of("int", "boolean", "Integer", "Boolean", "E", "byte", "char", "short");
+    private static final List<String> TYPES = List.of("int", "boolean", "Integer", "Boolean", "E", "byte", "char", "short", "long", "Long");
     private final long seed;
     private final Random random;
     /** Locals and fields that are seen, by their types; those of the innermost block are last. */
@@ -37,6 +37,8 @@ final class RandomClass {
         if (random.nextBoolean()) field(fields, bounds, "Integer", "x", random.nextBoolean() ? "[\"null\", 1, 2]" : "[1, 2]");
         if (random.nextBoolean()) field(fields, bounds, "E", "e", random.nextBoolean() ? "[\"null\", \"E\"]" : "[\"A\", \"C\"]");
         if (random.nextInt(3) == 0) field(fields, bounds, "Boolean", "t", random.nextBoolean() ? "[\"null\", true, false]" : "[true, false]");
+        if (random.nextInt(3) == 0) field(fields, bounds, "long", "u", "[0, 4294967297]");
+        if (random.nextInt(3) == 0) field(fields, bounds, "Long", "n", random.nextBoolean() ? "[\"null\", 1, -4294967296]" : "[1, 4294967297]");
         if (random.nextInt(3) == 0) field(fields, bounds, "Cell", "o", "[\"null\", \"Cell\"]");
         if (random.nextInt(3) == 0) {
             field(fields, bounds, "Integer[]", "b", "[\"Integer[]\"]");
@@ -75,7 +77,7 @@ final class RandomClass {
     /** A method under test with a contract, which writes fields. */
     private String tested() {
         writes = true;
-        String type = pick(List.of("int", "boolean", "Integer", "E", "void"));
+        String type = pick(List.of("int", "long", "boolean", "Integer", "E", "void"));
         int before = variables.size();
         variables.add(new String[] {"int", "p"});
         variables.add(new String[] {"E", "q"});
@@ -106,7 +108,7 @@ final class RandomClass {
     }
 
     private String method() {
-        String type = pick(List.of("int", "Integer", "E", "boolean", "Boolean"));
+        String type = pick(List.of("int", "Integer", "E", "boolean", "Boolean", "long", "Long"));
         int before = variables.size();
         String a = "p" + names++;
         String b = "p" + names++;
@@ -137,7 +139,7 @@ final class RandomClass {
         String value;
         switch (random.nextInt(4)) {
             case 0 -> {
-                type = pick(List.of("List<Integer>", "Set<Integer>", "Deque<Integer>", "Map<Integer, Integer>", "Map<Integer, E>", "List<E>", "List<Boolean>"));
+                type = pick(List.of("List<Integer>", "Set<Integer>", "Deque<Integer>", "Map<Integer, Integer>", "Map<Integer, E>", "List<E>", "List<Boolean>", "List<Long>"));
                 value = "new " + switch (type.substring(0, type.indexOf('<'))) {
                     case "List" -> pick(List.of("ArrayList", "LinkedList"));
                     case "Set" -> pick(List.of("LinkedHashSet", "TreeSet"));
@@ -146,7 +148,7 @@ final class RandomClass {
                 } + "<>()";
             }
             case 1 -> {
-                type = pick(List.of("int[]", "E[]", "boolean[]", "byte[]"));
+                type = pick(List.of("int[]", "E[]", "boolean[]", "byte[]", "long[]"));
                 String element = type.substring(0, type.length() - 2);
                 value = random.nextBoolean() ? "new " + element + "[3]" : "{ " + of(element, 1) + ", " + of(element, 1) + " }";
             }
@@ -189,10 +191,10 @@ final class RandomClass {
     private String assignment() {
         String[] one = variable(TYPES);
         if (one == null || isField(one[1]) && !writes) return ";\n";
-        String small = "byte|char|short|int";
+        String small = "byte|char|short|int|long";
         if (one[0].matches(small) && random.nextInt(3) == 0)
-                return one[1] + pick(List.of(" += ", " -= ", " *= ", " &= ", " |= ", " ^= ", " <<= ", " >>= ", " >>>= ", " /= ")) + of("int", 1) + ";\n";
-        if (one[0].matches(small + "|Integer") && random.nextInt(4) == 0) return one[1] + pick(List.of("++", "--")) + ";\n";
+                return one[1] + pick(List.of(" += ", " -= ", " *= ", " &= ", " |= ", " ^= ", " <<= ", " >>= ", " >>>= ", " /= ")) + of(random.nextInt(3) == 0 ? "long" : "int", 1) + ";\n";
+        if (one[0].matches(small + "|Integer|Long") && random.nextInt(4) == 0) return one[1] + pick(List.of("++", "--")) + ";\n";
         return one[1] + " = " + of(one[0], 2) + ";\n";
     }
 
@@ -202,13 +204,14 @@ final class RandomClass {
 
     private String change() {
         String[] one = variable(List.of("List<Integer>", "Set<Integer>", "Deque<Integer>", "Map<Integer, Integer>", "Map<Integer, E>", "List<E>", "List<Boolean>",
-                "int[]", "E[]", "boolean[]", "byte[]"));
+                "int[]", "E[]", "boolean[]", "byte[]", "long[]", "List<Long>"));
         if (one == null || open.contains(one[1]) || isHeld && isField(one[1]) && !writes) return assignment();
         String name = one[1];
         switch (one[0]) {
             case "List<Integer>": return name + pick(List.of(".add(" + member(name) + ")", ".remove(" + of("int", 1) + ")", ".add(0, " + of("int", 1) + ")",
                     ".remove(Integer.valueOf(" + of("int", 1) + "))", ".set(" + of("int", 1) + ", " + of("int", 1) + ")", ".clear()")) + ";\n";
             case "List<E>": return name + ".add(" + of("E", 1) + ");\n";
+            case "List<Long>": return name + pick(List.of(".add(" + wide(1) + ")", ".set(" + index() + ", " + wide(1) + ")", ".remove(" + wide(1) + ")")) + ";\n";
             case "List<Boolean>": return name + ".add(" + of("Boolean", 1) + ");\n";
             case "Set<Integer>": return name + pick(List.of(".add(" + member(name) + ")", ".remove(" + of("int", 1) + ")")) + ";\n";
             case "Deque<Integer>": return name + pick(List.of(".push(" + member(name) + ")", ".addLast(" + of("int", 1) + ")", ".poll()", ".pollLast()", ".pop()")) + ";\n";
@@ -234,12 +237,13 @@ final class RandomClass {
     }
 
     private String over(int deep, String result) {
-        String[] one = variable(List.of("List<Integer>", "Set<Integer>", "Deque<Integer>", "Map<Integer, Integer>", "List<E>", "int[]", "E[]", "byte[]"));
+        String[] one = variable(List.of("List<Integer>", "Set<Integer>", "Deque<Integer>", "Map<Integer, Integer>", "List<E>", "int[]", "E[]", "byte[]", "long[]", "List<Long>"));
         if (one == null) return counted(deep, result);
         String name = "y" + names++;
         String element = one[0].startsWith("Map") ? "Integer" : one[0].contains("<") ? one[0].substring(one[0].indexOf('<') + 1, one[0].length() - 1)
                 : one[0].substring(0, one[0].length() - 2);
         if (element.equals("Integer") && random.nextInt(3) == 0) element = "int";
+        if (element.equals("Long") && random.nextInt(3) == 0) element = "long";
         open.add(one[1]);
         variables.add(new String[] {element, name});
         loops++;
@@ -268,6 +272,8 @@ final class RandomClass {
     private String of(String type, int deep) {
         switch (type) {
             case "int": return number(deep);
+            case "long": return wide(deep);
+            case "Long": return boxedLong(deep);
             case "boolean": return truth(deep);
             case "Integer": return boxed(deep);
             case "Boolean": return random.nextInt(4) == 0 ? "null" : variable(type, () -> "Boolean.valueOf(" + truth(deep - 1) + ")");
@@ -284,7 +290,10 @@ final class RandomClass {
 
     private String number(int deep) {
         if (deep <= 0) return random.nextInt(3) == 0 ? String.valueOf(random.nextInt(5)) : variable("int", () -> "v");
-        switch (random.nextInt(20)) {
+        switch (random.nextInt(23)) {
+            case 20: return "(int) (" + wide(deep - 1) + ")";
+            case 21: return "Long." + pick(List.of("compare(" + wide(deep - 1) + ", ", "signum(0L + ")) + wide(deep - 1) + ")";
+            case 22: return collection("List<Long>", ".size()", ".indexOf(" + wide(0) + ")");
             case 0: case 1: case 2: return "(" + number(deep - 1) + pick(List.of(" + ", " - ", " * ", " & ", " | ", " ^ ", " << ", " >> ", " >>> ")) + number(deep - 1) + ")";
             case 3: return "(" + number(deep - 1) + pick(List.of(" / ", " % ")) + number(deep - 1) + ")";
             case 4: return "(0 + (" + truth(deep - 1) + " ? " + number(deep - 1) + " : " + box() + "))";
@@ -306,6 +315,35 @@ final class RandomClass {
         }
     }
 
+    /** A number of type `long`. */
+    private String wide(int deep) {
+        if (deep <= 0) return variable("long", () -> pick(List.of("4294967297L", "1L", "-9223372036854775808L", "(long) v")));
+        String other = random.nextBoolean() ? wide(deep - 1) : number(deep - 1);
+        switch (random.nextInt(14)) {
+            case 0: case 1: case 2: return "(" + wide(deep - 1) + pick(List.of(" + ", " - ", " * ", " & ", " | ", " ^ ", " << ", " >> ", " >>> ")) + other + ")";
+            case 3: return "(" + wide(deep - 1) + pick(List.of(" / ", " % ")) + other + ")";
+            case 4: return "(0L + (" + truth(deep - 1) + " ? " + wide(deep - 1) + " : " + other + "))";
+            case 5: return "Math." + pick(List.of("max", "min")) + "(" + wide(deep - 1) + ", " + other + ")";
+            case 6: return "Math.abs(" + wide(deep - 1) + ")";
+            case 7: return "(0L + " + variable("Long", () -> "v") + ")";
+            case 8: return "(0L + " + collection("long[]", "[" + index() + "]") + ")";
+            case 9: return "(0L + " + collection("List<Long>", ".get(" + index() + ")") + ")";
+            case 10: return pick(List.of("-(", "~(")) + wide(deep - 1) + ")";
+            case 11: return "(0L + " + call("long", deep) + ")";
+            default: return "((long) (" + number(deep - 1) + ")" + pick(List.of("", " * 4294967297L", " << 33")) + ")";
+        }
+    }
+
+    private String boxedLong(int deep) {
+        switch (random.nextInt(5)) {
+            case 0: return "null";
+            case 1: return "Long.valueOf(" + wide(deep - 1) + ")";
+            case 2: return deep <= 0 ? "null" : orNull(call("Long", deep));
+            case 3: return "(" + truth(deep - 1) + " ? " + variable("Long", () -> "null") + " : null)";
+            default: return variable("Long", () -> "null");
+        }
+    }
+
     private String stepped() {
         String[] one = variable(List.of("int"));
         if (one == null || isField(one[1]) || one[1].startsWith("i")) return "v";
@@ -318,7 +356,10 @@ final class RandomClass {
 
     private String truth(int deep) {
         if (deep <= 0) return random.nextInt(3) == 0 ? pick(List.of("true", "false")) : variable("boolean", () -> "v > 1");
-        switch (random.nextInt(14)) {
+        switch (random.nextInt(17)) {
+            case 14: return "(" + wide(deep - 1) + pick(List.of(" < ", " <= ", " > ", " >= ", " == ", " != ")) + (random.nextBoolean() ? wide(deep - 1) : number(deep - 1)) + ")";
+            case 15: return "(" + boxedLong(deep - 1) + pick(List.of(" == ", " != ")) + "null)";
+            case 16: return "Objects.equals(" + boxedLong(deep - 1) + ", " + boxedLong(deep - 1) + ")";
             case 0: case 1: return "(" + number(deep - 1) + pick(List.of(" < ", " <= ", " > ", " >= ", " == ", " != ")) + number(deep - 1) + ")";
             case 2: return "(" + truth(deep - 1) + pick(List.of(" && ", " || ", " & ", " | ", " ^ ", " == ", " != ")) + truth(deep - 1) + ")";
             case 3: return "!(" + truth(deep - 1) + ")";

@@ -1,0 +1,1 @@
+class A { long a = 01L; }

@@ -1,0 +1,1 @@
+class Cell { int v; boolean repOk() { return v > 0; } }

@@ -1,0 +1,1 @@
+class Cell { long v; boolean repOk() { return v > 0; } }

@@ -1,0 +1,1 @@
+class A { long m() { return (long) true; } }

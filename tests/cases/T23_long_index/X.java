@@ -1,0 +1,1 @@
+class A { int m(int[] a) { return a[0L]; } }

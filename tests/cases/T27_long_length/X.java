@@ -1,0 +1,1 @@
+class A { void m() { int[] a = new int[1L]; } }

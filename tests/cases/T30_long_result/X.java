@@ -1,0 +1,1 @@
+class A { int m() { return 1L; } }

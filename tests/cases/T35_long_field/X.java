@@ -1,0 +1,1 @@
+class A { int v = 1L; }

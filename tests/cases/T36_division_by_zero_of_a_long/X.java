@@ -1,0 +1,1 @@
+class A { static final long K = 1L / 0; }

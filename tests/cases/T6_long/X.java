@@ -1,0 +1,1 @@
+class A { long m() { return 9223372036854775808L; } }

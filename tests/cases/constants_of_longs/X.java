@@ -1,0 +1,1 @@
+class Cell { static final long K = 2147483647 + 1; static final long L = 2147483647L + 1; static final long M = (int) 4294967297L; static final long N = 1 << 33; int v; boolean repOk() { return v == 0 ? K == -2147483648 : v == 1 ? L == 2147483648L : v == 2 && M == 1 && N == 2; } }

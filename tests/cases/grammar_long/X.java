@@ -1,1 +1,0 @@
-class A { long x; }

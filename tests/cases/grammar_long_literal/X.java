@@ -1,1 +1,0 @@
-class A { int a = 1L; }

@@ -1,0 +1,1 @@
+class S { long[] a; boolean repOk() { return a[0] == 4294967296L; } }

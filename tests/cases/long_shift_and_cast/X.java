@@ -1,0 +1,1 @@
+class Cell { int v; boolean repOk() { return v >= 0 && 1 << 33 == 2 && 1L << 33 == 8589934592L && (int) 8589934592L == 0; } }
