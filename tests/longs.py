@@ -163,8 +163,13 @@ def write(name, text):
         file.write(text)
 
 
+def by_place(texts):
+    """`?:` over `j`."""
+    return "".join(f"j == {j} ? {text} : " for j, text in enumerate(texts[:-1])) + texts[-1]
+
+
 def chosen(values, are_right):
-    """`?:` over `j` for the values of a row, made wrong where they aren't to be right; a trap's place has any."""
+    """The values of a row by their places, made wrong where they aren't to be right; a trap's place has any."""
     texts = []
     for value in values:
         if value is None:
@@ -172,7 +177,7 @@ def chosen(values, are_right):
         elif not are_right:
             value = not value if isinstance(value, bool) else value ^ 1
         texts.append(literal(value))
-    return "".join(f"j == {j} ? {text} : " for j, text in enumerate(texts[:-1])) + texts[-1]
+    return by_place(texts)
 
 
 def wanted(number, sheet, are_right):
@@ -257,14 +262,16 @@ def constants(left, right, made, are_right):
         of = "boolean" if sheet.type == "boolean" else "long"
         for i, values in enumerate(sheet.values):
             for j, value in enumerate(values):
-                a, b = operand(left, i, (i + j) % 2), operand(right, j, (i + j + 1) % 2)
+                operands = {"a": operand(left, i, (i + j) % 2), "b": operand(right, j, (i + j + 1) % 2)}
                 if value is not None:
-                    text.append(f"  static final {sheet.type} C{number}_{i}_{j} = {re.sub('[ab]', lambda m: a if m[0] == 'a' else b, sheet.text)};\n")
+                    initial = re.sub("[ab]", lambda found: operands[found[0]], sheet.text)
+                    text.append(f"  static final {sheet.type} C{number}_{i}_{j} = {initial};\n")
             names = [f"C{number}_{i}_{j} == e" if value is not None else "false" for j, value in enumerate(values)]
-            text.append(f"  boolean t{number}_{i}({of} e) {{\n    return " + "".join(f"j == {j} ? {name} : " for j, name in enumerate(names[:-1])) + names[-1] + ";\n  }\n")
+            text.append(f"  boolean t{number}_{i}({of} e) {{\n    return {by_place(names)};\n  }}\n")
         tests = "".join(f"    if (i == {i}) return t{number}_{i}(e);\n" for i in range(15))
         text.append(f"  boolean t{number}({of} e) {{\n{tests}    return false;\n  }}\n")
-    text.append("  boolean repOk() {\n" + "".join(f"    if (k == {n}) return t{n}(w{n}(i, j));\n" for n in range(len(made))) + "    return false;\n  }\n}\n")
+    tests = "".join(f"    if (k == {n}) return t{n}(w{n}(i, j));\n" for n in range(len(made)))
+    text.append(f"  boolean repOk() {{\n{tests}    return false;\n  }}\n}}\n")
     write("Row.java", "".join(text))
     write("row.toml", finitization(f'"Row.k" = {upto(len(made))}\n"Row.i" = {upto(15)}\n"Row.j" = {upto(15)}\n'))
     lines = rows_of(left, right, made, lambda k, i, j, x, y, value:
@@ -278,7 +285,8 @@ def conditions(left, right, made, are_right):
     text = ["class Row {\n  boolean repOk() { return true; }\n"]
     text += [wanted(number, sheet, are_right) for number, sheet in enumerate(made)] + [place(left, "i"), place(right, "j")]
     for number, sheet in enumerate(made):
-        text.append(f"  //@ ensures k != {number} || ({sheet.text}) == {'(result == 1)' if sheet.type == 'boolean' else 'result'};\n".replace("result", "\\result"))
+        result = "(\\result == 1)" if sheet.type == "boolean" else "\\result"
+        text.append(f"  //@ ensures k != {number} || ({sheet.text}) == {result};\n")
     text.append(f"  long m(int k, {left} a, {right} b) {{\n    int i = i(a);\n    int j = j(b);\n")
     for number, sheet in enumerate(made):
         value = f"w{number}(i, j)"
@@ -288,10 +296,14 @@ def conditions(left, right, made, are_right):
     write("row.toml", finitization("", f'"m.k" = {upto(len(made))}\n"m.a" = {EDGES[left]}\n"m.b" = {EDGES[right]}\n'))
     traps = sum(value is None for sheet in made for values in sheet.values for value in values)
     rows = len(made) * 225
-    lines = rows_of(left, right, made, lambda k, i, j, x, y, value: f"0.{k}.{i}.{j} " + (
-        "check-trap ArithmeticException" if value is None else "pass" if are_right else f"ensures {k + 1}") + f" (k={k},a={x},b={y}) Row#0{{}}")
-    compare(f"ensures of {left} and {right}{'' if are_right else ', made wrong'}", ["test", "row.toml", "m", "Row.java"], 1 if traps or not are_right else 0,
-            lines + [f"valid {rows} failing {traps if are_right else rows} tried {rows}"])
+
+    def verdict(k, value):
+        return "check-trap ArithmeticException" if value is None else "pass" if are_right else f"ensures {k + 1}"
+
+    lines = rows_of(left, right, made, lambda k, i, j, x, y, value: f"0.{k}.{i}.{j} {verdict(k, value)} (k={k},a={x},b={y}) Row#0{{}}")
+    failing = traps if are_right else rows
+    compare(f"ensures of {left} and {right}{'' if are_right else ', made wrong'}", ["test", "row.toml", "m", "Row.java"], 1 if failing else 0,
+            lines + [f"valid {rows} failing {failing} tried {rows}"])
 
 
 def main():

@@ -9,7 +9,7 @@ bounds. `list` and `test` have to end as that says: with the method's results, w
 the very rows where the fuel is just enough for all, and where it is just too little for some. KORAT names the program; KEEP
 a folder for the programs. The last line is `N passed, M failed`, and the status is 0 where none failed.
 """
-import collections, os, random, shutil, string, subprocess, sys, tempfile
+import collections, itertools, os, random, shutil, string, subprocess, sys, tempfile
 
 TOP = os.path.dirname(os.path.dirname(os.path.abspath(__file__)))
 KORAT = os.path.abspath(os.environ.get("KORAT", os.path.join(TOP, "crates/korat/out/korat")))
@@ -535,8 +535,9 @@ class Program:
         names = "".join(f", old{n}" for n in range(len(kinds)))
         conditions = [f"    {kind} o{n}({parameters}) {{ return {old.counted}; }}" for n, (kind, old) in enumerate(self.olds)]
         conditions += [f"    boolean r{n}({parameters}) {{ return {one.counted}; }}" for n, one in enumerate(self.requires)]
-        conditions += [f"    boolean e{n}({parameters}, {self.kind} result{olds}) {{ return {one.counted}; }}" for n, one in enumerate(self.ensures)]
-        keys = [[]] + [[place] + [(n >> (length - 1 - bit)) & 1 for bit in range(length)] for place, length in enumerate(self.lengths) for n in range(2**length)]
+        conditions += [f"    boolean e{n}({parameters}, {self.kind} result{olds}) {{ return {one.counted}; }}"
+                       for n, one in enumerate(self.ensures)]
+        keys = [[]] + [[place, *chosen] for place, length in enumerate(self.lengths) for chosen in itertools.product(range(2), repeat=length)]
         return COPY.substitute(
             package=package, x_kind=self.x_kind, y_kind=self.y_kind, kind=self.kind, element=self.element, v=many(self.v, "int"),
             w=many(self.w, "long"), x=many(self.x, self.x_kind), y=many(self.y, self.y_kind), elements=many(self.elements, self.element),
