@@ -170,7 +170,9 @@ def lacking():
         status, out, error = run(["upgrade", "long.toml"], place, preexec_fn=little)
         if status != 127 and b"error while loading" not in error:
             ends[status] = ends.get(status, 0) + 1
-            count((status, out, error) in (whole, (8, b"out of memory\n", b"")), f"{size} KB: {status}, {len(out)} bytes, {error[:80]}")
+            # Where there is no memory for the words either, nothing is written.
+            ended = (status, out, error) in (whole, (8, b"out of memory\n", b""), (8, b"", b""))
+            count(ended, f"{size} KB: {status}, {len(out)} bytes, {error[:80]}")
     count(0 in ends and 8 in ends, f"ends with little memory: {ends}")
     for lines in (0, 1, 5, 100):
         call = subprocess.Popen([KORAT, "upgrade", "long.toml"], cwd=place, stdin=subprocess.DEVNULL, stdout=subprocess.PIPE, stderr=subprocess.PIPE)
