@@ -211,7 +211,7 @@ final class Kinds {
         return kind.equals("~long") ? (Number) Long.MIN_VALUE : (Number) Integer.MIN_VALUE;
     }
 
-    /** What is behind the name of an added method that there is for ints, for longs and for truth values. */
+    /** What follows the name of an added method, of which there is one for ints, one for longs and one for truth values. */
     static String suffix(String kind) {
         return unboxOf(read(kind)).equals("long") ? "Long" : unboxOf(read(kind)).equals("boolean") ? "Truth" : "";
     }
@@ -538,7 +538,7 @@ final class Kinds {
         }
     }
 
-    /** Whether null stands among numbers in a domain, of this kind where one is said. */
+    /** Whether null is among numbers in a domain, of this kind where one is said. */
     boolean hasNone(String wanted) {
         return fin.fields().keySet().stream().map(this::kindOfKey).anyMatch(kind -> wanted.isEmpty() ? kind.startsWith("~") : kind.equals(wanted));
     }

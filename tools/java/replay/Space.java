@@ -325,7 +325,7 @@ final class Space implements ObjIntConsumer<Object> {
         model.collection(cell.name.type()).fill(cell.real, Arrays.asList(cell.members));
     }
 
-    /** Whether the members of all collections that are reachable, and were read, stand in the order in which they are listed. */
+    /** Whether the members of all collections that are reachable, and were read, are in the order in which they are listed. */
     boolean isListed() {
         return reachable(false).stream().allMatch(cell -> !cell.name.isCollection() || cell.slots.isEmpty() || !cell.decided[0]
                 || model.collection(cell.name.type()).isListed(Arrays.asList(cell.told)));

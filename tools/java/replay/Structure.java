@@ -56,7 +56,7 @@ record Structure(Map<Name, Map<String, Object>> objects) {
         }
     }
 
-    /** A number as it is told: an Integer where it is one, else a Long. */
+    /** A number as the report has it: an Integer where it is one, else a Long. */
     static Object told(long number) {
         return number == (int) number ? (Object) (int) number : (Object) number;
     }
