@@ -80,39 +80,41 @@ is_front() {
     [ "$length" -le "$1" ] && head -c "$length" whole | cmp -s - out
 }
 
-# A listing shared in a way: the whole of it by writes of a byte, and with each write and each read failing in turn, writes taking
-# at most so many bytes: table STEP SHARING FIN SOURCE
+# A listing, or its builders: the whole of it by writes of a byte, and with each write and each read failing in turn, writes taking
+# at most so many bytes: table STEP COMMAND FIN SOURCE
 table() {
-    local step=$1 sharing=$2 files="$3 $4" put read status ended=no
-    "$program" list $sharing $files >whole </dev/null
-    status=$(fail 1 0 0 list $sharing $files)
+    local step=$1 command=$2 files="$3 $4" put read status ended=no
+    "$program" $command $files >whole </dev/null
+    status=$(fail 1 0 0 $command $files)
     [ "$status" = 0 ] && cmp -s whole out && [ ! -s err ]
-    count $? "list $sharing $files, a byte a write: status $status"
+    count $? "$command $files, a byte a write: status $status"
     for ((put = first; put <= last; put++)); do
-        status=$(fail "$step" "$put" 0 list $sharing $files)
+        status=$(fail "$step" "$put" 0 $command $files)
         if [ "$status" = 7 ]; then
             is_front $((step * (put - 1))) && [ ! -s err ] && [ "$ended" = no ]
         else
             ended=yes
             [ "$status" = 0 ] && cmp -s whole out && [ ! -s err ]
         fi
-        count $? "list $sharing $files, $step bytes a write, write $put fails: status $status, $(stat -c %s out) bytes"
+        count $? "$command $files, $step bytes a write, write $put fails: status $status, $(stat -c %s out) bytes"
     done
     for read in 1 2 3 4 5; do
-        status=$(fail "$step" 0 "$read" list $sharing $files)
+        status=$(fail "$step" 0 "$read" $command $files)
         if [ "$status" = 6 ]; then
             [[ "$(cat out)" =~ ^"read fault "($3|$4)$ ]]
         else
             [ "$read" -gt 2 ] && [ "$status" = 0 ] && cmp -s whole out
         fi
-        count $? "list $sharing $files, read $read fails: status $status, $(cat out)"
+        count $? "$command $files, read $read fails: status $status, $(cat out)"
     done
 }
 
 for sharing in '--workers 1' '--workers 3' '--workers 3 --window 1' '--workers 3 --pool deque' '--workers 1 --trace'; do
-    table 4 "$sharing" n.toml N.java
-    table 100 "$sharing" trees.toml Tree.java
+    table 4 "list $sharing" n.toml N.java
+    table 100 "list $sharing" trees.toml Tree.java
 done
+table 4 emit n.toml N.java
+table 100 emit trees.toml Tree.java
 
 # The same of a finitization that is carried over: it has one read of a file, and a few writes.
 "$program" upgrade n.toml >whole </dev/null

@@ -1,5 +1,5 @@
 #!/usr/bin/env python3
-"""Tries listings and tests by several workers, in rounds and over deques, against one worker's, where little goes well.
+"""Tries listings, tests and builders where little goes well; listings and tests by several workers against one worker's.
 
     tests/hostile.py [PART..]      the parts that are tried, all where none is said
 
@@ -250,6 +250,16 @@ def trees(work, nodes):
     return run(["list", "trees.toml", "Tree.java"], work)[1]
 
 
+def written_by(work, ways):
+    """Calls over eight nodes' trees, and the bytes of each: a listing by one worker, its builders, and the listing in these ways."""
+    whole = trees(work, 8)
+    files = ["trees.toml", "Tree.java"]
+    yield ["list", *files], whole
+    yield ["emit", *files], run(["emit", *files], work)[1]
+    for way in ways:
+        yield ["list", *way, *files], whole
+
+
 def checked():
     with tempfile.TemporaryDirectory() as work:
         trees(work, 8)
@@ -277,10 +287,9 @@ def checked():
 
 def pipes():
     with tempfile.TemporaryDirectory() as work:
-        whole = trees(work, 8)
-        for way in [[], *WAYS]:
+        for words, whole in written_by(work, WAYS):
             rows = CHANCE.choice([0, 1, 2, 5, 100, 1000])
-            call = subprocess.Popen([KORAT, "list", *way, "trees.toml", "Tree.java"], cwd=work, stdin=subprocess.DEVNULL, stdout=subprocess.PIPE, stderr=subprocess.PIPE)
+            call = subprocess.Popen([KORAT, *words], cwd=work, stdin=subprocess.DEVNULL, stdout=subprocess.PIPE, stderr=subprocess.PIPE)
             front = b"".join(call.stdout.readline() for _ in range(rows))
             call.stdout.close()
             try:
@@ -289,28 +298,27 @@ def pipes():
                 call.kill()
                 status = "hangs"
             error = call.stderr.read()
-            count(status == 7 and whole.startswith(front) and error == b"", f"a reader that leaves after {rows} rows, {way}: {status} {error[:80]}")
+            count(status == 7 and whole.startswith(front) and error == b"", f"a reader that leaves after {rows} lines, {words}: {status} {error[:80]}")
 
 
 def full():
     with tempfile.TemporaryDirectory() as work, tempfile.TemporaryDirectory() as disk:
-        whole = trees(work, 8)
         for size in (4096, 65536, 131072):
             if subprocess.run(["mount", "-t", "tmpfs", "-o", f"size={size}", "tmpfs", disk], stderr=subprocess.DEVNULL).returncode:
                 print("a disk that fills up isn't tried: no tmpfs can be mounted")
                 break
-            for way in [[], *CHANCE.sample(WAYS, 14)]:
+            for words, whole in written_by(work, CHANCE.sample(WAYS, 14)):
                 with open(disk + "/out", "wb") as out:
-                    status, _, error = run(["list", *way, "trees.toml", "Tree.java"], work, stdout=out)
+                    status, _, error = run(words, work, stdout=out)
                 written = open(disk + "/out", "rb").read()
                 good = status == 7 and whole.startswith(written) and len(written) == min(size, len(whole)) and error == b""
-                count(good, f"a disk of {size} bytes, {way}: {status}, {len(written)} bytes")
+                count(good, f"a disk of {size} bytes, {words}: {status}, {len(written)} bytes")
                 os.remove(disk + "/out")
             subprocess.run(["umount", disk])
-        for way in [[], *WAYS]:
+        for words, _ in written_by(work, WAYS):
             with open("/dev/full", "wb") as out:
-                status, _, error = run(["list", *way, "trees.toml", "Tree.java"], work, stdout=out)
-            count(status == 7 and error == b"", f"/dev/full, {way}: {status}")
+                status, _, error = run(words, work, stdout=out)
+            count(status == 7 and error == b"", f"/dev/full, {words}: {status}")
 
 
 def is_whole_or_told(status, out, whole):
@@ -342,30 +350,28 @@ def memory():
 
 def stack():
     with tempfile.TemporaryDirectory() as work:
-        whole = trees(work, 8)
         for size in (64, 96, 128, 256, 1024):
             def small(size=size):
                 resource.setrlimit(resource.RLIMIT_STACK, (size * 1024, size * 1024))
 
-            for way in [[], *CHANCE.sample(WAYS, 4)]:
-                status, out, error = run(["list", *way, "trees.toml", "Tree.java"], work, preexec_fn=small)
-                count((status, out, error) == (0, whole, b""), f"a stack of {size} KB, {way}: {status}, {len(out)} bytes, {error[:80]}")
+            for words, whole in written_by(work, CHANCE.sample(WAYS, 4)):
+                status, out, error = run(words, work, preexec_fn=small)
+                count((status, out, error) == (0, whole, b""), f"a stack of {size} KB, {words}: {status}, {len(out)} bytes, {error[:80]}")
 
 
 def size():
     with tempfile.TemporaryDirectory() as work:
-        whole = trees(work, 8)
         for most in (0, 1, 512, 4096, 65536, 100000):
             def limited(most=most):
                 signal.signal(signal.SIGXFSZ, signal.SIG_IGN)
                 resource.setrlimit(resource.RLIMIT_FSIZE, (most, most))
 
-            for way in [[], *CHANCE.sample(WAYS, 6)]:
+            for words, whole in written_by(work, CHANCE.sample(WAYS, 6)):
                 with open(work + "/out", "wb") as out:
-                    status, _, error = run(["list", *way, "trees.toml", "Tree.java"], work, stdout=out, preexec_fn=limited, restore_signals=False)
+                    status, _, error = run(words, work, stdout=out, preexec_fn=limited, restore_signals=False)
                 written = open(work + "/out", "rb").read()
                 good = status == 7 and whole.startswith(written) and len(written) == min(most, len(whole)) and error == b""
-                count(good, f"a file of at most {most} bytes, {way}: {status}, {len(written)} bytes")
+                count(good, f"a file of at most {most} bytes, {words}: {status}, {len(written)} bytes")
 
 
 def interrupted(filters, words, work):
@@ -394,16 +400,15 @@ def signals():
 
 def waiting():
     with tempfile.TemporaryDirectory() as work:
-        whole = trees(work, 8)
-        for way in [[], *CHANCE.sample(WAYS, 8)]:
+        for words, whole in written_by(work, CHANCE.sample(WAYS, 8)):
             reader, writer = os.pipe()
             fcntl.fcntl(writer, fcntl.F_SETFL, fcntl.fcntl(writer, fcntl.F_GETFL) | os.O_NONBLOCK)
             fcntl.fcntl(writer, fcntl.F_SETPIPE_SZ, 4096)
-            status, _, error = run(["list", *way, "trees.toml", "Tree.java"], work, stdout=writer)
+            status, _, error = run(words, work, stdout=writer)
             os.close(writer)
             front = os.read(reader, 1 << 20)
             os.close(reader)
-            count(status == 7 and whole.startswith(front) and error == b"", f"a full pipe that doesn't block, {way}: {status}, {len(front)} bytes")
+            count(status == 7 and whole.startswith(front) and error == b"", f"a full pipe that doesn't block, {words}: {status}, {len(front)} bytes")
 
 
 FOUR = """class Four {

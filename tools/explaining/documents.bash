@@ -250,5 +250,6 @@ explain_document() {
     S7) explain_method repOk ;;
     S8) explain_method "${method:-}" ;;
     S9) explain_strange_key "$item" ;;
+    E3) echo "a class that holds the inner array, in place of it: see \`BUILDERS.md\`" ;;
     esac
 }

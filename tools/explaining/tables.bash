@@ -11,7 +11,7 @@ row_of() {
             text = cell[3]; gsub(/^ +| +$/, "", text); gsub("\001", "|", text)
             print word ": " text
             exit
-        }' "$docs/LANGUAGE.md" "$docs/FINITIZATION.md" "$docs/REPORT.md"
+        }' "$docs/LANGUAGE.md" "$docs/FINITIZATION.md" "$docs/BUILDERS.md" "$docs/REPORT.md"
 }
 
 # The example that a table has for a class or typing rule.

@@ -144,7 +144,7 @@ for word in $unused; do
 done
 
 # Each rule at a place has a row in docs/, and each class and typing rule with an example has that.
-for rule in B1 L{1..6} P{1..3} C{1..8} T{1..40} I1; do
+for rule in B1 L{1..6} P{1..3} C{1..8} T{1..40} I1 E1 E2; do
     told "none.java:1:1: $rule" "$rule: "
 done
 for rule in C{1..7} T1 T{3..40}; do
@@ -262,6 +262,9 @@ second='s/^fuel/version = 2\nfuel/;s/^List = 1/List = { class = "List", count = 
 document "$second"';s/^Node = 2/"1x" = { class = "Node", count = 2 }/' 'F3 objects.1x' 'named by an identifier'
 document "$second"';s/^Node = 2/Node = { count = 2 }/' 'F5 objects.Node' 'in [objects]: Node = { class = '
 told 'f.toml: F7 version' 'of `upgrade` alone'
+told 'none.toml: E3 arrays.int[][]' 'E3: an array type of `[arrays]`'
+told '// more 0.1' 'there are more: --from 0.1 goes on'
+told '// spent 0.1' 'the range has a spent run'
 told 'f.toml: S1 root' 'with the words of the call behind --'
 told 'none.toml: S1 root' "none.toml can't be read here"
 printf 'root = "\xff"\n' >bytes.toml

@@ -44,7 +44,7 @@ made=checkout/crates/korat/out/korat
 # ---- words that are no command
 
 synopsis=$("$top/korat" 2>&1 >/dev/null)
-[ "$(grep -c 'korat \(list\|test\|check\|demo\|shard\|merge\|upgrade\|trace\) ' <<<"$synopsis")" = 8 ] && [ "$(wc -l <<<"$synopsis")" = 8 ]
+[ "$(grep -c 'korat \(list\|test\|check\|demo\|shard\|merge\|upgrade\|trace\|emit\) ' <<<"$synopsis")" = 9 ] && [ "$(wc -l <<<"$synopsis")" = 9 ]
 count $? "the synopsis: $synopsis"
 [ "$(sed 's/^usage: //; s/^ *//' <<<"$synopsis")" = "$(sed -n 's/^    \(korat .*\)/\1/p' "$top/docs/COMMAND_LINE.md")" ]
 count $? "the synopsis isn't that of docs/COMMAND_LINE.md"
@@ -96,7 +96,7 @@ done
 # ---- the launcher's own words
 
 PATH=$work/without_rt run 0 "help" "$launched" --help
-[ "$(head -n 8 out)" = "$synopsis" ] && [ "$(grep -cE '^  (list|test|check|demo|shard|merge|upgrade|trace) +[a-z]' out)" = 8 ] && [ ! -s err ]
+[ "$(head -n 9 out)" = "$synopsis" ] && [ "$(grep -cE '^  (list|test|check|demo|shard|merge|upgrade|trace|emit) +[a-z]' out)" = 9 ] && [ ! -s err ]
 count $? "help: $(cat out err)"
 PATH=$work/without_rt run 0 "the version" "$launched" --version
 [ "$(cat out)" = $'korat unknown\nprogram: none yet' ] && [ ! -s err ]

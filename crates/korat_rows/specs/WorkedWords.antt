@@ -6,7 +6,7 @@ use Rattle.kr_base.specs.declared.span.Bound.TheVariants.{At, End}
 use Rattle.kr_args.specs.declared.forms.Ask.{Ask}
 use Rattle.kr_args.specs.declared.forms.Command.{Command}
 use Rattle.kr_args.specs.declared.forms.Command.TheVariants.{Check as Checks, Merge as Merges, Upgrade as Upgrades, Search as Searches}
-use Rattle.kr_args.specs.declared.forms.Search.TheVariants.{List as Lists, Test as Tests, Demo as Demos, Shard as Shards}
+use Rattle.kr_args.specs.declared.forms.Search.TheVariants.{List as Lists, Test as Tests, Demo as Demos, Shard as Shards, Emit as Emits}
 use Rattle.kr_args.specs.declared.forms.Pool.TheVariants.{Board, Deque}
 use Rattle.kr_args.specs.Reading.{command_of}
 
@@ -109,6 +109,11 @@ pub record WorkedWords : Type 0 where
   pub shard_has_no_window : command_of (with_files (codes "shard") (codes "--window" ∷ codes "2" ∷ [])) ≡ None
   pub shard_has_no_pool : command_of (with_files (codes "shard") (codes "--pool" ∷ codes "deque" ∷ [])) ≡ None
   pub shard_has_no_trace : command_of (with_files (codes "shard") (codes "--trace" ∷ [])) ≡ None
+  pub emit : command_of (with_files (codes "emit") (codes "--from" ∷ codes "0.2" ∷ codes "--to" ∷ codes "1" ∷ codes "--limit" ∷ codes "3" ∷ [])) ≡ Some (Searches (Emits (wanted (0 ∷ 2 ∷ []) (At (1 ∷ [])) 3)))
+  pub emit_of_all : command_of (with_files (codes "emit") []) ≡ Some (Searches (Emits (wanted [] End 4294967295)))
+  pub emit_without_source : command_of (codes "emit" ∷ codes "f" ∷ []) ≡ None
+  pub emit_has_no_workers : command_of (with_files (codes "emit") (codes "--workers" ∷ codes "1" ∷ [])) ≡ None
+  pub emit_has_no_trace : command_of (with_files (codes "emit") (codes "--trace" ∷ [])) ≡ None
   pub merge : command_of (codes "merge" ∷ codes "s2" ∷ codes "s1" ∷ []) ≡ Some (Merges (codes "s2" ∷ codes "s1" ∷ []))
   pub merge_of_none : command_of (codes "merge" ∷ []) ≡ None
   pub upgrade : command_of (codes "upgrade" ∷ codes "f" ∷ []) ≡ Some (Upgrades (codes "f"))

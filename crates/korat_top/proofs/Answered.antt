@@ -22,6 +22,7 @@ use Rattle.korat_top_files.specs.Chains.{from_texts}
 use Rattle.korat_top.specs.Answer.{IsTold, ReadsFor, inputs_of, steps_of}
 use Rattle.korat_top_files.specs.Found.{FindsIn, Meets}
 use Rattle.korat_top_files.specs.Upgrades.{FindsUpgrade}
+use Rattle.korat_top_files.specs.Builds.{FindsBuilds}
 use Rattle.korat_top.specs.Ends.{IsGiven}
 use Rattle.korat_top.specs.Found.{Finds}
 use Rattle.korat_top_files.proofs.Chained.{to_checks, to_judges}
@@ -63,6 +64,14 @@ pub shard_found : {F : Type 0} (held : F → Held) (faults : F → ℕ) (last : 
     → FindsIn held faults last Listing (files_of ask.fin ask.sources) files files' r → Finds held faults last (commands.Search (searches.Shard ask)) files files' r
 shard_found held faults last ask files files' r h =
     checks_found held faults last (commands.Search (searches.Shard ask)) Listing (files_of ask.fin ask.sources) files files' r (λ x c. c) (λ t. t) (λ file s. s) refl h
+
+-- what the steps of builders come to is what the command's do
+pub emit_found : {F : Type 0} (held : F → Held) (faults : F → ℕ) (last : F → Option (List ℕ)) (ask : Ask) (files files' : F) (r : Result Problem Stop)
+    → FindsBuilds held faults last (files_of ask.fin ask.sources) files files' r → Finds held faults last (commands.Search (searches.Emit ask)) files files' r
+emit_found held faults last ask files files' (Ok f) h = h
+emit_found held faults last ask files files' (Err (Refused x)) h = h
+emit_found held faults last ask files files' (Err (Read failed)) h = h
+emit_found held faults last ask files files' (Err (Memory why)) h = tt
 
 pub test_found : {F : Type 0} (held : F → Held) (faults : F → ℕ) (last : F → Option (List ℕ)) (method : List ℕ) (ask : Ask) (files files' : F) (r : Result Problem Stop)
     → FindsIn held faults last (Testing method) (files_of ask.fin ask.sources) files files' r → Finds held faults last (commands.Search (searches.Test method ask)) files files' r

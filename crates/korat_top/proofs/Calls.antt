@@ -156,6 +156,7 @@ rows_same (searches.List ask) problem answer h = logged_rows ask.trace ask probl
 rows_same (searches.Test method ask) problem answer h = logged_rows ask.trace ask problem (listing_of ask problem) answer h
 rows_same (searches.Demo n workers) problem answer h = ap (λ (a : Answer). a.rows) h
 rows_same (searches.Shard ask) problem answer h = ap (λ (a : Answer). a.rows) h
+rows_same (searches.Emit ask) problem answer h = ap (λ (a : Answer). a.rows) h
 
 -- a line has no rows
 pub line_front : (held : Held) (asked : Option Command) (answer : Answer) (n : ℕ) → answer.rows ≡ [] → IsFront held asked (front_of answer n)

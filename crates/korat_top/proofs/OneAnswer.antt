@@ -31,6 +31,7 @@ one_search laws held (searches.List ask) = laws.checking held Listing (files_of 
 one_search laws held (searches.Test method ask) = laws.checking held (Testing method) (files_of ask.fin ask.sources)
 one_search laws held (searches.Demo n workers) = laws.judging Listing (finitization_text n) (source_text n ∷ [])
 one_search laws held (searches.Shard ask) = laws.checking held Listing (files_of ask.fin ask.sources)
+one_search laws held (searches.Emit ask) = laws.building held (files_of ask.fin ask.sources)
 
 -- steps that have one outcome make one thing, or refuse with one, and not both
 
@@ -100,6 +101,7 @@ plain_report (searches.List ask) problem a none h = subst (λ (t : Bool). WithLo
 plain_report (searches.Test method ask) problem a none h = subst (λ (t : Bool). WithLog t ask problem (listing_of ask problem) a) none h
 plain_report (searches.Demo n workers) problem a none h = h
 plain_report (searches.Shard ask) problem a none h = h
+plain_report (searches.Emit ask) problem a none h = h
 
 -- with one, some log follows it
 logged_report : (search : Search) (problem : Problem) (a : Answer) → is_traced search ≡ true → Reports search problem a → (log : List Event) × (a ≡ followed_by (trace_text log) (report_of search problem))
@@ -107,6 +109,7 @@ logged_report (searches.List ask) problem a some h = let k = subst (λ (t : Bool
 logged_report (searches.Test method ask) problem a some h = let k = subst (λ (t : Bool). WithLog t ask problem (listing_of ask problem) a) some h in (k.0, k.2)
 logged_report (searches.Demo n workers) problem a some h = absurd (cc (some))
 logged_report (searches.Shard ask) problem a some h = absurd (cc (some))
+logged_report (searches.Emit ask) problem a some h = absurd (cc (some))
 
 abbrev ComesOf : Held → Search → Answer → Type 0
 ComesOf held search a = Comes (search_steps held search) (refusal_answer (searched_inputs search)) (Reports search) a

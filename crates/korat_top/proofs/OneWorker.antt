@@ -1,24 +1,15 @@
 -- What one worker serves, by the words' command.
-use Rattle.std.proofs.Common.{◌≡◌, ◌⊎◌, ℕ, Bool, true, false, true≢false, subst, sym, ◌∙◌, inl, inr, refl, ap}
-use Rattle.std.specs.Prelude.{Option, Some, None, Result, Ok, Err, is_ok, if◌then◌else◌, not}
+use Rattle.std.proofs.Common.{◌≡◌, ◌⊎◌, ℕ, subst, inl, inr}
+use Rattle.std.specs.Prelude.{Option, Some, Result, Ok, Err, is_ok, if◌then◌else◌}
 use Rattle.kr_args.specs.Sources.{HasSources}
 use Rattle.kr_args.specs.Workers.{HasWorkers}
 use Rattle.kr_args.specs.declared.forms.Command.{Command}
 use Rattle.kr_args.specs.declared.forms.Command.TheVariants as commands
-use Rattle.kr_args.specs.declared.forms.Search.{Search}
-use Rattle.korat_top_reports.specs.Reports.{is_alone}
 use Rattle.korat_top.specs.Ends.{EndsFor, IsComplete, Outside}
-use Rattle.korat_top.specs.OneWorker.{IfEnded, IfShared, IsLeft, IsWithin, asks_several}
+use Rattle.korat_top.specs.OneWorker.{IfEnded, IfShared, IsLeft, IsWithin}
 use Rattle.korat_top.specs.declared.alone.Alone.{Alone}
 use Rattle.korat_top.specs.declared.alone.Alone.TheVariants.{Ended, Shared}
 use Rattle.korat_top.proofs.Calls.{complete}
-
--- a search for one worker isn't left
-pub not_left : {X : Type 0} (search : Search) → is_alone search ≡ true → asks_several (Some (commands.Search search)) ≡ true → X
-not_left search one several = absurd (true≢false (sym several ∙ ap not one))
-
-pub left_for : (search : Search) → is_alone search ≡ false → asks_several (Some (commands.Search search)) ≡ true
-left_for search several = ap not several
 
 -- an end that is one by the headline is complete
 pub complete_ends : (asked : Option Command) (before after : Outside) (alone : Alone) → IfEnded alone (EndsFor asked before after) → IfEnded alone (IsComplete asked before after)
@@ -31,9 +22,6 @@ within_left asked files files' out out' (Ended status) sources workers left = tt
 within_left asked files files' out out' (Shared search) sources workers left =
     let same : asked ≡ commands.Search search = cc (left.0) in
     record { sources = subst HasSources same sources; workers = subst HasWorkers same workers }
-
-pub within_ended : (status : ℕ) → IfShared (Ended status) IsWithin
-within_ended status = tt
 
 -- the status where out of memory is all that is said
 pub memory_status : {T E : Type 0} (status : ℕ) (r : Result T E) → status ≡ (if is_ok r then 8 else 7) → (status ≡ 8) ⊎ (status ≡ 7)

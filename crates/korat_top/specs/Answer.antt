@@ -18,6 +18,7 @@ use Rattle.korat_top_files.specs.Refusals.{Inputs, Refusal, files_of, status_of_
 use Rattle.korat_top_files.specs.Steps.{Judges, Checks, Reads}
 use Rattle.kr_io.specs.Held.{Held}
 use Rattle.korat_top_files.specs.Upgrades.{Carries}
+use Rattle.korat_top_files.specs.Builds.{Builds}
 use Rattle.korat_top_reports.specs.Reports.{Reports, counts_of}
 
 -- ---- commands
@@ -36,6 +37,7 @@ searched_inputs (searches.List ask) = files_of ask.fin ask.sources
 searched_inputs (searches.Test method ask) = files_of ask.fin ask.sources
 searched_inputs (searches.Demo n workers) = demo_inputs
 searched_inputs (searches.Shard ask) = files_of ask.fin ask.sources
+searched_inputs (searches.Emit ask) = files_of ask.fin ask.sources
 
 -- the files that a command names
 abbrev pub inputs_of : Command → Inputs
@@ -53,6 +55,7 @@ search_steps held (searches.List ask) = Checks held Listing (files_of ask.fin as
 search_steps held (searches.Test method ask) = Checks held (Testing method) (files_of ask.fin ask.sources)
 search_steps held (searches.Demo n workers) = Judges Listing (finitization_text n) (source_text n ∷ [])
 search_steps held (searches.Shard ask) = Checks held Listing (files_of ask.fin ask.sources)
+search_steps held (searches.Emit ask) = Builds held (files_of ask.fin ask.sources)
 
 -- steps that make no problem: what they refuse a file with
 abbrev pub refusing : {A : Type 0} → (Result A Refusal → Type 0) → Result Problem Refusal → Type 0
@@ -73,6 +76,7 @@ SearchReads held (searches.List ask) file = Reads held (files_of ask.fin ask.sou
 SearchReads held (searches.Test method ask) file = Reads held (files_of ask.fin ask.sources) file
 SearchReads held (searches.Demo n workers) file = ⊥
 SearchReads held (searches.Shard ask) file = Reads held (files_of ask.fin ask.sources) file
+SearchReads held (searches.Emit ask) file = Reads held (files_of ask.fin ask.sources) file
 
 -- the same of a command
 abbrev pub ReadsFor : Held → Command → List ℕ → Type 0

@@ -4,7 +4,7 @@ ghost use Rattle.kr_args.specs.declared.forms.Command.TheVariants.{Search as Sea
 ghost use Rattle.korat_top_files.specs.Found.{CountStays};
 ghost use Rattle.korat_top.specs.Found.{Finds};
 
-use korat_top_files::{Stop, find_demo, find_files, find_test};
+use korat_top_files::{Stop, find_built, find_demo, find_files, find_test};
 use kr_args::forms::Search;
 use kr_io::Files;
 use kr_judge_prepared::Accepted;
@@ -30,5 +30,6 @@ pub(crate) fn find<F: Files>(
         Search::Shard(ask) => {
             find_files(alloc, Mode::List, ask.fin.as_str(), &ask.sources, files)
         }
+        Search::Emit(ask) => find_built(alloc, ask, files),
     }
 }

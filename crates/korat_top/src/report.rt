@@ -53,5 +53,6 @@ pub(crate) fn searched_name(search: &Search, file: InputFile) -> &str
         Search::Test { ask, .. } => file_name(&ask.fin, &ask.sources, file),
         Search::Demo { .. } => demo_name(file),
         Search::Shard(ask) => file_name(&ask.fin, &ask.sources, file),
+        Search::Emit(ask) => file_name(&ask.fin, &ask.sources, file),
     }
 }

@@ -24,6 +24,7 @@ use Rattle.kr_space_meaning.specs.Order.{Fault as SpaceFault, rule_code as space
 use Rattle.kr_fin.specs.Order.{Fault, rule_code as fin_code}
 use Rattle.kr_mean.specs.Problem.{Problem}
 use Rattle.kr_mean.specs.declared.mode.Mode.{Mode}
+use Rattle.kr_mean.specs.declared.mode.Mode.TheVariants.{List as Listing}
 use Rattle.kr_classes_table.specs.Rules.{is_earlier, less_or}
 use Rattle.korat_top_files.specs.declared.refusal.InputFile.{InputFile}
 use Rattle.korat_top_files.specs.declared.refusal.InputFile.TheVariants as input
@@ -33,6 +34,7 @@ use Rattle.korat_top_files.specs.Steps.{Judges, Checks}
 use Rattle.kr_io.specs.Held.{Held}
 use Rattle.korat_top_files.specs.Chains.{each, made, reading, reading_source, lexing, parsing, growing, classing, stating, typing, spacing, purifying, from_problem, from_document, from_trees, from_table, from_grown, from_texts, from_fin, checking}
 use Rattle.korat_top_files.specs.OneOutcome.{HasOne, OneOutcome}
+use Rattle.korat_top_files.proofs.Building.{one_building}
 use Rattle.korat_top_files.proofs.Carried.{one_carried}
 use Rattle.korat_top_files.proofs.Outcomes.{one_then, one_each}
 use Rattle.korat_top_files.proofs.Chained.{from_checks, from_judges}
@@ -242,4 +244,9 @@ one_of_files laws held mode inputs x y h k = one_checking laws held mode inputs 
 pub one_outcome : OneListLaw → UnbrokenLaw → OneRefusal → ParsedUnbroken → OneTree → OneOutcome
 one_outcome lists unbroken refusals parsed trees =
     let laws : Laws = record { lists = lists; unbroken = unbroken; refusals = refusals; parsed = parsed; trees = trees } in
-    record { judging = one_judging laws; checking = one_of_files laws; carrying = one_carried one_reading one_stating }
+    record {
+      judging = one_judging laws;
+      checking = one_of_files laws;
+      carrying = one_carried one_reading one_stating;
+      building = λ held inputs. one_building held inputs (one_of_files laws held Listing inputs);
+    }

@@ -6,4 +6,5 @@ pub mod Steps
 pub mod Chains
 pub mod Found
 pub mod Upgrades
+pub mod Builds
 pub mod OneOutcome

@@ -7,7 +7,7 @@ use Rattle.kr_fin.specs.declared.refusal.FinRule.TheVariants.{TooLong}
 use Rattle.kr_fin.specs.Order.{rule_code as fin_code}
 use Rattle.kr_text.specs.Texts.{refusal_text}
 use Rattle.korat_top_files.specs.declared.rules.CallRule.{CallRule}
-use Rattle.korat_top_files.specs.declared.rules.CallRule.TheVariants.{LongSource, Impure}
+use Rattle.korat_top_files.specs.declared.rules.CallRule.TheVariants.{LongSource, Impure, Construction, ClassName}
 use Rattle.korat_top_files.specs.declared.refusal.InputFile.{InputFile}
 use Rattle.korat_top_files.specs.declared.refusal.InputFile.TheVariants as input
 use Rattle.korat_top_files.specs.declared.refusal.Refusal.{Refusal as OwnRefusal}
@@ -49,6 +49,8 @@ typing_code rule = type_code (rule_number rule)
 abbrev pub call_code : CallRule → List ℕ
 call_code LongSource = codes "B1"
 call_code Impure = codes "I1"
+call_code Construction = codes "E1"
+call_code ClassName = codes "E2"
 
 -- ---- more bytes than are taken
 

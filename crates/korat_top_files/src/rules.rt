@@ -39,6 +39,10 @@ pub enum CallRule {
     LongSource,
     /// I1: a predicate that doesn't leave the candidates alone.
     Impure,
+    /// E1: a class whose objects no builder can create.
+    Construction,
+    /// E2: a class that takes the name or the number of the builders' class.
+    ClassName,
 }
 
 impl SourceRule for CallRule {
@@ -48,6 +52,8 @@ impl SourceRule for CallRule {
         let rule = match self {
             CallRule::LongSource => "B1",
             CallRule::Impure => "I1",
+            CallRule::Construction => "E1",
+            CallRule::ClassName => "E2",
         };
         Refusal::Source { place, rule }
     }

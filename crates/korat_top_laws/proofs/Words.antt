@@ -6,7 +6,7 @@ use Rattle.std.proofs.lemmas.List.Elements.{All-nil}
 use Rattle.clap.specs.Words.{Row, Text, all_of, fault_of, first_of, subcommand_of}
 use Rattle.clap.specs.Walk.{is_empty}
 use Rattle.kr_args.specs.Definition.{korat_app}
-use Rattle.kr_args.specs.Reading.{Files, Range, Sharing, ask_in, ask_with, check_in, command_in, command_of, demo_in, demo_with, files_in, from_in, list_in, merge_in, named_in, number_in, plain_sharing_in, shard_in, span_in as span_asked, span_with, test_in, test_with, to_in, trace_in, trace_with, upgrade_in, workers_in}
+use Rattle.kr_args.specs.Reading.{Files, Range, Sharing, ask_in, ask_with, check_in, command_in, command_of, demo_in, demo_with, files_in, from_in, list_in, merge_in, named_in, number_in, plain_sharing_in, shard_in, span_in as span_asked, span_with, test_in, test_with, to_in, trace_in, trace_with, upgrade_in, emit_in, alone_sharing, range_in, workers_in}
 use Rattle.kr_args.specs.declared.forms.Ask.{Ask}
 use Rattle.kr_args.specs.declared.forms.Command.{Command}
 use Rattle.kr_args.specs.declared.forms.Command.TheVariants as commands
@@ -79,6 +79,10 @@ module _ (law : ReadingLaw) where
   tested (Some method) None = tt
   tested (Some method) (Some ask) = tt
 
+  emitted : (ask : Option Ask) → IfSome (option_map (λ a. commands.Search (searches.Emit a)) ask) IsAskedOf
+  emitted None = tt
+  emitted (Some ask) = tt
+
   checked : (files : Option Files) → IfSome (option_map (λ f. commands.Check f.0 f.1) files) IsAskedOf
   checked None = tt
   checked (Some files) = tt
@@ -104,18 +108,19 @@ module _ (law : ReadingLaw) where
   traced (Some file) (Some from) (Some to) (Some workers) = tt
 
   named : (name : Text) (rows : List Row) → IfSome (named_in name rows) IsAskedOf
-  named name rows = by_name (bytes_eq name (codes "list")) (bytes_eq name (codes "test")) (bytes_eq name (codes "check")) (bytes_eq name (codes "demo")) (bytes_eq name (codes "shard")) (bytes_eq name (codes "merge")) (bytes_eq name (codes "upgrade")) (bytes_eq name (codes "trace"))
+  named name rows = by_name (bytes_eq name (codes "list")) (bytes_eq name (codes "test")) (bytes_eq name (codes "check")) (bytes_eq name (codes "demo")) (bytes_eq name (codes "shard")) (bytes_eq name (codes "merge")) (bytes_eq name (codes "upgrade")) (bytes_eq name (codes "trace")) (bytes_eq name (codes "emit"))
     where
-      by_name : (a b c d e f g h : Bool) → IfSome (if a then list_in rows else (if b then test_in rows else (if c then check_in rows else (if d then demo_in rows else (if e then shard_in rows else (if f then merge_in rows else (if g then upgrade_in rows else (if h then trace_in rows else None)))))))) IsAskedOf
-      by_name true b c d e f g h = listed (ask_in rows)
-      by_name false true c d e f g h = tested (first_of (codes "method") rows) (ask_in rows)
-      by_name false false true d e f g h = checked (files_in rows)
-      by_name false false false true e f g h = shown (option_and_then (number_in 1 12) (first_of (codes "nodes") rows)) (workers_in (first_of (codes "workers") rows))
-      by_name false false false false true f g h = ask_is (files_in rows) (span_asked rows) (plain_sharing_in rows) (range_is (from_in (first_of (codes "from") rows)) (to_in (first_of (codes "to") rows)) (from_is (first_of (codes "from") rows)) (to_is (first_of (codes "to") rows)))
-      by_name false false false false false true g h = merged (all_of (codes "file") rows)
-      by_name false false false false false false true h = upgraded (first_of (codes "fin") rows)
-      by_name false false false false false false false true = traced (first_of (codes "file") rows) (from_in (first_of (codes "from") rows)) (to_in (first_of (codes "to") rows)) (workers_in (first_of (codes "workers") rows))
-      by_name false false false false false false false false = tt
+      by_name : (a b c d e f g h i : Bool) → IfSome (if a then list_in rows else (if b then test_in rows else (if c then check_in rows else (if d then demo_in rows else (if e then shard_in rows else (if f then merge_in rows else (if g then upgrade_in rows else (if h then trace_in rows else (if i then emit_in rows else None))))))))) IsAskedOf
+      by_name true b c d e f g h i = listed (ask_in rows)
+      by_name false true c d e f g h i = tested (first_of (codes "method") rows) (ask_in rows)
+      by_name false false true d e f g h i = checked (files_in rows)
+      by_name false false false true e f g h i = shown (option_and_then (number_in 1 12) (first_of (codes "nodes") rows)) (workers_in (first_of (codes "workers") rows))
+      by_name false false false false true f g h i = ask_is (files_in rows) (span_asked rows) (plain_sharing_in rows) (range_is (from_in (first_of (codes "from") rows)) (to_in (first_of (codes "to") rows)) (from_is (first_of (codes "from") rows)) (to_is (first_of (codes "to") rows)))
+      by_name false false false false false true g h i = merged (all_of (codes "file") rows)
+      by_name false false false false false false true h i = upgraded (first_of (codes "fin") rows)
+      by_name false false false false false false false true i = traced (first_of (codes "file") rows) (from_in (first_of (codes "from") rows)) (to_in (first_of (codes "to") rows)) (workers_in (first_of (codes "workers") rows))
+      by_name false false false false false false false false true = emitted (ask_with (files_in rows) (range_in rows) (Some alone_sharing))
+      by_name false false false false false false false false false = tt
 
   met : (found : Option (Text × List Row)) → IfSome (command_in found) IsAskedOf
   met None = tt

@@ -9,6 +9,7 @@ use Rattle.kr_args.specs.declared.forms.Search.TheVariants as searches
 use Rattle.kr_core.specs.declared.event.Event.{Event}
 use Rattle.kr_mean.specs.Problem.{Problem, slots}
 use Rattle.kr_mean.specs.Entries.{all_entries}
+use Rattle.kr_emit_meaning.specs.Emitted.{emitted}
 use Rattle.kr_report.specs.Endings.{BreaksOff, EndsListing}
 use Rattle.kr_report.specs.Reports.{Answer, line_answer, listing_answer}
 use Rattle.kr_report.specs.Texts.{checked_text}
@@ -32,6 +33,10 @@ shard_of ask problem =
     let listing = listing_of ask problem in
     record listing { rows = first_text (span_in ask) ∷ listing.rows }
 
+-- the rows of that listing as builders
+abbrev pub builders_of : Ask → Problem → Answer
+builders_of ask problem = emitted problem ask.limit (span_in ask)
+
 -- how many classes and slots there are
 abbrev pub counts_of : Problem → Answer
 counts_of problem = line_answer 0 (checked_text (length problem.program.table.classes) (length (slots problem)))
@@ -46,6 +51,7 @@ report_of (searches.List ask) problem = listing_of ask problem
 report_of (searches.Test method ask) problem = listing_of ask problem
 report_of (searches.Demo n workers) problem = tally_of n problem
 report_of (searches.Shard ask) problem = shard_of ask problem
+report_of (searches.Emit ask) problem = builders_of ask problem
 
 -- a log of the workers that are asked for over the entries that are asked for, with the limit and the window that are
 abbrev pub IsLogOf : Ask → Problem → List Event → Type 0
@@ -62,6 +68,7 @@ Reports (searches.List ask) problem answer = WithLog ask.trace ask problem (list
 Reports (searches.Test method ask) problem answer = WithLog ask.trace ask problem (listing_of ask problem) answer
 Reports (searches.Demo n workers) problem answer = answer ≡ tally_of n problem
 Reports (searches.Shard ask) problem answer = answer ≡ shard_of ask problem
+Reports (searches.Emit ask) problem answer = answer ≡ builders_of ask problem
 
 -- a trace is asked for
 abbrev pub is_traced : Search → Bool
@@ -69,18 +76,20 @@ is_traced (searches.List ask) = ask.trace
 is_traced (searches.Test method ask) = ask.trace
 is_traced (searches.Demo n workers) = false
 is_traced (searches.Shard ask) = false
+is_traced (searches.Emit ask) = false
 
 -- ---- one worker
 
 abbrev pub is_one : Ask → Bool
 is_one ask = (ask.workers == 1) && not ask.trace
 
--- one worker, and no trace
+-- one worker, and no trace; builders are always written so
 abbrev pub is_alone : Search → Bool
 is_alone (searches.List ask) = is_one ask
 is_alone (searches.Test method ask) = is_one ask
 is_alone (searches.Demo n workers) = workers == 1
 is_alone (searches.Shard ask) = is_one ask
+is_alone (searches.Emit ask) = true
 
 -- ---- between crates
 

@@ -5,6 +5,7 @@ ghost use Rattle.kr_space_problem.specs.Posed.{posed};
 ghost use Rattle.korat_top_reports.specs.Reports.{EndsReport, is_alone, listing_of, shard_of};
 
 use crate::asked::span_of;
+use crate::building::emit;
 use crate::preparing::prepare;
 use kr_args::forms::{Ask, Search};
 use kr_base::{NoMemory, Sink, Steps};
@@ -70,6 +71,7 @@ fn report_prepared<K: Sink, L: Ledger>(
         Search::Test { ask, .. } => list(alloc, prepared, ask, out, runs),
         Search::Demo { n, .. } => Ok(count_alone(alloc, prepared, *n, out, runs)),
         Search::Shard(ask) => shard(alloc, prepared, ask, out, runs),
+        Search::Emit(ask) => emit(alloc, prepared, ask, out),
     }
 }
 

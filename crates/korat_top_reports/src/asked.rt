@@ -32,5 +32,6 @@ pub fn is_alone(search: &Search) -> bool
         Search::Test { ask, .. } => is_one(ask),
         Search::Demo { workers, .. } => *workers == 1,
         Search::Shard(ask) => is_one(ask),
+        Search::Emit(_) => true,
     }
 }

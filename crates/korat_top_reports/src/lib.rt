@@ -4,6 +4,7 @@
 
 mod alone;
 mod asked;
+mod building;
 mod counting;
 mod preparing;
 mod shared;

@@ -6,6 +6,7 @@ ghost use Rattle.kr_space_problem.specs.Posed.{posed};
 ghost use Rattle.korat_top_reports.specs.Reports.{EndsBy, EndsReport, WithLog, listing_of, shard_of, span_in};
 
 use crate::asked::span_of;
+use crate::building::emit;
 use crate::preparing::prepare;
 use kr_args::forms::{Ask, Pool, Search};
 use kr_base::{NoMemory, Sink, Span};
@@ -118,6 +119,7 @@ fn report_prepared<W: Threads + Wait + Sync, K: Sink, G: Gate + Sync>(
             Ok(count_shared(rt, alloc, prepared, *n, *workers, gate, out))
         }
         Search::Shard(ask) => shard(rt, alloc, prepared, ask, gate, out),
+        Search::Emit(ask) => emit(alloc, prepared, ask, out),
     }
 }
 

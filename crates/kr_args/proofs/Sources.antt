@@ -22,7 +22,7 @@ use Rattle.clap.proofs.OnLiterals.{clap_on_literals}
 use Rattle.kr_base.specs.declared.span.Bound.{Bound}
 use Rattle.kr_args.specs.Definition.{MOST_SOURCES, korat_app}
 use Rattle.kr_args.specs.Sources.{AreSources, HasSources}
-use Rattle.kr_args.specs.Reading.{Files, Range, Sharing, ask_in, ask_with, check_in, command_in, command_of, demo_in, demo_with, files_in, files_with, list_in, merge_in, upgrade_in, named_in, number_in, plain_sharing_in, range_in, shard_in, sharing_in, span_in, test_in, test_with, trace_in, trace_with, from_in, to_in, workers_in}
+use Rattle.kr_args.specs.Reading.{Files, Range, Sharing, ask_in, ask_with, check_in, command_in, command_of, demo_in, demo_with, files_in, files_with, list_in, merge_in, upgrade_in, emit_in, alone_sharing, named_in, number_in, plain_sharing_in, range_in, shard_in, sharing_in, span_in, test_in, test_with, trace_in, trace_with, from_in, to_in, workers_in}
 use Rattle.kr_args.specs.declared.forms.Ask.{Ask}
 use Rattle.kr_args.specs.declared.forms.Command.TheVariants as commands
 use Rattle.kr_args.specs.declared.forms.Search.TheVariants as searches
@@ -337,6 +337,10 @@ shard_bounded : (ask : Option Ask) → IfSome ask (λ a. AreSources a.sources) �
 shard_bounded None h = tt
 shard_bounded (Some ask) h = h
 
+emit_bounded : (ask : Option Ask) → IfSome ask (λ a. AreSources a.sources) → IfSome (option_map (λ a. commands.Search (searches.Emit a)) ask) HasSources
+emit_bounded None h = tt
+emit_bounded (Some ask) h = h
+
 merge_bounded : (files : Option (List Text)) → IfSome (option_map commands.Merge files) HasSources
 merge_bounded None = tt
 merge_bounded (Some files) = tt
@@ -353,7 +357,7 @@ trace_bounded (Some file) (Some from) (Some to) None = tt
 trace_bounded (Some file) (Some from) (Some to) (Some workers) = tt
 
 named_bounded : (name : Text) (rows : List Row) → AreBounded rows → IfSome (named_in name rows) HasSources
-named_bounded name rows h = by_name (bytes_eq name (codes "list")) (bytes_eq name (codes "test")) (bytes_eq name (codes "check")) (bytes_eq name (codes "demo")) (bytes_eq name (codes "shard")) (bytes_eq name (codes "merge")) (bytes_eq name (codes "upgrade")) (bytes_eq name (codes "trace"))
+named_bounded name rows h = by_name (bytes_eq name (codes "list")) (bytes_eq name (codes "test")) (bytes_eq name (codes "check")) (bytes_eq name (codes "demo")) (bytes_eq name (codes "shard")) (bytes_eq name (codes "merge")) (bytes_eq name (codes "upgrade")) (bytes_eq name (codes "trace")) (bytes_eq name (codes "emit"))
   where
     workers : Option ℕ
     workers = workers_in (first_of (codes "workers") rows)
@@ -367,16 +371,17 @@ named_bounded name rows h = by_name (bytes_eq name (codes "list")) (bytes_eq nam
     spans : IfSome (ask_with (files_in rows) (span_in rows) (plain_sharing_in rows)) (λ a. AreSources a.sources)
     spans = ask_bounded (files_in rows) (span_in rows) (plain_sharing_in rows) files
 
-    by_name : (a b c d e f g h : Bool) → IfSome (if a then list_in rows else (if b then test_in rows else (if c then check_in rows else (if d then demo_in rows else (if e then shard_in rows else (if f then merge_in rows else (if g then upgrade_in rows else (if h then trace_in rows else None)))))))) HasSources
-    by_name true b c d e f g h = list_bounded (ask_in rows) asks
-    by_name false true c d e f g h = test_bounded (first_of (codes "method") rows) (ask_in rows) asks
-    by_name false false true d e f g h = check_bounded (files_in rows) files
-    by_name false false false true e f g h = demo_bounded (option_and_then (number_in 1 12) (first_of (codes "nodes") rows)) workers
-    by_name false false false false true f g h = shard_bounded (ask_with (files_in rows) (span_in rows) (plain_sharing_in rows)) spans
-    by_name false false false false false true g h = merge_bounded (all_of (codes "file") rows)
-    by_name false false false false false false true h = upgrade_bounded (first_of (codes "fin") rows)
-    by_name false false false false false false false true = trace_bounded (first_of (codes "file") rows) (from_in (first_of (codes "from") rows)) (to_in (first_of (codes "to") rows)) workers
-    by_name false false false false false false false false = tt
+    by_name : (a b c d e f g h i : Bool) → IfSome (if a then list_in rows else (if b then test_in rows else (if c then check_in rows else (if d then demo_in rows else (if e then shard_in rows else (if f then merge_in rows else (if g then upgrade_in rows else (if h then trace_in rows else (if i then emit_in rows else None))))))))) HasSources
+    by_name true b c d e f g h i = list_bounded (ask_in rows) asks
+    by_name false true c d e f g h i = test_bounded (first_of (codes "method") rows) (ask_in rows) asks
+    by_name false false true d e f g h i = check_bounded (files_in rows) files
+    by_name false false false true e f g h i = demo_bounded (option_and_then (number_in 1 12) (first_of (codes "nodes") rows)) workers
+    by_name false false false false true f g h i = shard_bounded (ask_with (files_in rows) (span_in rows) (plain_sharing_in rows)) spans
+    by_name false false false false false true g h i = merge_bounded (all_of (codes "file") rows)
+    by_name false false false false false false true h i = upgrade_bounded (first_of (codes "fin") rows)
+    by_name false false false false false false false true i = trace_bounded (first_of (codes "file") rows) (from_in (first_of (codes "from") rows)) (to_in (first_of (codes "to") rows)) workers
+    by_name false false false false false false false false true = emit_bounded (ask_with (files_in rows) (range_in rows) (Some alone_sharing)) (ask_bounded (files_in rows) (range_in rows) (Some alone_sharing) files)
+    by_name false false false false false false false false false = tt
 
 command_bounded : (met : Option (Text × List Row)) → IfSome met (λ m. AreBounded m.1) → IfSome (command_in met) HasSources
 command_bounded None h = tt

@@ -6,7 +6,7 @@ use Rattle.clap.specs.Words.{Row, Text, all_of, fault_of, first_of, subcommand_o
 use Rattle.clap.specs.Walk.{is_empty}
 use Rattle.kr_base.specs.declared.span.Bound.{Bound}
 use Rattle.kr_args.specs.Definition.{korat_app}
-use Rattle.kr_args.specs.Reading.{Files, Range, Sharing, ask_in, ask_with, check_in, command_in, command_of, demo_in, demo_with, files_in, flag_in, list_in, merge_in, upgrade_in, named_in, number_in, plain_sharing_in, pool_in, range_in, shard_in, sharing_in, sharing_with, span_in, test_in, test_with, trace_in, trace_with, from_in, to_in, window_in, workers_in}
+use Rattle.kr_args.specs.Reading.{Files, Range, Sharing, ask_in, ask_with, check_in, command_in, command_of, demo_in, demo_with, files_in, flag_in, list_in, merge_in, upgrade_in, emit_in, alone_sharing, named_in, number_in, plain_sharing_in, pool_in, range_in, shard_in, sharing_in, sharing_with, span_in, test_in, test_with, trace_in, trace_with, from_in, to_in, window_in, workers_in}
 use Rattle.kr_args.specs.Workers.{AreWorkers, HasWorkers, IsShared, IsWindow}
 use Rattle.kr_args.specs.declared.forms.Ask.{Ask}
 use Rattle.kr_args.specs.declared.forms.Command.TheVariants as commands
@@ -70,6 +70,11 @@ shard_few : (ask : Option Ask) → IfSome ask IsShared → IfSome (option_map (�
 shard_few None h = tt
 shard_few (Some ask) h = h
 
+emit_few : (files : Option Files) (range : Option Range) → IfSome (option_map (λ a. commands.Search (searches.Emit a)) (ask_with files range (Some alone_sharing))) HasWorkers
+emit_few None range = tt
+emit_few (Some files) None = tt
+emit_few (Some files) (Some range) = tt
+
 merge_few : (files : Option (List Text)) → IfSome (option_map commands.Merge files) HasWorkers
 merge_few None = tt
 merge_few (Some files) = tt
@@ -86,7 +91,7 @@ trace_few (Some file) (Some from) (Some to) None h = tt
 trace_few (Some file) (Some from) (Some to) (Some workers) h = h
 
 named_few : (name : Text) (rows : List Row) → IfSome (named_in name rows) HasWorkers
-named_few name rows = by_name (bytes_eq name (codes "list")) (bytes_eq name (codes "test")) (bytes_eq name (codes "check")) (bytes_eq name (codes "demo")) (bytes_eq name (codes "shard")) (bytes_eq name (codes "merge")) (bytes_eq name (codes "upgrade")) (bytes_eq name (codes "trace"))
+named_few name rows = by_name (bytes_eq name (codes "list")) (bytes_eq name (codes "test")) (bytes_eq name (codes "check")) (bytes_eq name (codes "demo")) (bytes_eq name (codes "shard")) (bytes_eq name (codes "merge")) (bytes_eq name (codes "upgrade")) (bytes_eq name (codes "trace")) (bytes_eq name (codes "emit"))
   where
     workers : Option ℕ
     workers = workers_in (first_of (codes "workers") rows)
@@ -106,16 +111,17 @@ named_few name rows = by_name (bytes_eq name (codes "list")) (bytes_eq name (cod
     spans : IfSome (ask_with (files_in rows) (span_in rows) (plain_sharing_in rows)) IsShared
     spans = ask_few (files_in rows) (span_in rows) (plain_sharing_in rows) (sharing_few workers (window_in None) (Some Board) false own (narrow None))
 
-    by_name : (a b c d e f g h : Bool) → IfSome (if a then list_in rows else (if b then test_in rows else (if c then check_in rows else (if d then demo_in rows else (if e then shard_in rows else (if f then merge_in rows else (if g then upgrade_in rows else (if h then trace_in rows else None)))))))) HasWorkers
-    by_name true b c d e f g h = list_few (ask_in rows) asks
-    by_name false true c d e f g h = test_few (first_of (codes "method") rows) (ask_in rows) asks
-    by_name false false true d e f g h = check_few (files_in rows)
-    by_name false false false true e f g h = demo_few (option_and_then (number_in 1 12) (first_of (codes "nodes") rows)) workers own
-    by_name false false false false true f g h = shard_few (ask_with (files_in rows) (span_in rows) (plain_sharing_in rows)) spans
-    by_name false false false false false true g h = merge_few (all_of (codes "file") rows)
-    by_name false false false false false false true h = upgrade_few (first_of (codes "fin") rows)
-    by_name false false false false false false false true = trace_few (first_of (codes "file") rows) (from_in (first_of (codes "from") rows)) (to_in (first_of (codes "to") rows)) workers own
-    by_name false false false false false false false false = tt
+    by_name : (a b c d e f g h i : Bool) → IfSome (if a then list_in rows else (if b then test_in rows else (if c then check_in rows else (if d then demo_in rows else (if e then shard_in rows else (if f then merge_in rows else (if g then upgrade_in rows else (if h then trace_in rows else (if i then emit_in rows else None))))))))) HasWorkers
+    by_name true b c d e f g h i = list_few (ask_in rows) asks
+    by_name false true c d e f g h i = test_few (first_of (codes "method") rows) (ask_in rows) asks
+    by_name false false true d e f g h i = check_few (files_in rows)
+    by_name false false false true e f g h i = demo_few (option_and_then (number_in 1 12) (first_of (codes "nodes") rows)) workers own
+    by_name false false false false true f g h i = shard_few (ask_with (files_in rows) (span_in rows) (plain_sharing_in rows)) spans
+    by_name false false false false false true g h i = merge_few (all_of (codes "file") rows)
+    by_name false false false false false false true h i = upgrade_few (first_of (codes "fin") rows)
+    by_name false false false false false false false true i = trace_few (first_of (codes "file") rows) (from_in (first_of (codes "from") rows)) (to_in (first_of (codes "to") rows)) workers own
+    by_name false false false false false false false false true = emit_few (files_in rows) (range_in rows)
+    by_name false false false false false false false false false = tt
 
 command_few : (met : Option (Text × List Row)) → IfSome (command_in met) HasWorkers
 command_few None = tt

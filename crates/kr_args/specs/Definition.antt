@@ -90,6 +90,10 @@ upgrade_app = with_rule (new_app (codes "upgrade")) (word_rule (codes "fin"))
 abbrev pub trace_app : App
 trace_app = with_workers (with_span (with_rule (new_app (codes "trace")) (word_rule (codes "file"))))
 
+-- `emit FIN SOURCE.. [--from CUT] [--to CUT] [--limit N]`
+abbrev pub emit_app : App
+emit_app = with_range (with_rule (with_rule (new_app (codes "emit")) (word_rule (codes "fin"))) sources_rule)
+
 -- no help, no version, and a required command
 abbrev pub bare_app : App
 bare_app = on_top (λ s. record s {
@@ -109,5 +113,9 @@ abbrev pub search_app : App
 search_app = with_subcommand (with_subcommand main_app shard_app.top) merge_app.top
 
 -- on finitizations, and on logs
+abbrev pub file_app : App
+file_app = with_subcommand (with_subcommand search_app upgrade_app.top) trace_app.top
+
+-- and of builders
 abbrev pub korat_app : App
-korat_app = with_subcommand (with_subcommand search_app upgrade_app.top) trace_app.top
+korat_app = with_subcommand file_app emit_app.top

@@ -156,6 +156,13 @@ span_in rows = span_with (from_in (first_of (codes "from") rows)) (to_in (first_
 abbrev pub shard_in : List Row → Option Command
 shard_in rows = option_map (λ ask. commands.Search (searches.Shard ask)) (ask_with (files_in rows) (span_in rows) (plain_sharing_in rows))
 
+-- one worker, who lists no steps
+abbrev pub alone_sharing : Sharing
+alone_sharing = (1, 4096, Board, false)
+
+abbrev pub emit_in : List Row → Option Command
+emit_in rows = option_map (λ ask. commands.Search (searches.Emit ask)) (ask_with (files_in rows) (range_in rows) (Some alone_sharing))
+
 abbrev pub merge_in : List Row → Option Command
 merge_in rows = option_map commands.Merge (all_of (codes "file") rows)
 
@@ -179,7 +186,8 @@ named_in name rows = if bytes_eq name (codes "list") then list_in rows
     else (if bytes_eq name (codes "shard") then shard_in rows
     else (if bytes_eq name (codes "merge") then merge_in rows
     else (if bytes_eq name (codes "upgrade") then upgrade_in rows
-    else (if bytes_eq name (codes "trace") then trace_in rows else None)))))))
+    else (if bytes_eq name (codes "trace") then trace_in rows
+    else (if bytes_eq name (codes "emit") then emit_in rows else None))))))))
 
 abbrev pub command_in : Option (Text × List Row) → Option Command
 command_in = option_and_then (λ p. named_in p.0 p.1)

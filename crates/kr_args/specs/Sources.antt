@@ -16,6 +16,7 @@ SearchesSources (searches.List ask) = AreSources ask.sources
 SearchesSources (searches.Test method ask) = AreSources ask.sources
 SearchesSources (searches.Demo n workers) = Unit {0}
 SearchesSources (searches.Shard ask) = AreSources ask.sources
+SearchesSources (searches.Emit ask) = AreSources ask.sources
 
 -- so does a command
 abbrev pub HasSources : Command → Type 0

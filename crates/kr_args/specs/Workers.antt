@@ -15,12 +15,13 @@ IsWindow window = (0 < window) × (window ≤ 65536)
 abbrev pub IsShared : Ask → Type 0
 IsShared ask = AreWorkers ask.workers × IsWindow ask.window
 
--- a search has from one worker to the most, and a listing a window from one row to the most
+-- a search has from one worker to the most, and a listing a window from one row to the most; builders are written by one worker
 abbrev pub SearchesShared : Search → Type 0
 SearchesShared (searches.List ask) = IsShared ask
 SearchesShared (searches.Test method ask) = IsShared ask
 SearchesShared (searches.Demo n workers) = AreWorkers workers
 SearchesShared (searches.Shard ask) = IsShared ask
+SearchesShared (searches.Emit ask) = Unit {0}
 
 -- so has a command that searches, or that checks a log
 abbrev pub HasWorkers : Command → Type 0

@@ -2,7 +2,7 @@
 ghost use Rattle.std.specs.Prelude.{◌≡◌, ◌≢◌, Some, None, IfOk, MatchResult, option_and_then};
 ghost use Rattle.clap.specs.Words.{kind_of, subcommand_rows_of, found_of, rows_of, first_of, all_of};
 ghost use Rattle.clap.specs.declared.error.ErrorKind.TheVariants.{OutOfMemory};
-ghost use Rattle.kr_args.specs.Reading.{number_in, text_in, texts_in, files_in, range_in, sharing_in, plain_sharing_in, ask_with, ask_in, list_in, test_in, check_in, demo_in, span_in, shard_in, merge_in, upgrade_in, trace_in, named_in, command_in, command_of};
+ghost use Rattle.kr_args.specs.Reading.{number_in, text_in, texts_in, files_in, range_in, sharing_in, plain_sharing_in, ask_with, ask_in, list_in, test_in, check_in, demo_in, span_in, shard_in, alone_sharing, emit_in, merge_in, upgrade_in, trace_in, named_in, command_in, command_of};
 ghost use Rattle.kr_args.specs.Sources.{HasSources};
 ghost use Rattle.kr_args.specs.Workers.{HasWorkers};
 
@@ -195,6 +195,27 @@ fn read_shard(alloc: Global, matches: &ArgMatches<'_>) -> Result<Command, ArgRef
     Ok(Command::Search(Search::Shard(ask_of(fin, sources, range, sharing))))
 }
 
+/// One worker, who lists no steps.
+fn alone() -> Sharing
+    ensures { (result.workers, result.window, result.pool, result.trace) ≡ alone_sharing }
+{
+    Sharing {
+        workers: 1,
+        window: 4096,
+        pool: Pool::Board,
+        trace: false,
+    }
+}
+
+fn read_emit(alloc: Global, matches: &ArgMatches<'_>) -> Result<Command, ArgRefusal>
+    ensures { let wanted = emit_in (rows_of (found_of matches.now)) in
+        MatchResult result (λ command. wanted ≡ Some command) (λ e. e ≡ ArgRefusal.Usage → wanted ≡ None) }
+{
+    let range = read_range(alloc, matches)?;
+    let (fin, sources) = read_sources(alloc, matches)?;
+    Ok(Command::Search(Search::Emit(ask_of(fin, sources, range, alone()))))
+}
+
 fn read_merge(alloc: Global, matches: &ArgMatches<'_>) -> Result<Command, ArgRefusal>
     ensures { let wanted = merge_in (rows_of (found_of matches.now)) in
         MatchResult result (λ command. wanted ≡ Some command) (λ e. e ≡ ArgRefusal.Usage → wanted ≡ None) }
@@ -246,6 +267,8 @@ fn read_named(alloc: Global, name: &str, matches: &ArgMatches<'_>) -> Result<Com
         read_upgrade(alloc, matches)
     } else if name == "trace" {
         read_trace(alloc, matches)
+    } else if name == "emit" {
+        read_emit(alloc, matches)
     } else {
         Err(ArgRefusal::Usage)
     }

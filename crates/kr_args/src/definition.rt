@@ -2,7 +2,7 @@
 ghost use Rattle.std.specs.Prelude.{◌≡◌, codes, false, IfOk};
 ghost use Rattle.clap.specs.declared.builder.command.Command.TheViews.{out-Command as fields_of};
 ghost use Rattle.clap.specs.Words.{rule_of, app_of, with_rule, with_subcommand};
-ghost use Rattle.kr_args.specs.Definition.{sources_rule, shards_rule, option_rule, flag_rule, with_span as span_added, with_range as range_added, with_workers as workers_added, with_sharing as sharing_added, with_options as options_added, bare_app, list_app, test_app, check_app, demo_app, shard_app, merge_app, trace_app, upgrade_app, main_app, search_app, korat_app};
+ghost use Rattle.kr_args.specs.Definition.{sources_rule, shards_rule, option_rule, flag_rule, with_span as span_added, with_range as range_added, with_workers as workers_added, with_sharing as sharing_added, with_options as options_added, bare_app, list_app, test_app, check_app, demo_app, shard_app, merge_app, trace_app, upgrade_app, emit_app, main_app, search_app, file_app, korat_app};
 
 use clap::{Arg, ArgAction, Command as Definition};
 use kr_base::NoMemory;
@@ -190,6 +190,18 @@ fn trace_definition<'a>(alloc: Global) -> Result<Definition<'a>, NoMemory>
     with_workers(alloc, command)
 }
 
+/// `emit FIN SOURCE..` with its options.
+fn emit_definition<'a>(alloc: Global) -> Result<Definition<'a>, NoMemory>
+    ensures app { IfOk result (λ c. app_of c ≡ emit_app) }
+    ensures local { IfOk result (λ c. (fields_of c).has_globals ≡ false) }
+{
+    let fin = Arg::new(alloc, "fin").required(true);
+    let command = Definition::new(alloc, "emit")
+        .arg(fin)?
+        .arg(sources_argument(alloc))?;
+    with_range(alloc, command)
+}
+
 /// The tool, without its commands.
 fn bare_definition<'a>(alloc: Global) -> Definition<'a>
     ensures app { app_of result ≡ bare_app }
@@ -276,11 +288,20 @@ fn with_upgrade<'a>(alloc: Global) -> Result<Definition<'a>, NoMemory>
     with_command(korat, upgrade)
 }
 
-/// The tool with all its commands.
-pub(crate) fn whole_definition<'a>(alloc: Global) -> Result<Definition<'a>, NoMemory>
-    ensures { IfOk result (λ c. app_of c ≡ korat_app) }
+/// The tool with its first eight commands.
+fn with_trace_command<'a>(alloc: Global) -> Result<Definition<'a>, NoMemory>
+    ensures { IfOk result (λ c. app_of c ≡ file_app) }
 {
     let korat = with_upgrade(alloc)?;
     let trace = trace_definition(alloc)?;
     with_command(korat, trace)
+}
+
+/// The tool with all its commands.
+pub(crate) fn whole_definition<'a>(alloc: Global) -> Result<Definition<'a>, NoMemory>
+    ensures { IfOk result (λ c. app_of c ≡ korat_app) }
+{
+    let korat = with_trace_command(alloc)?;
+    let emit = emit_definition(alloc)?;
+    with_command(korat, emit)
 }

@@ -72,6 +72,8 @@ pub enum Search {
     Demo { n: u32, workers: u32 },
     /// `shard FIN SOURCE..`
     Shard(Ask),
+    /// `emit FIN SOURCE..`
+    Emit(Ask),
 }
 
 /// A command of the program.

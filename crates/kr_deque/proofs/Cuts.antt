@@ -1,7 +1,7 @@
 -- A span cut into parts, one list for each.
 use Rattle.std.proofs.Common.{◌≡◌, ℕ, zero, suc, ◌+◌, ◌-◌, ◌<◌, ◌≤◌, List, [], ◌∷◌, ◌++◌, true, false, length, length-append, refl, sym, ap, ◌∙◌, subst, append_assoc, arith, Vec, Global}
 use Rattle.std.specs.Prelude.{replicate, if◌then◌else◌}
-use Rattle.std.proofs.lemmas.List.{append-nil, length-map, length-replicate, replicate_more}
+use Rattle.std.proofs.lemmas.List.{length-map, length-replicate, replicate_more}
 use Rattle.kr_base.specs.declared.span.Bound.{Bound}
 use Rattle.kr_base.specs.declared.span.Bound.TheVariants.{At}
 use Rattle.kr_base.specs.declared.span.Span.{Span}
@@ -32,9 +32,6 @@ lists_length (v ∷ vs) = ap suc (lists_length vs)
 -- these, and so many empty lists
 abbrev pub filled : List (List Span) → ℕ → List (List Span)
 filled ls n = ls ++ replicate n []
-
-pub filled_none : (ls : List (List Span)) (n : ℕ) → ls ≡ filled ls (n - n)
-filled_none ls n = let z : n - n ≡ 0 = omega arith in sym (append-nil ls) ∙ ap (λ (k : ℕ). filled ls k) (sym z)
 
 pub filled_more : (ls : List (List Span)) (n : ℕ) → filled ls n ++ [] ∷ [] ≡ filled ls (n + 1)
 filled_more ls n = append_assoc ls (replicate n []) ([] ∷ []) ∙ ap (λ (l : List (List Span)). ls ++ l) (replicate_more n [])

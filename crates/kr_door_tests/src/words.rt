@@ -76,6 +76,7 @@ fn shown(alloc: Global, answer: &Result<Command, ArgRefusal>) -> Result<String, 
             "demo {n} {workers}"
         )?),
         Ok(Command::Search(Search::Shard(ask))) => shown_ask(alloc, "shard", ask),
+        Ok(Command::Search(Search::Emit(ask))) => shown_ask(alloc, "emit", ask),
         Ok(Command::Merge(names)) => {
             let count = names.len();
             Ok(format!(in alloc; "merge {count}")?)
@@ -160,6 +161,12 @@ fn commands(rt: HostRuntime) -> Result<(), Fail> {
         ("merge s2 s1", "merge 2"),
         ("upgrade f", "upgrade f"),
         ("trace f --from 1 --workers 3", "trace f [1] true 3"),
+        (
+            "emit f a b --from 1 --limit 2",
+            "emit f 2 [1] end 2 1 4096 board false",
+        ),
+        ("emit f a --workers 2", "usage"),
+        ("emit f", "usage"),
     ] {
         assert!(rt; is_command(rt.alloc(), line, wanted)?, "{line}");
     }

@@ -41,7 +41,8 @@ fn hand_next<R: Drop, N: Run<R>, D: Ledger, T: Taker<K, Row = R>, W: Wait, K>(
     taker: &mut T,
     out: &mut K,
 ) -> Result<Came, Halt>
-    ensures { ComesTo T.takes (listed_in N.all N.span) lead.old.0 lead.new.0 taker.old out.old taker.new out.new result }
+    ensures comes { ComesTo T.takes (listed_in N.all N.span) lead.old.0 lead.new.0 taker.old out.old taker.new out.new result }
+    ensures kept { lead.new.2 ≡ lead.old.2 }
 {
     match lead.drain(rt, shared) {
         Err(why) => Err(Halt::Memory(why)),
@@ -79,7 +80,8 @@ fn hand_on<
     out: &mut K,
 ) -> Result<Came, Halt>
     requires survey { S.all survey.now ≡ N.all }
-    ensures { ComesTo T.takes (listed_in N.all N.span) lead.old.0 lead.new.0 taker.old out.old taker.new out.new result }
+    ensures comes { ComesTo T.takes (listed_in N.all N.span) lead.old.0 lead.new.0 taker.old out.old taker.new out.new result }
+    ensures kept { lead.new.2 ≡ lead.old.2 }
 {
     let mut scratch = lead.scratch(survey);
     let mut leading = Leading::start();

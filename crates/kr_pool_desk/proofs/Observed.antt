@@ -9,17 +9,17 @@ use Rattle.kr_board.specs.Held.{Held}
 use Rattle.kr_board.specs.declared.board.taking.Taken.{Taken}
 use Rattle.kr_board.specs.declared.board.reporting.Reported.{Reported}
 use Rattle.kr_pool_desk.specs.Runs.{IsRun}
-use Rattle.kr_pool_desk.specs.Tables.{Answers, Gives}
+use Rattle.kr_pool_desk.specs.Tables.{Answers, Gives, GoesWithin}
 use Rattle.kr_pool_desk.specs.Observed.{IsCall, ObservesReport, ObservesTake}
 
 module _ {R : Type 0} (all : List (Entry R)) (span : Span) (cuts : List (List ℕ)) (opening : List Event) (workers from to before now : ℕ) (old new : Held R) where
   call : IsRun all span cuts opening workers old before → IsRun all span cuts opening workers new now → now + from ≡ before + to → IsCall all span cuts opening workers from to old new
   call a b c = record { before = before; now = now; old_run = a; new_run = b; counted = c }
 
-  pub observes_report : {E : Type 0} (lease : Lease) (part : Part R) (r : Result (Reported R) E) → IsRun all span cuts opening workers old before → IsRun all span cuts opening workers new now → now + from ≡ before + to
-      → IfOk r (Answers old lease part new) → IfOk r (ObservesReport all span cuts opening workers from to lease part)
-  observes_report lease part (Ok reported) a b c h = record { old = old; new = new; call = call a b c; answer = h }
-  observes_report lease part (Err e) a b c h = tt
+  pub observes_report : {E : Type 0} (limit : Option ℕ) (lease : Lease) (part : Part R) (r : Result (Reported R) E) → IsRun all span cuts opening workers old before → IsRun all span cuts opening workers new now → now + from ≡ before + to
+      → IfOk r (Answers old lease part new) → IfOk r (GoesWithin limit new) → IfOk r (ObservesReport all span cuts opening workers limit from to lease part)
+  observes_report limit lease part (Ok reported) a b c h w = record { old = old; new = new; call = call a b c; answer = h; within = w }
+  observes_report limit lease part (Err e) a b c h w = tt
 
   pub observes_take : {E : Type 0} (limit : Option ℕ) (seat : ℕ) (r : Result (Option Taken) E) → IsRun all span cuts opening workers old before → IsRun all span cuts opening workers new now → now + from ≡ before + to
       → IfOk r (Gives limit seat old new) → IfOk r (ObservesTake all span cuts opening workers limit seat from to)

@@ -12,7 +12,7 @@ use Rattle.kr_board.specs.declared.board.taking.Taken.{Taken}
 use Rattle.kr_board.specs.declared.board.taking.Taken.TheVariants.{Lease as Leased, Later, Finished}
 use Rattle.kr_board.specs.declared.board.reporting.Reported.{Reported}
 use Rattle.kr_pool_desk.specs.Runs.{IsRun}
-use Rattle.kr_pool_desk.specs.Tables.{Answers, Gives}
+use Rattle.kr_pool_desk.specs.Tables.{Answers, Gives, GoesWithin}
 
 -- of a board of the run, from which so many rows were drained, it is exactly whether no segment has an owner or a remainder
 pub record ObservesFinished {R : Type 0} (all : List (Entry R)) (span : Span) (cuts : List (List ℕ)) (opening : List Event) (workers d : ℕ) (finished : Bool) : Type 0 where
@@ -31,11 +31,12 @@ pub record IsCall {R : Type 0} (all : List (Entry R)) (span : Span) (cuts : List
   pub counted : now + from ≡ before + to
 
 -- the answer to a report is one of two such boards
-pub record ObservesReport {R : Type 0} (all : List (Entry R)) (span : Span) (cuts : List (List ℕ)) (opening : List Event) (workers from to : ℕ) (lease : Lease) (part : Part R) (reported : Reported R) : Type 0 where
+pub record ObservesReport {R : Type 0} (all : List (Entry R)) (span : Span) (cuts : List (List ℕ)) (opening : List Event) (workers : ℕ) (limit : Option ℕ) (from to : ℕ) (lease : Lease) (part : Part R) (reported : Reported R) : Type 0 where
   pub old : Held R
   pub new : Held R
   pub call : IsCall all span cuts opening workers from to old new
   pub answer : Answers old lease part new reported
+  pub within : GoesWithin limit new reported
 
 -- the answer to a take likewise
 pub record ObservesTake {R : Type 0} (all : List (Entry R)) (span : Span) (cuts : List (List ℕ)) (opening : List Event) (workers : ℕ) (limit : Option ℕ) (seat from to : ℕ) (taken : Option Taken) : Type 0 where

@@ -44,3 +44,12 @@ abbrev pub Gives : {R : Type 0} → Option ℕ → ℕ → Held R → Held R →
 Gives limit seat old new (Some taken) =
     (Adds old (take_event seat old.core) (take_reply taken) [] new × ((taken ≡ Finished) ↔ AllClosed old.core)) ⊎ ((is_past limit (drained old.log) ≡ true) × (taken ≡ Finished) × (new ≡ old))
 Gives limit seat old new None = new ≡ old
+
+-- a seat goes on after its report only where no more rows than the limit were drained
+abbrev pub GoesWithin : {R : Type 0} → Option ℕ → Held R → Reported R → Type 0
+GoesWithin limit new Gone = Unit {0}
+GoesWithin limit new (Moved mark) = Unit {0}
+GoesWithin limit new (Overrun next) = Unit {0}
+GoesWithin limit new (Full same again) = Unit {0}
+GoesWithin limit new Done = Unit {0}
+GoesWithin limit new (Go next) = is_past limit (drained new.log) ≡ false

@@ -314,7 +314,7 @@ impl<R: Drop, N: Run<R>, D: Ledger> Shared<R, N, D> {
         requires few { length part.rows ≤ 256 }
         requires short { IsShortRun N.all N.span N.cuts → IsShortBound part.reach }
         ensures lease { IfOk result (Reports (IsShortRun N.all N.span N.cuts) seat.old.number lease part) }
-        ensures observed { IfOk result (ObservesReport N.all N.span N.cuts N.opening N.workers seat.old.calls.amount seat.new.calls.amount lease part) }
+        ensures observed { IfOk result (ObservesReport N.all N.span N.cuts N.opening N.workers N.limit seat.old.calls.amount seat.new.calls.amount lease part) }
         ensures back { IfErr result (λ refused. (refused.lease ≡ lease) × (refused.part ≡ part)) }
         ensures handed { handed.new ≡ handed.old + accounted (cost lease part) result }
         ensures number { seat.new.number ≡ seat.old.number }

@@ -3,7 +3,7 @@ ghost use Rattle.std.specs.Prelude.{◌≡◌, ◌+◌, ◌≤◌, length, IfOk,
 ghost use Rattle.kr_board.specs.Parts.{IsPart};
 ghost use Rattle.kr_pool_desk.specs.Leasing.{IsLeaseOf, Takes, Reports};
 ghost use Rattle.kr_pool_desk.specs.Short.{IsShortBound, IsShortRun};
-ghost use Rattle.kr_pool_desk.specs.Tables.{Answers, Gives, GoesOn};
+ghost use Rattle.kr_pool_desk.specs.Tables.{Answers, Gives, GoesOn, GoesWithin};
 ghost use Rattle.kr_pool_desk.specs.Observed.{ObservesReport, ObservesTake};
 
 use crate::crew::Run;
@@ -75,7 +75,8 @@ impl<R: Drop, N: Run<R>, D: Ledger> Table<R, N, D> {
     }
 
     /// A part of the run's entries, reported. A seat that goes on may lay rests out, for those that wait or will. One that is
-    /// too far from the front is done with its segment for now, and the lease is given up.
+    /// too far from the front is done with its segment for now, and so is each once more rows than the limit were drained: the
+    /// lease is given up.
     pub fn report(
         &mut self,
         lease: Lease,
@@ -88,7 +89,7 @@ impl<R: Drop, N: Run<R>, D: Ledger> Table<R, N, D> {
         requires short { IsShortRun N.all N.span N.cuts → IsShortBound part.reach }
         ensures lease { IfOk result (Reports (IsShortRun N.all N.span N.cuts) seat.old.number lease part) }
         ensures answer { IfOk result (Answers self.old.desk.0 lease part self.new.desk.0) }
-        ensures observed { IfOk result (ObservesReport N.all N.span N.cuts N.opening N.workers seat.old.calls.amount seat.new.calls.amount lease part) }
+        ensures observed { IfOk result (ObservesReport N.all N.span N.cuts N.opening N.workers N.limit seat.old.calls.amount seat.new.calls.amount lease part) }
         ensures unchanged { OnErr result (self.new.desk.0 ≡ self.old.desk.0) }
         ensures back { IfErr result (λ refused. (refused.lease ≡ lease) × (refused.part ≡ part)) }
         ensures number { seat.new.number ≡ seat.old.number }
@@ -111,6 +112,7 @@ impl<R: Drop, N: Run<R>, D: Ledger> Table<R, N, D> {
         requires short { IsShortRun N.all N.span N.cuts → IsShortBound part.reach }
         ensures lease { IfOk result (Reports (IsShortRun N.all N.span N.cuts) seat.old.number lease part) }
         ensures answer { IfOk result (Answers self.old.desk.0 lease part self.new.desk.0) }
+        ensures within { IfOk result (GoesWithin N.limit self.new.desk.0) }
         ensures total { self.new.desk.1 + seat.old.calls.amount ≡ self.old.desk.1 + seat.new.calls.amount }
         ensures unchanged { OnErr result (self.new.desk.0 ≡ self.old.desk.0) }
         ensures back { IfErr result (λ refused. (refused.lease ≡ lease) × (refused.part ≡ part)) }
@@ -136,15 +138,16 @@ impl<R: Drop, N: Run<R>, D: Ledger> Table<R, N, D> {
         requires lease { IsLeaseOf (IsShortRun N.all N.span N.cuts) seat.old.number lease }
         ensures lease { (next : _) → result ≡ Reported.Go next → IsLeaseOf (IsShortRun N.all N.span N.cuts) seat.old.number next }
         ensures answer { GoesOn self.old.desk.0 lease self.new.desk.0 result }
+        ensures within { GoesWithin N.limit self.new.desk.0 result }
         ensures total { self.new.desk.1 + seat.old.calls.amount ≡ self.old.desk.1 + seat.new.calls.amount }
         ensures number { seat.new.number ≡ seat.old.number }
     {
-        if self.desk.is_far(&lease) {
+        if self.desk.is_past() || self.desk.is_far(&lease) {
             self.pace.tell();
             let _ = self.desk.give_up(seat.number, &lease, &mut seat.calls);
             return Reported::Done;
         }
-        if self.desk.is_past() || !self.pace.wants_rest() {
+        if !self.pace.wants_rest() {
             return Reported::Go(lease);
         }
         let (next, cut) = self.desk.lay_out(seat.number, lease, &mut seat.calls);

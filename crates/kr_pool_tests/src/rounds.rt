@@ -211,6 +211,7 @@ fn work_on<N: Run<Cut>, D: Ledger, L: Ledger, E: Ledger, S: Survey<Row = Cut>, W
     stint: &mut Stint<Cut, N, L, E>,
 )
     requires survey { S.all survey.now ≡ N.all }
+    ensures { lead.new.2 ≡ lead.old.2 }
 {
     let mut scratch = lead.scratch(survey);
     let mut leading = Leading::start();

@@ -142,7 +142,8 @@ pub struct Hand<R, N: Run<R>> {
 impl<R, N: Run<R>> Hand<R, N> {
     /// A seat, with nothing kept.
     pub fn new(seat: Seat<N>) -> Self
-        ensures { result.seat ≡ seat }
+        ensures seat { result.seat ≡ seat }
+        ensures none { result.kept ≡ None }
     {
         Hand {
             seat,
@@ -175,8 +176,9 @@ impl<R: Drop, N: Run<R>> Hand<R, N> {
         Stint::begin(self.kept.take(), runs, handed)
     }
 
-    /// The stint ends, and the part that it keeps is kept for the next one.
+    /// The stint ends, and the part that it keeps is kept for the next one. There was no other stint since it began.
     pub(crate) fn end<L: Ledger, E: Ledger>(&mut self, stint: Stint<R, N, L, E>)
+        requires none { self.old.kept ≡ None }
         ensures kept { self.new.kept ≡ stint.kept }
         ensures seat { self.new.seat ≡ self.old.seat }
     {

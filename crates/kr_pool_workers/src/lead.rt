@@ -1,5 +1,5 @@
 // The caller's place in a round: its seat works a part at a time, and between two parts the next rows are drained.
-ghost use Rattle.std.specs.Prelude.{◌≡◌, ◌+◌, ◌<◌, true, length, take, drop, IfOk, IfSome, OnErr, is_some};
+ghost use Rattle.std.specs.Prelude.{◌≡◌, ◌+◌, ◌<◌, true, false, length, take, drop, IfOk, IfSome, OnErr, is_some};
 ghost use Rattle.kr_survey.specs.Scans.{rows_of};
 ghost use Rattle.kr_survey.specs.Listings.{listed_in};
 ghost use Rattle.kr_pool_desk.specs.Observed.{ObservesFinished};
@@ -15,8 +15,8 @@ use std::marker::Model;
 use std::sync::Wait;
 use std::sync::ledger::{Blank, Ledger, Share};
 
-/// The caller's seat, and the share by which rows are drained. Contracts see how many rows were handed out, and whether a call of
-/// the caller's own worker was refused memory.
+/// The caller's seat, and the share by which rows are drained. Contracts see how many rows were handed out, whether a call of the
+/// caller's own worker was refused memory, and whether a part is kept outside of a stint.
 #[derive(Drop)]
 pub struct Lead<R, N: Run<R>, D: Ledger> {
     hand: Hand<R, N>,
@@ -26,9 +26,9 @@ pub struct Lead<R, N: Run<R>, D: Ledger> {
 impl<R, N: Run<R>, D: Ledger> Model for Lead<R, N, D> {
     ghost use Rattle.std.specs.Prelude.{ℕ, Bool, ◌≡◌, ◌<◌, is_some};
 
-    ghost Value = { ℕ × Bool };
+    ghost Value = { ℕ × Bool × Bool };
 
-    ghost view = { λ l. (l.tap.amount, is_some l.hand.seat.refused) };
+    ghost view = { λ l. (l.tap.amount, is_some l.hand.seat.refused, is_some l.hand.kept) };
 
     ghost invariant = { λ l. (l.tap.parts ≡ D.parts) × (0 < l.tap.parts) };
 }
@@ -56,6 +56,7 @@ impl<R: Drop, N: Run<R>, D: Ledger> Lead<R, N, D> {
     pub fn scratch<S: Survey<Row = R>>(&mut self, survey: &S) -> Option<S::Scratch>
         ensures made { IfSome result (S.made survey.now) }
         ensures same { self.new.0 ≡ self.old.0 }
+        ensures kept { self.new.2 ≡ self.old.2 }
     {
         scratch_for(survey, &mut self.hand)
     }
@@ -65,12 +66,14 @@ impl<R: Drop, N: Run<R>, D: Ledger> Lead<R, N, D> {
         requires runs { (runs.name ≡ L.name) × (runs.parts ≡ L.parts) × (0 < L.parts) }
         requires handed { (handed.name ≡ E.name) × (handed.parts ≡ E.parts) × (0 < E.parts) }
         ensures same { self.new.0 ≡ self.old.0 }
+        ensures none { self.new.2 ≡ false }
     {
         self.hand.begin(runs, handed)
     }
 
-    /// The stint ends, and the part that it keeps is kept for the next one.
+    /// The stint ends, and the part that it keeps is kept for the next one. There was no other stint since it began.
     pub fn end<L: Ledger, E: Ledger>(&mut self, stint: Stint<R, N, L, E>)
+        requires none { self.old.2 ≡ false }
         ensures same { self.new.0 ≡ self.old.0 }
     {
         self.hand.end(stint);
@@ -91,6 +94,7 @@ impl<R: Drop, N: Run<R>, D: Ledger> Lead<R, N, D> {
         requires made { IfSome scratch.old (S.made survey.now) }
         ensures made { IfSome scratch.new (S.made survey.now) }
         ensures same { self.new.0 ≡ self.old.0 }
+        ensures kept { self.new.2 ≡ self.old.2 }
     {
         leading.step(rt, shared, survey, scratch, &mut self.hand, stint, gate)
     }
@@ -106,6 +110,7 @@ impl<R: Drop, N: Run<R>, D: Ledger> Lead<R, N, D> {
         ensures observed { IfOk result (λ r. ObservesFinished N.all N.span N.cuts N.opening N.workers self.new.0 r.1) }
         ensures last { IfOk result (λ r. r.1 ≡ true → self.new.0 ≡ length (rows_of (listed_in N.all N.span))) }
         ensures refused { OnErr result (self.new.0 ≡ self.old.0) }
+        ensures kept { self.new.2 ≡ self.old.2 }
     {
         shared.drain(rt, &mut self.hand.seat, &mut self.tap)
     }

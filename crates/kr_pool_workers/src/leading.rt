@@ -1,7 +1,8 @@
 // The caller's work in a round that it leads: a part at a time, so that it can drain between two parts.
-ghost use Rattle.std.specs.Prelude.{◌≡◌, IfSome};
+ghost use Rattle.std.specs.Prelude.{◌≡◌, IfSome, is_some};
 ghost use Rattle.kr_pool_desk.specs.Leasing.{IsLeaseOf};
 ghost use Rattle.kr_pool_desk.specs.Short.{IsShortRun};
+ghost use Rattle.kr_pool_workers.specs.Stints.{ObservesNext};
 
 use crate::hand::{Hand, Open};
 use crate::stint::Stint;
@@ -31,7 +32,8 @@ pub fn scratch_for<R: Drop, N: Run<R>, S: Survey<Row = R>>(
     survey: &S,
     hand: &mut Hand<R, N>,
 ) -> Option<S::Scratch>
-    ensures { IfSome result (S.made survey.now) }
+    ensures made { IfSome result (S.made survey.now) }
+    ensures kept { hand.new.kept ≡ hand.old.kept }
 {
     match survey.scratch() {
         Ok(scratch) => Some(scratch),
@@ -60,7 +62,9 @@ impl Leading {
         hand: &mut Hand<R, N>,
         gate: &G,
     ) -> Option<Lease>
-        ensures { IfSome result (IsLeaseOf (IsShortRun N.all N.span N.cuts) hand.new.seat.number) }
+        ensures lease { IfSome result (IsLeaseOf (IsShortRun N.all N.span N.cuts) hand.new.seat.number) }
+        ensures observed { ObservesNext N.all N.span N.cuts N.opening N.workers N.limit hand.old.seat.number hand.old.seat.calls.amount hand.new.seat.calls.amount hand.old.open (is_some hand.new.seat.refused) result }
+        ensures kept { hand.new.kept ≡ hand.old.kept }
     {
         if let Some(open) = hand.open.take() {
             let lease = open.into_lease();
@@ -107,6 +111,7 @@ impl Leading {
         requires made { S.made survey.now scratch.old }
         ensures made { S.made survey.now scratch.new }
         ensures lease { IfSome result (λ t. (next : _) → t ≡ Turn.Go next → IsLeaseOf (IsShortRun N.all N.span N.cuts) hand.new.seat.number next) }
+        ensures kept { hand.new.kept ≡ hand.old.kept }
     {
         if stint.is_keeping() {
             if !stint.has_room(rt, shared) {
@@ -144,6 +149,7 @@ impl Leading {
         requires survey { S.all survey.now ≡ N.all }
         requires made { IfSome scratch.old (S.made survey.now) }
         ensures made { IfSome scratch.new (S.made survey.now) }
+        ensures kept { hand.new.kept ≡ hand.old.kept }
     {
         self.seen = shared.changes();
         let Some(scratch) = scratch else {

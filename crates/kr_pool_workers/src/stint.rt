@@ -1,10 +1,11 @@
 // What a seat's worker scans, and hands in.
-ghost use Rattle.std.specs.Prelude.{◌≡◌, ◌+◌, ◌<◌, ◌≤◌, None, true, IfErr};
+ghost use Rattle.std.specs.Prelude.{◌≡◌, ◌+◌, ◌<◌, ◌≤◌, Some, None, true, not, is_some, IfOk, IfErr, IfSome};
 ghost use Rattle.kr_base.specs.declared.span.Bound.TheVariants.{At};
 ghost use Rattle.kr_base.specs.Bounds.{less};
+ghost use Rattle.kr_board.specs.Parts.{IsPart};
 ghost use Rattle.kr_pool_desk.specs.Leasing.{IsLeaseOf};
 ghost use Rattle.kr_pool_desk.specs.Short.{IsShortBound, IsShortRun};
-ghost use Rattle.kr_pool_workers.specs.Stints.{kept_cost};
+ghost use Rattle.kr_pool_workers.specs.Stints.{IfAnswered, IfTaken, ObservesScan, ObservesTurn, is_full, kept_cost};
 
 use crate::hand::Kept;
 use crate::scanning::scan_part;
@@ -91,6 +92,9 @@ impl<R: Drop, N: Run<R>, L: Ledger, E: Ledger> Stint<R, N, L, E> {
         requires ahead { less (At lease.mark) lease.upto ≡ true }
         requires short { IsShortRun N.all N.span N.cuts → IsShortBound lease.upto }
         ensures back { IfErr result (λ e. e.0 ≡ lease) }
+        ensures scanned { IfOk result (λ u. IfSome self.new.kept (λ k. (k.0 ≡ lease) × IsPart N.all lease.mark k.1)) }
+        ensures kept { IfOk result (λ u. is_some self.new.kept ≡ true) }
+        ensures refused { IfErr result (λ e. is_some self.new.kept ≡ not (is_some e.1)) }
         ensures made { S.made survey.now scratch.new }
     {
         if self.kept.is_some() {
@@ -115,6 +119,9 @@ impl<R: Drop, N: Run<R>, L: Ledger, E: Ledger> Stint<R, N, L, E> {
         shared: &Shared<R, N, D>,
         seat: &mut Seat<N>,
     ) -> Turn
+        ensures observed { IfSome self.old.kept (λ k. IfAnswered result (ObservesTurn N.all N.span N.cuts N.opening N.workers N.limit seat.old.number seat.old.calls.amount seat.new.calls.amount k.0 k.1 result)) }
+        ensures back { IfSome self.old.kept (λ k. result ≡ Turn.Full → self.new.kept ≡ Some (record k.0 { seat = seat.old.number }, k.1)) }
+        ensures kept { is_some self.new.kept ≡ is_full result }
         ensures lease { (next : _) → result ≡ Turn.Go next → IsLeaseOf (IsShortRun N.all N.span N.cuts) seat.old.number next }
         ensures number { seat.new.number ≡ seat.old.number }
     {
@@ -158,6 +165,8 @@ impl<R: Drop, N: Run<R>, L: Ledger, E: Ledger> Stint<R, N, L, E> {
         requires survey { S.all survey.now ≡ N.all }
         requires made { S.made survey.now scratch.old }
         requires lease { IsLeaseOf (IsShortRun N.all N.span N.cuts) seat.old.number lease }
+        ensures observed { IfTaken result (ObservesScan N.all N.span N.cuts N.opening N.workers N.limit seat.old.number seat.old.calls.amount seat.new.calls.amount lease result) }
+        ensures kept { is_some self.new.kept ≡ is_full result }
         ensures lease { (next : _) → result ≡ Turn.Go next → IsLeaseOf (IsShortRun N.all N.span N.cuts) seat.old.number next }
         ensures made { S.made survey.now scratch.new }
         ensures number { seat.new.number ≡ seat.old.number }

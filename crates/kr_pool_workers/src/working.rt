@@ -2,6 +2,8 @@
 ghost use Rattle.std.specs.Prelude.{◌≡◌, ◌<◌, length, true, is_some};
 ghost use Rattle.kr_pool_desk.specs.Leasing.{IsLeaseOf};
 ghost use Rattle.kr_pool_desk.specs.Short.{IsShortRun};
+ghost use Rattle.kr_pool_workers.specs.Courses.{IfDone};
+ghost use Rattle.kr_pool_workers.specs.Stints.{ObservesScan};
 
 use crate::hand::Hand;
 use crate::stint::Stint;
@@ -42,6 +44,8 @@ fn follow<R: Drop, N: Run<R>, D: Ledger, L: Ledger, E: Ledger, S: Survey<Row = R
     requires made { S.made survey.now scratch.old }
     requires lease { IsLeaseOf (IsShortRun N.all N.span N.cuts) seat.old.number lease }
     ensures made { S.made survey.now scratch.new }
+    ensures observed { IfDone result ((middle : _) × (first : _) × ObservesScan N.all N.span N.cuts N.opening N.workers N.limit seat.old.number middle seat.new.calls.amount first Turn.Done) }
+    ensures held { result ≡ Course.Held → is_some stint.new.kept ≡ true }
     ensures number { seat.new.number ≡ seat.old.number }
 {
     let mut lease = lease;
@@ -72,6 +76,7 @@ fn report_kept<R: Drop, N: Run<R>, D: Ledger, L: Ledger, E: Ledger, S: Survey<Ro
     requires survey { S.all survey.now ≡ N.all }
     requires made { S.made survey.now scratch.old }
     ensures made { S.made survey.now scratch.new }
+    ensures held { result ≡ Course.Held → is_some stint.new.kept ≡ true }
     ensures number { seat.new.number ≡ seat.old.number }
 {
     match stint.hand_in(rt, shared, seat) {
@@ -105,6 +110,7 @@ fn take_on<
     requires survey { S.all survey.now ≡ N.all }
     requires made { S.made survey.now scratch.old }
     ensures made { S.made survey.now scratch.new }
+    ensures held { result ≡ Course.Held → is_some stint.new.kept ≡ true }
     ensures number { seat.new.number ≡ seat.old.number }
 {
     let mut turn: u64 = 0;
@@ -138,6 +144,7 @@ fn go_on<R: Drop, N: Run<R>, D: Ledger, L: Ledger, E: Ledger, S: Survey<Row = R>
     requires survey { S.all survey.now ≡ N.all }
     requires made { S.made survey.now scratch.old }
     ensures made { S.made survey.now scratch.new }
+    ensures held { result ≡ Course.Held → is_some stint.new.kept ≡ true }
     ensures number { seat.new.number ≡ seat.old.number }
 {
     match report_kept(rt, shared, survey, scratch, seat, stint) {

@@ -1,3 +1,4 @@
 pub mod Listed
 pub mod Runs
+pub mod Searched
 pub mod Traced

@@ -5,6 +5,7 @@ ghost use Rattle.kr_base.specs.declared.span.Bound.TheVariants.{At, End};
 ghost use Rattle.kr_mean.specs.Entries.{all_entries};
 ghost use Rattle.kr_report.specs.Endings.{EndsListing};
 ghost use Rattle.kr_report_listing.specs.Listed.{listed, tallied};
+ghost use Rattle.kr_report_listing.specs.Searched.{entries_to};
 ghost use Rattle.kr_space_problem.specs.Posed.{posed};
 
 use crate::surveys::{lines_of, units_of};
@@ -16,7 +17,7 @@ use std::alloc::Global;
 use std::sync::ledger::Ledger;
 
 /// Lists a problem's entries in a span, or tests its method on them, with at most so many rows: each row is put before the next
-/// candidate is run. Returns the status.
+/// candidate is run, and none is run after the first row past the limit. Returns the status.
 pub fn list_alone<K: Sink, L: Ledger>(
     alloc: Global,
     prepared: &Prepared,
@@ -25,7 +26,8 @@ pub fn list_alone<K: Sink, L: Ledger>(
     out: &mut K,
     runs: &mut Steps<L>,
 ) -> u8
-    ensures { EndsListing K.taken K.faults (listed (posed prepared.now.problem) limit span) out.old out.new result }
+    ensures ends { EndsListing K.taken K.faults (listed (posed prepared.now.problem) limit span) out.old out.new result }
+    ensures runs { result < 7 → runs.new ≤ runs.old + entries_to (limit + 1) (entries_in (At span.after) span.upto (all_entries (posed prepared.now.problem))) + length span.after + 2 }
 {
     lines_law();
     let lines = lines_of(alloc, prepared);

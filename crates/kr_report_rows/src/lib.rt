@@ -12,4 +12,5 @@ mod rows;
 mod values;
 
 pub use laws::{worked_law, written_law};
+pub use places::{class_of, numbered, place_of};
 pub use rows::{row_text, structure_text};

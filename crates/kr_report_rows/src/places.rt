@@ -16,7 +16,7 @@ use kr_value::{Class, Obj, SlotPlace, Spot};
 
 /// Its place; `this` for a slot that isn't there.
 #[tactic(auto, using(crate::proofs::Absent::no_place))]
-fn place_of(layout: &Layout, slot: u32) -> SlotPlace
+pub fn place_of(layout: &Layout, slot: u32) -> SlotPlace
     ensures { place_of result ≡ (slot_at (bare layout.now) slot).place }
 {
     if slot >= layout.slots() {
@@ -38,7 +38,7 @@ pub(crate) fn name_of(layout: &Layout, domain: u32) -> &[u8]
 
 /// What the objects of a class domain are of.
 #[tactic(auto, using(crate::proofs::Absent::no_class))]
-pub(crate) fn class_of(layout: &Layout, domain: u32) -> Class
+pub fn class_of(layout: &Layout, domain: u32) -> Class
     ensures { result ≡ (domain_at (bare layout.now) domain).class }
 {
     if domain as usize >= layout.domains() {
@@ -48,7 +48,7 @@ pub(crate) fn class_of(layout: &Layout, domain: u32) -> Class
 }
 
 /// The object of a number; where there is none, that of the number 0 in the first class domain.
-pub(crate) fn numbered(layout: &Layout, number: Obj) -> Object
+pub fn numbered(layout: &Layout, number: Obj) -> Object
     ensures { object_of result ≡ get_or (all_objects (bare layout.now)) number no_domain_object }
 {
     match layout.numbered(number) {

@@ -14,7 +14,7 @@ use Rattle.kr_mean.specs.declared.mode.Mode.TheVariants.{List as Listing, Method
 use Rattle.kr_report.specs.Endings.{EndsListing}
 use Rattle.kr_report.specs.Reports.{Answer, lines}
 use Rattle.kr_report.specs.Summaries.{summary_line}
-use Rattle.kr_report_streaming.specs.Followed.{followed_by}
+use Rattle.kr_report_streaming.specs.Followed.{followed_by, led_by}
 use Rattle.kr_report_streaming.specs.Lines.{cut_lines, entries_answer, failing_lines, last_of, lines_answer, status_by, texts, whole_lines, whole_text}
 use Rattle.kr_report_streaming.specs.Writers.{HaltsAt, HasWritten, IsListingStatus, WritesLines, closing_by, closing_of, summary_of}
 use Rattle.kr_report_streaming.specs.declared.closing.Closing.{Closing}
@@ -148,3 +148,13 @@ module _ {K : Type 0} (taken : K → Option (List ℕ)) (faults : K → ℕ) (mo
       let status_is : status ≡ (if is_ok r then close.status else 7) = subst (λ (x : Closing). status ≡ (if is_ok r then x.status else 7)) closes st in
       let all = answer close.status (texts (take a.limit (rows_of es))) (summary_line close.summary) in
       subst (λ (x : Answer). EndsListing taken faults x from c status) (sym (ap (followed_by log) e.0)) (after_rows taken faults from out (followed_by log all) c status close.status r refl (known mode w end) e.1 line status_is)
+
+  pub led_put : {T E : Type 0} (text : List ℕ) (put : Result End Halt) (end : End) (closing : Closing) (c : K) (status : ℕ) (r : Result T E) → put ≡ Ok end → Hands (WritesLines taken faults) es a from w out put → closing ≡ closing_of mode w end
+      → Writes taken faults out c (text ++ summary_line closing.summary) r → status ≡ (if is_ok r then closing.status else 7) → EndsListing taken faults (led_by text (entries_answer mode a.limit es)) from c status
+  led_put {T} {E} text put end closing c status r is h closes y st =
+      let e = ended end (subst (λ (p : Result End Halt). Hands (WritesLines taken faults) es a from w out p) is h) in
+      let close = closing_of mode w end in
+      let line = subst (λ (x : Closing). Writes taken faults out c (text ++ summary_line x.summary) r) closes y in
+      let status_is : status ≡ (if is_ok r then close.status else 7) = subst (λ (x : Closing). status ≡ (if is_ok r then x.status else 7)) closes st in
+      let all = answer close.status (texts (take a.limit (rows_of es))) (summary_line close.summary) in
+      subst (λ (x : Answer). EndsListing taken faults x from c status) (sym (ap (led_by text) e.0)) (after_rows taken faults from out (led_by text all) c status close.status r refl (known mode w end) e.1 line status_is)

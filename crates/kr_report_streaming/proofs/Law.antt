@@ -36,11 +36,11 @@ key_same f key (Valid row) rest = refl
 key_same f key Invalid rest = refl
 key_same f key Spent rest = refl
 
-spent_same : {R : Type 0} (f : Row → R) (es : List (Entry Row)) → spent_in (entries_by f es) ≡ spent_key es
+pub spent_same : {R : Type 0} (f : Row → R) (es : List (Entry Row)) → spent_in (entries_by f es) ≡ spent_key es
 spent_same f [] = refl
 spent_same f (e ∷ es) = ap (λ (k : Option (List ℕ)). if is_spent (mark_by f e.mark) then Some e.key else k) (spent_same f es) ∙ key_same f e.key e.mark (spent_key es)
 
-rows_by : {R : Type 0} (f : Row → R) (es : List (Entry Row)) → MappedLaw Row R → rows_of (entries_by f es) ≡ map f (rows_in es)
+pub rows_by : {R : Type 0} (f : Row → R) (es : List (Entry Row)) → MappedLaw Row R → rows_of (entries_by f es) ≡ map f (rows_in es)
 rows_by f es law = (law f es).rows ∙ ap (map f) (rows_same es)
 
 -- ---- lines
@@ -76,7 +76,7 @@ cut_by P rows =
     ∙ (ap (λ (ts : List (List ℕ)). answer (status_by (length (failing_in rows))) ts (more_text (last_of [] ls))) (texts_by P rows)
     ∙ ap (λ (k : List ℕ). answer (status_by (length (failing_in rows))) (map (row_text P) rows) (more_text k)) (last_by P rows))
 
-twice : (n : ℕ) → capped (capped n) ≡ capped n
+pub twice : (n : ℕ) → capped (capped n) ≡ capped n
 twice n = omega arith
 
 summary_by : (mode : Mode) (rows : List Row) (n : ℕ) → whole_text mode (length rows) (length (failing_in rows)) (capped n) ≡ summary_text mode rows n

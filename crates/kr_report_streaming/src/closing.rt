@@ -4,7 +4,7 @@ ghost use Rattle.kr_base.specs.Told.{Writes};
 ghost use Rattle.kr_base.specs.declared.entry.Entry.{Entry};
 ghost use Rattle.kr_report.specs.Endings.{BreaksOff, EndsListing};
 ghost use Rattle.kr_report.specs.Summaries.{summary_line};
-ghost use Rattle.kr_report_streaming.specs.Followed.{followed_by};
+ghost use Rattle.kr_report_streaming.specs.Followed.{followed_by, led_by};
 ghost use Rattle.kr_report_streaming.specs.Lines.{entries_answer, status_by};
 ghost use Rattle.kr_report_streaming.specs.Traces.{trace_text};
 ghost use Rattle.kr_report_streaming.specs.Writers.{WritesLines, closing_of, summary_of};
@@ -15,7 +15,7 @@ ghost use Rattle.kr_survey.specs.Takings.{Halts, Hands};
 use crate::halting::put_halt;
 use crate::trace::put_trace;
 use crate::writer::LineWriter;
-use kr_base::{Failed, Sink};
+use kr_base::{Failed, Sink, put_all};
 use kr_core::Event;
 use kr_mean::Mode;
 use kr_report::{Summary, once_written, summary_text};
@@ -60,6 +60,14 @@ fn put_closing<K: Sink>(closing: &Closing, log: &[Event], out: &mut K) -> Result
     put_trace(log, out)
 }
 
+/// Writes a text, and the last line after it.
+fn put_led<K: Sink>(text: &[u8], closing: &Closing, out: &mut K) -> Result<(), Failed>
+    ensures { Writes K.taken K.faults out.old out.new (text.now ++ summary_line closing.now.summary) result }
+{
+    put_all(out, text)?;
+    summary_text(&closing.summary, out)
+}
+
 impl LineWriter {
     /// The last line and the status, by how the rows ended.
     fn closing(self, mode: &Mode, end: End) -> Closing
@@ -102,6 +110,25 @@ impl LineWriter {
             Ok(end) => {
                 let closing = self.closing(mode, end);
                 once_written(put_closing(&closing, log, out), closing.status)
+            }
+        }
+    }
+
+    /// As `close`, with a text before the last line in place of a log after it.
+    pub fn close_after<K: Sink>(
+        self,
+        mode: &Mode,
+        put: Result<End, Halt>,
+        text: &[u8],
+        out: &mut K,
+    ) -> u8
+        ensures { (a : WriterOf) (from : K) (es : List (Entry LineOf)) → Hands (WritesLines K.taken K.faults) es a from self out.old put → EndsListing K.taken K.faults (led_by text.now (entries_answer mode.now a.limit es)) from out.new result }
+    {
+        match put {
+            Err(halt) => put_halt(halt, out),
+            Ok(end) => {
+                let closing = self.closing(mode, end);
+                once_written(put_led(text, &closing, out), closing.status)
             }
         }
     }

@@ -15,7 +15,8 @@ use crate::calls::apply;
 use kr_code::{Code, Nodes};
 use kr_mean::Stop;
 use kr_run_frames::{Goal, Stack, Task, UnitFrame, Up, Waiting};
-use kr_run_moves::{await_arguments, unit};
+use kr_run_known::at_once;
+use kr_run_moves::{await_arguments, enter_node, unit};
 use kr_run_state::{Halt, NoMemory, World};
 use kr_value::Value;
 use std::alloc::Global;
@@ -42,26 +43,115 @@ fn with_value(found: Vec<Value>, given: Value) -> Result<Vec<Value>, NoMemory>
     Ok(values)
 }
 
-/// Arguments that are left, after those that are there, and then the use of all.
-#[tactic(auto, using(kr_run_moves::proofs::Moves::onto_all), unfolding(kr_mean::specs::Steps::bind))]
-fn next_of(
+/// Where arguments come, of which so many at most are there at once if they are known.
+trait Next {
+    /// Arguments that are left, after those that are there, and then the use of all.
+    fn next_of(
+        alloc: Global,
+        code: &Code,
+        world: &mut World,
+        stack: &mut Stack,
+        goal: Goal,
+        nodes: Nodes,
+        found: Vec<Value>,
+        task: &mut Task,
+    ) -> Result<(), Halt>
+        ensures { Leads code.now (next_task result task.new) stack.new world.new world.old (λ d x. out_value code.now d stack.old (continued (values_at d (listed code.now nodes) (state_at world.old x)) (λ ws. applied code.now d goal (onto (reverse found.items) ws)))) };
+}
+
+/// Each argument comes by a step of its own.
+struct Singly;
+
+/// One argument more is there at once.
+struct AtOnce<L> {
+    others: L,
+}
+
+impl Next for Singly {
+    #[tactic(auto, using(kr_run_moves::proofs::Moves::onto_all), unfolding(kr_mean::specs::Steps::bind))]
+    fn next_of(
+        alloc: Global,
+        code: &Code,
+        world: &mut World,
+        stack: &mut Stack,
+        goal: Goal,
+        nodes: Nodes,
+        found: Vec<Value>,
+        task: &mut Task,
+    ) -> Result<(), Halt> {
+        match code.split(nodes) {
+            None => return apply(alloc, code, world, stack, goal, found, task),
+            Some((node, others)) => {
+                await_arguments(stack, goal, others, found.as_slice())?;
+                *task = Task::Evaluate(node);
+                return Ok(());
+            }
+        }
+    }
+}
+
+impl<L: Next> Next for AtOnce<L> {
+    #[tactic(auto, using(kr_run_moves::proofs::Moves::onto_all), unfolding(kr_mean::specs::Steps::bind))]
+    fn next_of(
+        alloc: Global,
+        code: &Code,
+        world: &mut World,
+        stack: &mut Stack,
+        goal: Goal,
+        nodes: Nodes,
+        found: Vec<Value>,
+        task: &mut Task,
+    ) -> Result<(), Halt> {
+        match code.split(nodes) {
+            None => return apply(alloc, code, world, stack, goal, found, task),
+            Some((node, others)) => {
+                return argument_next::<L>(
+                    alloc, code, world, stack, goal, node, others, found, task,
+                );
+            }
+        }
+    }
+}
+
+/// An argument that isn't known comes next, and then the others.
+#[tactic(auto, unfolding(kr_mean::specs::Steps::bind))]
+fn await_argument(
     alloc: Global,
     code: &Code,
     world: &mut World,
     stack: &mut Stack,
     goal: Goal,
-    nodes: Nodes,
+    node: u32,
+    others: Nodes,
     found: Vec<Value>,
     task: &mut Task,
 ) -> Result<(), Halt>
-    ensures { Leads code.now (next_task result task.new) stack.new world.new world.old (λ d x. out_value code.now d stack.old (continued (values_at d (listed code.now nodes) (state_at world.old x)) (λ ws. applied code.now d goal (onto (reverse found.items) ws)))) }
+    ensures { Leads code.now (next_task result task.new) stack.new world.new world.old (λ d x. out_value code.now d stack.old (continued (values_at d (node ∷ listed code.now others) (state_at world.old x)) (λ ws. applied code.now d goal (onto (reverse found.items) ws)))) }
 {
-    match code.split(nodes) {
-        None => return apply(alloc, code, world, stack, goal, found, task),
-        Some((node, others)) => {
-            await_arguments(stack, goal, others, found.as_slice())?;
-            *task = Task::Evaluate(node);
-            return Ok(());
+    await_arguments(stack, goal, others, found.as_slice())?;
+    enter_node(alloc, code, world, stack, node, task)
+}
+
+/// An argument, which is there at once where it is known, and then the others.
+fn argument_next<L: Next>(
+    alloc: Global,
+    code: &Code,
+    world: &mut World,
+    stack: &mut Stack,
+    goal: Goal,
+    node: u32,
+    others: Nodes,
+    found: Vec<Value>,
+    task: &mut Task,
+) -> Result<(), Halt>
+    ensures { Leads code.now (next_task result task.new) stack.new world.new world.old (λ d x. out_value code.now d stack.old (continued (values_at d (node ∷ listed code.now others) (state_at world.old x)) (λ ws. applied code.now d goal (onto (reverse found.items) ws)))) }
+{
+    match at_once(code, world, node) {
+        Some(given) => {
+            return take_next::<L>(alloc, code, world, stack, goal, others, found, given, task);
+        }
+        None => {
+            return await_argument(alloc, code, world, stack, goal, node, others, found, task);
         }
     }
 }
@@ -112,7 +202,9 @@ fn begin_arguments(
 {
     match take_found(alloc, stack) {
         Err(why) => Err(Halt::Memory(why)),
-        Ok(found) => next_of(alloc, code, world, stack, goal, nodes, found, task),
+        Ok(found) => <AtOnce<AtOnce<AtOnce<Singly>>>>::next_of(
+            alloc, code, world, stack, goal, nodes, found, task,
+        ),
     }
 }
 
@@ -162,7 +254,7 @@ pub(crate) fn next_arguments(
 }
 
 /// One more argument is there, after the others.
-fn take_next(
+fn take_next<L: Next>(
     alloc: Global,
     code: &Code,
     world: &mut World,
@@ -177,7 +269,9 @@ fn take_next(
 {
     match with_value(found, given) {
         Err(why) => return Err(Halt::Memory(why)),
-        Ok(values) => return next_of(alloc, code, world, stack, goal, others, values, task),
+        Ok(values) => {
+            return L::next_of(alloc, code, world, stack, goal, others, values, task);
+        }
     }
 }
 
@@ -216,7 +310,9 @@ pub(crate) fn take_argument(
 {
     match take_found(alloc, stack) {
         Err(why) => Err(Halt::Memory(why)),
-        Ok(found) => take_next(alloc, code, world, stack, goal, others, found, given, task),
+        Ok(found) => take_next::<AtOnce<AtOnce<Singly>>>(
+            alloc, code, world, stack, goal, others, found, given, task,
+        ),
     }
 }
 

@@ -10,9 +10,9 @@ ghost use Rattle.kr_run_frames.specs.declared.task.Task.TheVariants as tasks;
 ghost use Rattle.kr_code.specs.Doing.{statement_done, flow_of};
 ghost use Rattle.kr_code.specs.Steps.{store_initial as store_step};
 ghost use Rattle.kr_run_frames.specs.declared.frame.Change.TheVariants as changes;
-ghost use Rattle.kr_run_frames.specs.Frames.{resumed, out_value, out_flow, out_unit, altered, cut_to};
+ghost use Rattle.kr_run_frames.specs.declared.frame.FlowFrame.TheVariants as flows;
+ghost use Rattle.kr_run_frames.specs.Frames.{resumed, out_value, out_flow, out_unit, altered, cut_to, led};
 ghost use Rattle.kr_mean.specs.Meaning.{completed};
-ghost use Rattle.kr_mean.specs.Operators.{step_operator as operator_of_step};
 ghost use Rattle.kr_run_state.specs.Actions.{acted};
 ghost use Rattle.kr_run_frames.specs.Leads.{Leads, next_task};
 ghost use Rattle.kr_mean.specs.Steps.{bind, give, tick};
@@ -23,15 +23,14 @@ use crate::arguments::{next_arguments, take_argument, take_found, take_up_argume
 use crate::create::{construct, initialise, stop_unit, take_unit};
 use crate::steps::Step;
 use crate::unwinding::{Passing, end, is_leaving, pass_by};
-use kr_ast::{BinaryOperator, StepOperator};
 use kr_base::Countdown;
 use kr_code::{Code, Nodes, Statement};
 use kr_mean::{BinaryOperation, Flow, Kind, Stop};
-use kr_run_frames::{Change, Stack, Task, ValueFrame, Waiting, WriteFrame};
+use kr_run_frames::{Change, FlowFrame, Loop, Stack, Task, ValueFrame, Waiting, WriteFrame};
 use kr_run_known::{at_once, statement_at};
 use kr_run_moves::{
-    all, declare, enter_node, enter_statement, feed, repeat, take_flow, take_test, take_value,
-    update, value, write,
+    all, declare, enter_node, enter_statement, feed, repeat, step_operation, take_flow, take_test,
+    take_value, update, value, write,
 };
 use kr_run_state::{Action, Cell, Halt, Local, World, act, store_initial, tick};
 use kr_value::Value;
@@ -137,17 +136,6 @@ fn execute_node(
     }
 }
 
-fn step_operator(operator: StepOperator) -> BinaryOperator
-    ensures { result ≡ operator_of_step operator }
-{
-    match operator {
-        StepOperator::IncrementBefore => BinaryOperator::Add,
-        StepOperator::IncrementBehind => BinaryOperator::Add,
-        StepOperator::DecrementBefore => BinaryOperator::Subtract,
-        StepOperator::DecrementBehind => BinaryOperator::Subtract,
-    }
-}
-
 /// The right operand comes next, then the operator, and then the write.
 #[tactic(auto, using(crate::proofs::Machine::compounds), unfolding(kr_mean::specs::Steps::bind))]
 fn alter_compound(
@@ -184,11 +172,7 @@ fn alter(
     match change {
         Change::Step(step) => {
             write(stack, WriteFrame::Stepped(step.operator, cell, old))?;
-            let operation = BinaryOperation {
-                operator: step_operator(step.operator),
-                width: step.width,
-                assigned: None,
-            };
+            let operation = step_operation(step);
             *task = Task::Act(Action::Binary(operation, old, Value::Int(1)));
             Ok(())
         }
@@ -346,10 +330,31 @@ fn end_scope(
     Ok(())
 }
 
+/// A loop's round is over: the next one comes at once, unless the loop is left.
+#[inline(always)]
+#[tactic(auto, unfolding(kr_mean::specs::Steps::bind))]
+fn next_round(
+    alloc: Global,
+    code: &Code,
+    world: &mut World,
+    stack: &mut Stack,
+    turn: Loop,
+    flow: Flow,
+    task: &mut Task,
+) -> Result<(), Halt>
+    ensures { Leads code.now (next_task result task.new) stack.new world.new world.old (λ d x. out_flow code.now d stack.old (led code.now d (flows.Again turn) flow (state_at world.old x))) }
+{
+    match flow {
+        Flow::Next => repeat(alloc, code, world, stack, turn, task),
+        _ => take_flow(code, world, stack, FlowFrame::Again(turn), flow, task),
+    }
+}
+
 /// The topmost frame receives a statement's end.
 #[inline(always)]
 #[tactic(auto, unfolding(kr_mean::specs::Steps::bind))]
 fn flow_frame(
+    alloc: Global,
     code: &Code,
     world: &mut World,
     stack: &mut Stack,
@@ -361,6 +366,10 @@ fn flow_frame(
     ensures { Leads code.now (next_task result task.new) stack.new world.new world.old (λ d x. out_flow code.now d stack.old (give flow (state_at world.old x))) }
 {
     match frame {
+        Waiting::Flow(FlowFrame::Again(turn)) => {
+            stack.drop_top();
+            return next_round(alloc, code, world, stack, turn, flow, task);
+        }
         Waiting::Flow(waiting) => {
             stack.drop_top();
             return take_flow(code, world, stack, waiting, flow, task);
@@ -462,7 +471,7 @@ fn act_on(
     ensures { Leads code.now (next_task result task.new) stack.new world.new world.old (λ d x. out_value code.now d stack.old (acted code.now action (state_at world.old x))) }
 {
     match act(alloc, code, action, world) {
-        Ok(given) => feed(alloc, code, world, stack, given, task),
+        Ok(given) => feed(code, world, stack, given, task),
         Err(halt) => Err(halt),
     }
 }
@@ -482,12 +491,12 @@ fn do_task(
     match *task {
         Task::Evaluate(node) => return evaluate_node(alloc, code, world, stack, node, task),
         Task::Execute(node) => return execute_node(alloc, code, world, stack, node, task),
-        Task::Led(flow) => return give_flow(code, world, stack, flow, task),
+        Task::Led(flow) => return give_flow(alloc, code, world, stack, flow, task),
         Task::Done => return give_nothing(alloc, code, world, stack, task),
         Task::Act(action) => return act_on(alloc, code, world, stack, action, task),
         Task::All(nodes) => return all(code, world, stack, nodes, task),
         Task::Declare(nodes) => return declare(alloc, code, world, stack, nodes, task),
-        Task::Update(nodes) => return update(code, world, stack, nodes, task),
+        Task::Update(nodes) => return update(alloc, code, world, stack, nodes, task),
         Task::Repeat(turn) => return repeat(alloc, code, world, stack, turn, task),
         Task::Alter(change, cell, old) => {
             return alter(code, world, stack, change, cell, old, task);
@@ -528,6 +537,7 @@ fn give_value(
 #[inline(always)]
 #[tactic(auto, unfolding(kr_mean::specs::Steps::bind))]
 fn arrive(
+    alloc: Global,
     code: &Code,
     world: &mut World,
     stack: &mut Stack,
@@ -540,13 +550,14 @@ fn arrive(
         return Err(Halt::Ended(Stop::Stuck));
     };
     let frame = *top;
-    return flow_frame(code, world, stack, frame, flow, task);
+    return flow_frame(alloc, code, world, stack, frame, flow, task);
 }
 
 /// The frame that waits for it receives a statement's end.
 #[inline(always)]
 #[tactic(auto, using(crate::proofs::Passing::comes_then))]
 fn give_flow(
+    alloc: Global,
     code: &Code,
     world: &mut World,
     stack: &mut Stack,
@@ -557,9 +568,9 @@ fn give_flow(
 {
     if is_leaving(flow) {
         pass_by(code, world, stack, Passing::Flow(flow))?;
-        return arrive(code, world, stack, flow, task);
+        return arrive(alloc, code, world, stack, flow, task);
     }
-    return arrive(code, world, stack, flow, task);
+    return arrive(alloc, code, world, stack, flow, task);
 }
 
 /// A step without a value is done.

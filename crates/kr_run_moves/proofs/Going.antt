@@ -11,8 +11,9 @@ use Rattle.kr_mean.specs.declared.flow.Flow.TheVariants.{Next, Broke, Continued,
 use Rattle.kr_mean.specs.Meaning.{then_on}
 use Rattle.kr_code.specs.declared.code.Code.{Code}
 use Rattle.kr_code.specs.declared.expression.Nodes.{Nodes}
-use Rattle.kr_code.specs.Tables.{listed}
-use Rattle.kr_code.specs.Doing.{Doing, IsMeaning, all_at, values_at}
+use Rattle.kr_code.specs.declared.expression.Expression.{Expression}
+use Rattle.kr_code.specs.Tables.{expression_of, listed, node_at}
+use Rattle.kr_code.specs.Doing.{Doing, IsMeaning, all_at, updates_at, value_done, values_at}
 use Rattle.kr_run_state.specs.declared.world.World.{World}
 use Rattle.kr_run_state.specs.declared.world.Halt.{Halt}
 use Rattle.kr_run_state.specs.Noting.{noting}
@@ -82,6 +83,33 @@ pub no_flow : (code : Code) (h : Halt) (fs : List Frame) (w before : World) (m :
 unfolding bind
 no_flow code h fs w before m k a = flow_halts_then code h fs w before k (λ x. m (state_at before x)) a
 
+-- likewise, and no value comes
+pub no_value : (code : Code) (h : Halt) (fs : List Frame) (w before : World) (m : Run Value) (k : Doing → Value → Run Value)
+    → Agrees {A = Value} (Err h) w before (λ x. m (state_at before x)) → Leads code (Err h) fs w before (λ d x. out_value code d fs (bind m (k d) (state_at before x)))
+unfolding bind
+no_value code h fs w before m k a = value_halts_then code h fs w before k (λ x. m (state_at before x)) a
+
+-- ---- a node, after its unit
+
+pub node_halts : (code : Code) (h : Halt) (fs : List Frame) (w before : World) (i : ℕ)
+    → Agrees {A = Value} (Err h) w before (λ x. bind tick (λ u. give Null) (state_at before x)) → Leads code (Err h) fs w before (λ d x. out_value code d fs (d.value i (state_at before x)))
+node_halts code h fs w before i a =
+    leads_alike code (Err h) fs w before (λ d x. out_value code d fs (d.value i (state_at before x))) (λ d x. out_value code d fs (bind tick (λ u. value_done code d (expression_of (node_at code i))) (state_at before x)))
+    (λ x d m. ap (λ (q : Outcome Value). out_value code d fs q) (m.value_is i (state_at before x)))
+    (no_value_tick code h fs w before (λ (d : Doing). value_done code d (expression_of (node_at code i))) a)
+
+pub node_then : (code : Code) (r : Result Task Halt) (fs gs : List Frame) (w then before : World) (i : ℕ) (e : Expression) (v : Value) → expression_of (node_at code i) ≡ e
+    → Agrees (Ok v) then before (λ x. bind tick (λ u. give Null) (state_at before x))
+    → Leads code r gs w then (λ d x. out_value code d fs (value_done code d e (state_at then x))) → Leads code r gs w before (λ d x. out_value code d fs (d.value i (state_at before x)))
+node_then code r fs gs w then before i e v is h g =
+    leads_same code r gs w then before (λ d x. out_value code d fs (d.value i (state_at before x))) (λ d x. out_value code d fs (value_done code d e (state_at then x)))
+    (λ x a. let y = h x a in (
+      y.0,
+      λ d m. ap (λ (q : Outcome Value). noting before.reads (out_value code d fs q)) (m.value_is i (state_at before x) ∙ ap (λ (f : Expression). bind tick (λ u. value_done code d f) (state_at before x)) is)
+          ∙ ticked (out_value code d fs) (value_reads code d fs) before.reads then.reads (value_done code d e) (state_at before x) (state_at then x) v y.1,
+    ))
+    g
+
 -- ---- lists
 
 -- the only argument
@@ -113,3 +141,7 @@ last_flow m s = go (m s).said
 
 pub last_one : (code : Code) (d : Doing) (i : ℕ) (ns : Nodes) (s : State) → ns.count ≡ 0 → all_at d (i ∷ listed code ns) s ≡ d.exec i s
 last_one code d i ns s zero = ap (λ (is : List ℕ). all_at d (i ∷ is) s) (none_listed code ns zero) ∙ last_flow (d.exec i) s
+
+-- no update comes after the last one
+pub last_update : (code : Code) (d : Doing) (i : ℕ) (ns : Nodes) (s : State) → ns.count ≡ 0 → updates_at d (i ∷ listed code ns) s ≡ bind (d.value i) (λ v. give Next) s
+last_update code d i ns s zero = ap (λ (is : List ℕ). updates_at d (i ∷ is) s) (none_listed code ns zero)

@@ -49,6 +49,10 @@ mapped {A} {B} {C} m h g s = go (m s).said
     go (Ok a) = ap (λ (rs : List SlotPlace). after_reads rs (g (h a) (m s).after)) (append-nil (m s).reads)
     go (Err e) = refl
 
+pub then_mapped : {A B C : Type 0} (m : Run A) (h : A → B) (g : B → Run C) (s : State) → bind (bind m (λ a. give (h a))) g s ≡ bind m (λ a. g (h a)) s
+unfolding bind
+then_mapped m h g s = mapped m h g s
+
 -- the value doesn't matter
 pub given_then : {A B C : Type 0} (m : Run A) (x : B) (f : B → Run C) (s : State) → continued (bind m (λ a. give x) s) f ≡ bind m (λ a. f x) s
 unfolding bind
@@ -123,3 +127,10 @@ steps_on code d o cell v w given s b is gives new =
     ap (λ (x : Bool). bind (written code cell (change_from x v w).new) (λ u. give (change_from x v w).given) s) is
     ∙ ap (λ (x : Value). bind (written code cell x) (λ u. give (change_from b v w).given) s) new
     ∙ ap (λ (x : Value). bind (written code cell w) (λ u. give x) s) (sym gives)
+
+pub changes_local : (o : StepOperator) (k : ℕ) (v w given : Value) (s : State) (b : Bool) → gives_old o ≡ b → given ≡ (change_from b v w).given → (change_from b v w).new ≡ w
+    → bind (assign k (change_from (gives_old o) v w).new) (λ u. give (change_from (gives_old o) v w).given) s ≡ bind (assign k w) (λ u. give given) s
+changes_local o k v w given s b is gives new =
+    ap (λ (x : Bool). bind (assign k (change_from x v w).new) (λ u. give (change_from x v w).given) s) is
+    ∙ ap (λ (x : Value). bind (assign k x) (λ u. give (change_from b v w).given) s) new
+    ∙ ap (λ (x : Value). bind (assign k w) (λ u. give x) s) (sym gives)

@@ -1,6 +1,7 @@
 // An expression is entered: what comes next, and the frames that wait for it.
 ghost use Rattle.std.specs.Prelude.{◌≡◌, [], ◌∷◌};
-ghost use Rattle.kr_mean.specs.Steps.{bind, collect as collect_step, element as element_step};
+ghost use Rattle.kr_mean.specs.Operators.{operated as operated_step};
+ghost use Rattle.kr_mean.specs.Steps.{bind, collect as collect_step, element as element_step, say};
 ghost use Rattle.kr_code.specs.Collections.{name_of};
 ghost use Rattle.kr_code.specs.Steps.{load_named};
 ghost use Rattle.kr_code.specs.Doing.{value_done, call, assigned, changed, values_at};
@@ -10,9 +11,11 @@ ghost use Rattle.kr_run_state.specs.Worlds.{state_at};
 ghost use Rattle.kr_code.specs.Tables.{expression_of, listed, node_at};
 
 use crate::pushes::{await_arguments, first, then_write, write};
-use crate::values::{feed, take_array};
+use crate::reads::read_first;
+use crate::values::{feed, take_array, take_left};
+use crate::variables::{assign_local, step_local};
 use kr_code::{Callee, Code, CollectionCall, Expression, Nodes, Variable};
-use kr_mean::Stop;
+use kr_mean::{BinaryOperation, Stop};
 use kr_run_frames::{Change, Goal, Stack, Task, ValueFrame, WriteFrame};
 use kr_run_known::{at_once, expression_at};
 use kr_run_state::{Action, Cell, Halt, World, collect, tick};
@@ -50,25 +53,20 @@ fn enter_call(
 #[tactic(auto, unfolding(kr_mean::specs::Steps::bind))]
 fn enter_assignment(
     code: &Code,
-    world: &World,
+    world: &mut World,
     stack: &mut Stack,
     variable: Variable,
     node: u32,
     task: &mut Task,
 ) -> Result<(), Halt>
-    ensures { Leads code.now (next_task result task.new) stack.new world.now world.now (λ d x. out_value code.now d stack.old (assigned code.now d variable (d.value node) (state_at world.now x))) }
+    ensures { Leads code.now (next_task result task.new) stack.new world.new world.old (λ d x. out_value code.now d stack.old (assigned code.now d variable (d.value node) (state_at world.old x))) }
 {
     match variable {
         Variable::Unknown => {
             *task = Task::Act(Action::End(Stop::Stuck));
             Ok(())
         }
-        Variable::Local(local) => then_write(
-            stack,
-            WriteFrame::Put(Cell::Local(local)),
-            node,
-            task,
-        ),
+        Variable::Local(local) => assign_local(code, world, stack, local, node, task),
         Variable::Own { field, .. } => then_write(stack, WriteFrame::PutOwn(field), node, task),
         Variable::Of { object, field, .. } => then_write(
             stack,
@@ -88,24 +86,27 @@ fn enter_assignment(
 #[tactic(auto, unfolding(kr_mean::specs::Steps::bind))]
 fn enter_change(
     code: &Code,
-    world: &World,
+    world: &mut World,
     stack: &mut Stack,
     variable: Variable,
     change: Change,
     task: &mut Task,
 ) -> Result<(), Halt>
-    ensures { Leads code.now (next_task result task.new) stack.new world.now world.now (λ d x. out_value code.now d stack.old (changed code.now d variable (change_of d change) (state_at world.now x))) }
+    ensures { Leads code.now (next_task result task.new) stack.new world.new world.old (λ d x. out_value code.now d stack.old (changed code.now d variable (change_of d change) (state_at world.old x))) }
 {
     match variable {
         Variable::Unknown => {
             *task = Task::Act(Action::End(Stop::Stuck));
             Ok(())
         }
-        Variable::Local(local) => {
-            write(stack, WriteFrame::Alter(change, Cell::Local(local)))?;
-            *task = Task::Act(Action::ReadLocal(local));
-            Ok(())
-        }
+        Variable::Local(local) => match change {
+            Change::Step(step) => step_local(code, world, stack, local, step, task),
+            Change::Compound(_, _) => {
+                write(stack, WriteFrame::Alter(change, Cell::Local(local)))?;
+                *task = Task::Act(Action::ReadLocal(local));
+                Ok(())
+            }
+        },
         Variable::Own { name, field } => {
             let this = world.this;
             write(stack, WriteFrame::Alter(change, Cell::Field(field, this)))?;
@@ -137,7 +138,7 @@ fn enter_change(
 
 /// The field of an object, which comes next, unless it is known.
 #[inline(always)]
-fn enter_field(
+pub(crate) fn enter_field(
     code: &Code,
     world: &mut World,
     stack: &mut Stack,
@@ -157,7 +158,7 @@ fn enter_field(
 }
 
 /// An element of an array, which comes next, unless it is known.
-fn enter_element(
+pub(crate) fn enter_element(
     code: &Code,
     world: &mut World,
     stack: &mut Stack,
@@ -173,9 +174,33 @@ fn enter_element(
     }
 }
 
+/// An operator with two operands, the left one of which comes next, unless it is known.
+fn enter_binary(
+    code: &Code,
+    world: &mut World,
+    stack: &mut Stack,
+    operation: BinaryOperation,
+    left: u32,
+    right: u32,
+    task: &mut Task,
+) -> Result<(), Halt>
+    ensures { Leads code.now (next_task result task.new) stack.new world.new world.old (λ d x. out_value code.now d stack.old (bind (d.value left) (λ v. bind (d.value right) (λ w. say (operated_step operation v w))) (state_at world.old x))) }
+{
+    match at_once(code, world, left) {
+        Some(value) => take_left(code, world, stack, operation, right, value, task),
+        None => read_first(
+            code,
+            world,
+            stack,
+            ValueFrame::Left(operation, right),
+            left,
+            task,
+        ),
+    }
+}
+
 /// A call on a collection, with arguments that are there.
 fn collected(
-    alloc: Global,
     code: &Code,
     world: &mut World,
     stack: &mut Stack,
@@ -187,14 +212,13 @@ fn collected(
     ensures { Leads code.now (next_task result task.new) stack.new world.new world.old (λ d x. out_value code.now d stack.old (collect_step (name_of call) object arguments.now (state_at world.old x))) }
 {
     match collect(world, call, object, arguments) {
-        Ok(given) => feed(alloc, code, world, stack, given, task),
+        Ok(given) => feed(code, world, stack, given, task),
         Err(halt) => Err(halt),
     }
 }
 
 /// A call on a collection with one argument.
 fn collected_with(
-    alloc: Global,
     code: &Code,
     world: &mut World,
     stack: &mut Stack,
@@ -205,7 +229,7 @@ fn collected_with(
 ) -> Result<(), Halt>
     ensures { Leads code.now (next_task result task.new) stack.new world.new world.old (λ d x. out_value code.now d stack.old (collect_step (name_of call) object (argument ∷ []) (state_at world.old x))) }
 {
-    collected(alloc, code, world, stack, call, object, &[argument], task)
+    collected(code, world, stack, call, object, &[argument], task)
 }
 
 /// A call on a collection with one argument, which comes first, unless it is known.
@@ -224,7 +248,7 @@ fn collect_one(
     ensures { Leads code.now (next_task result task.new) stack.new world.new world.old (λ d x. out_value code.now d stack.old (bind (values_at d (listed code.now arguments)) (collect_step (name_of call) object) (state_at world.old x))) }
 {
     match at_once(code, world, node) {
-        Some(argument) => collected_with(alloc, code, world, stack, call, object, argument, task),
+        Some(argument) => collected_with(code, world, stack, call, object, argument, task),
         None => collect_later(alloc, code, world, stack, call, object, arguments, task),
     }
 }
@@ -244,7 +268,7 @@ fn collect_next(
     ensures { Leads code.now (next_task result task.new) stack.new world.new world.old (λ d x. out_value code.now d stack.old (bind (values_at d (listed code.now arguments)) (collect_step (name_of call) object) (state_at world.old x))) }
 {
     match code.split(arguments) {
-        None => collected(alloc, code, world, stack, call, object, &[], task),
+        None => collected(code, world, stack, call, object, &[], task),
         Some((node, others)) => {
             if others.count == 0 {
                 collect_one(
@@ -385,7 +409,7 @@ fn enter_expression(
             operation,
             left,
             right,
-        } => first(stack, ValueFrame::Left(*operation, *right), *left, task),
+        } => enter_binary(code, world, stack, *operation, *left, *right, task),
         Expression::InstanceOf { operand, class } => first(
             stack,
             ValueFrame::Instance(*class),

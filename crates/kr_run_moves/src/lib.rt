@@ -6,8 +6,10 @@ mod expressions;
 mod flows;
 mod lists;
 mod pushes;
+mod reads;
 mod statements;
 mod values;
+mod variables;
 
 pub use expressions::enter_node;
 pub use flows::take_flow;
@@ -15,3 +17,4 @@ pub use lists::{all, declare, repeat, update};
 pub use pushes::{await_arguments, push, unit, value, write};
 pub use statements::enter_statement;
 pub use values::{feed, stop, take_test, take_value};
+pub use variables::step_operation;

@@ -8,8 +8,8 @@ ghost use Rattle.kr_run_frames.specs.declared.frame.TestFrame.TheVariants as tes
 ghost use Rattle.kr_run_frames.specs.Leads.{Leads, next_task};
 ghost use Rattle.kr_run_state.specs.Worlds.{state_at};
 
-use crate::pushes::{flow, test};
-use crate::values::{begin_round, stop, test_next};
+use crate::pushes::flow;
+use crate::values::{begin_round, initial_next, stop, wait_for_test};
 use kr_code::{Code, Declarator, Nodes};
 use kr_mean::Flow;
 use kr_run_frames::{FlowFrame, Loop, Stack, Task, TestFrame};
@@ -62,27 +62,51 @@ pub fn all(
     }
 }
 
+/// An update of a loop; where it is the last one, no frame for others waits.
+#[inline(always)]
+fn update_by(
+    alloc: Global,
+    code: &Code,
+    world: &mut World,
+    stack: &mut Stack,
+    node: u32,
+    others: Nodes,
+    task: &mut Task,
+) -> Result<(), Halt>
+    ensures { Leads code.now (next_task result task.new) stack.new world.new world.old (λ d x. out_flow code.now d stack.old (updates_at d (node ∷ listed code.now others) (state_at world.old x))) }
+{
+    if others.count == 0 {
+        return wait_for_test(alloc, code, world, stack, TestFrame::Discard, node, task);
+    }
+    wait_for_test(
+        alloc,
+        code,
+        world,
+        stack,
+        TestFrame::Updates(others),
+        node,
+        task,
+    )
+}
+
 /// The updates of a loop.
 #[tactic(auto, unfolding(kr_mean::specs::Steps::bind))]
 pub fn update(
+    alloc: Global,
     code: &Code,
-    world: &World,
+    world: &mut World,
     stack: &mut Stack,
     nodes: Nodes,
     task: &mut Task,
 ) -> Result<(), Halt>
-    ensures { Leads code.now (next_task result task.new) stack.new world.now world.now (λ d x. out_flow code.now d stack.old (updates_at d (listed code.now nodes) (state_at world.now x))) }
+    ensures { Leads code.now (next_task result task.new) stack.new world.new world.old (λ d x. out_flow code.now d stack.old (updates_at d (listed code.now nodes) (state_at world.old x))) }
 {
     match code.split(nodes) {
         None => {
             *task = Task::Led(Flow::Next);
             Ok(())
         }
-        Some((node, others)) => {
-            test(stack, TestFrame::Updates(others))?;
-            *task = Task::Evaluate(node);
-            Ok(())
-        }
+        Some((node, others)) => update_by(alloc, code, world, stack, node, others, task),
     }
 }
 
@@ -121,15 +145,7 @@ fn begin_local(
 {
     match initial {
         None => next_declared(code, &*world, stack, local, others, given, task),
-        Some(node) => test_next(
-            alloc,
-            code,
-            world,
-            stack,
-            TestFrame::Initial(local, others),
-            node,
-            task,
-        ),
+        Some(node) => initial_next(alloc, code, world, stack, local, node, others, task),
     }
 }
 

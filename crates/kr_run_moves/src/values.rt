@@ -2,9 +2,8 @@
 ghost use Rattle.std.specs.Prelude.{◌≡◌, true};
 ghost use Rattle.kr_value.specs.declared.value.Value.TheVariants.{Bool as Truth};
 ghost use Rattle.kr_mean.specs.declared.kind.Stop.TheVariants.{Stuck};
-ghost use Rattle.kr_mean.specs.Operators.{gives_old as gives_old_step};
 ghost use Rattle.kr_mean.specs.Operators.{operated as operated_step, operated_alone as alone_step};
-ghost use Rattle.kr_mean.specs.Steps.{bind, give, say, stop as stop_step};
+ghost use Rattle.kr_mean.specs.Steps.{assign as assign_step, bind, give, say, stop as stop_step};
 ghost use Rattle.kr_code.specs.Doing.{all_declared};
 ghost use Rattle.kr_code.specs.Tables.{listed};
 ghost use Rattle.kr_mean.specs.Steps.{element as element_step};
@@ -16,6 +15,8 @@ ghost use Rattle.kr_run_state.specs.Worlds.{state_at};
 
 use crate::expressions::enter_node;
 use crate::pushes::{await_arguments, first, flow, test, then_write, value, write};
+use crate::reads::read_first;
+use crate::variables::{gives_old, store_local};
 use kr_ast::StepOperator;
 use kr_code::{Code, Nodes};
 use kr_mean::{BinaryOperation, Flow, Stop, UnaryOperation};
@@ -23,19 +24,9 @@ use kr_run_frames::{
     FlowFrame, Goal, Loop, Stack, Task, TestFrame, ValueFrame, Waiting, WriteFrame,
 };
 use kr_run_known::at_once;
-use kr_run_state::{Action, Cell, Halt, World, act, operated, operated_alone};
+use kr_run_state::{Action, Cell, Halt, World, assign, operated, operated_alone};
 use kr_value::Value;
 use std::alloc::Global;
-
-fn gives_old(operator: StepOperator) -> bool
-    ensures { result ≡ gives_old_step operator }
-{
-    match operator {
-        StepOperator::IncrementBehind => true,
-        StepOperator::DecrementBehind => true,
-        _ => false,
-    }
-}
 
 /// A variable's next value, by one more or one less.
 #[tactic(auto, using(crate::proofs::Moves::steps_on), unfolding(kr_mean::specs::Steps::bind))]
@@ -192,7 +183,6 @@ fn declare_rest(
 /// A local gets its initial value, and the other declarators come next.
 #[inline(always)]
 fn take_initial(
-    alloc: Global,
     code: &Code,
     world: &mut World,
     stack: &Stack,
@@ -203,17 +193,16 @@ fn take_initial(
 ) -> Result<(), Halt>
     ensures { Leads code.now (next_task result task.new) stack.now world.new world.old (λ d x. out_flow code.now d stack.now (tested code.now d (tests.Initial local others) given (state_at world.old x))) }
 {
-    let action = Action::Write(Cell::Local(local), given, given);
-    match act(alloc, code, action, world) {
+    match assign(world, local, given, given) {
         Ok(_) => declare_rest(code, &*world, stack, others, task),
         Err(halt) => Err(halt),
     }
 }
 
-/// The topmost frame receives a value, where it is an operator or a test; otherwise the value is the next task.
+/// The topmost frame receives a value, where it is an operator, a test or an assignment of a local; otherwise the value is the
+/// next task.
 #[tactic(auto, unfolding(kr_mean::specs::Steps::bind))]
 pub fn feed(
-    alloc: Global,
     code: &Code,
     world: &mut World,
     stack: &mut Stack,
@@ -235,9 +224,17 @@ pub fn feed(
             stack.drop_top();
             return take_left(code, world, stack, operation, right, given, task);
         }
+        Waiting::Value(ValueFrame::Right(operation, left)) => {
+            stack.drop_top();
+            return operate(code, world, stack, operation, left, given, task);
+        }
+        Waiting::Value(ValueFrame::Write(WriteFrame::Put(Cell::Local(local)))) => {
+            stack.drop_top();
+            return store_local(code, world, stack, local, given, given, task);
+        }
         Waiting::Test(TestFrame::Initial(local, others)) => {
             stack.drop_top();
-            return take_initial(alloc, code, world, stack, local, others, given, task);
+            return take_initial(code, world, stack, local, others, given, task);
         }
         Waiting::Test(frame) => {
             stack.drop_top();
@@ -289,7 +286,7 @@ fn operate(
 
 /// An operator has its left operand; the right one comes next, unless it is known.
 #[inline(always)]
-fn take_left(
+pub(crate) fn take_left(
     code: &Code,
     world: &mut World,
     stack: &mut Stack,
@@ -302,7 +299,14 @@ fn take_left(
 {
     match at_once(code, world, right) {
         Some(value) => operate(code, world, stack, operation, given, value, task),
-        None => first(stack, ValueFrame::Right(operation, given), right, task),
+        None => read_first(
+            code,
+            world,
+            stack,
+            ValueFrame::Right(operation, given),
+            right,
+            task,
+        ),
     }
 }
 
@@ -612,6 +616,33 @@ pub(crate) fn test_next(
     }
 }
 
+/// A local's initial value comes next; where it is known, the local has it at once.
+pub(crate) fn initial_next(
+    alloc: Global,
+    code: &Code,
+    world: &mut World,
+    stack: &mut Stack,
+    local: u32,
+    node: u32,
+    others: Nodes,
+    task: &mut Task,
+) -> Result<(), Halt>
+    ensures { Leads code.now (next_task result task.new) stack.new world.new world.old (λ d x. out_flow code.now d stack.old (bind (d.value node) (tested code.now d (tests.Initial local others)) (state_at world.old x))) }
+{
+    match at_once(code, world, node) {
+        Some(given) => take_initial(code, world, stack, local, others, given, task),
+        None => wait_for_test(
+            alloc,
+            code,
+            world,
+            stack,
+            TestFrame::Initial(local, others),
+            node,
+            task,
+        ),
+    }
+}
+
 /// A loop's test; where its value is known, the round begins at once.
 #[inline(always)]
 #[tactic(auto, unfolding(kr_mean::specs::Steps::bind))]
@@ -655,7 +686,7 @@ pub(crate) fn begin_round(
 /// A test's value, which isn't known, comes next.
 #[inline(always)]
 #[tactic(auto, unfolding(kr_mean::specs::Steps::bind))]
-fn wait_for_test(
+pub(crate) fn wait_for_test(
     alloc: Global,
     code: &Code,
     world: &mut World,

@@ -16,7 +16,7 @@ pub use kr_base::NoMemory;
 pub use memory::{
     class_of, element, index_below, load_named, made_number, new_object, store_initial,
 };
-pub use names::{declare, tick};
+pub use names::{assign, declare, read_local, tick};
 pub use operators::{alone, binary, operated, operated_alone};
 pub use reads::Reads;
 pub use world::{Halt, Local, Old, World, ended};

@@ -48,12 +48,7 @@ pub fn declare(world: &mut World, value: Value) -> Result<Value, Halt>
 /// Gives a local another value, and then what is to be given.
 #[inline(always)]
 #[tactic(auto, unfolding(kr_mean::specs::Steps::bind))]
-pub(crate) fn assign(
-    world: &mut World,
-    local: u32,
-    value: Value,
-    given: Value,
-) -> Result<Value, Halt>
+pub fn assign(world: &mut World, local: u32, value: Value, given: Value) -> Result<Value, Halt>
     ensures { Agrees result world.new world.old (λ x. bind (assign_step local value) (λ u. give given) (state_at world.old x)) }
 {
     if (local as usize) < world.locals.len() {

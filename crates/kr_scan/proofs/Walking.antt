@@ -12,7 +12,7 @@ use Rattle.kr_base.specs.declared.span.Bound.TheVariants.{At}
 use Rattle.kr_base.specs.declared.span.Span.{Span}
 use Rattle.kr_base.specs.Entries.{entries_in, is_spent, through_spent}
 use Rattle.kr_survey.specs.Listings.{listed_in, spent_in}
-use Rattle.kr_survey.specs.Mapping.{entries_by, mark_by}
+use Rattle.kr_survey.specs.Mapping.{entries_by, entry_by, mark_by}
 use Rattle.kr_survey.specs.Scans.{any_spent, row_of, rows_of}
 use Rattle.kr_survey.specs.Takings.{Takes, Took, Ends, Halts, Hands}
 use Rattle.kr_survey.specs.declared.taker.End.{End}
@@ -22,6 +22,7 @@ use Rattle.kr_survey.specs.declared.taker.Halt.TheVariants.{Sink, Memory}
 use Rattle.kr_survey.specs.declared.taker.Room.{Room}
 use Rattle.kr_survey.specs.declared.taker.Room.TheVariants.{More, Full}
 use Rattle.kr_survey.proofs.Mapping.{entries_in_by, length_of_entries_by, rows_by}
+use Rattle.kr_scan.specs.Filling.{IfFull, StopsWhenFull}
 use Rattle.kr_scan.specs.Stops.{EndsAt}
 use Rattle.kr_survey.proofs.Scanning.{length-more, rows-more, spent-more}
 
@@ -143,6 +144,22 @@ module _ {R : Type 0} (es done left : List (Entry R)) (tried : ℕ) (is : IsWalk
     pub ends_full : takes a from (map f (rows_of done) ++ map f (row_of e.mark)) b out (Some Full) → Ends takes (entries_by f es) a from b out AtFull
     ends_full t = (length (map f (rows_of done) ++ map f (row_of e.mark)), subst (λ rows. takes a from rows b out (Some Full)) (sym front_now) t)
 
+    -- the taker had room before it
+    pub stops_when_full : (taker : T) (output : K) (start before now : ℕ) → takes a from (map f (rows_of done)) taker output (Some More) → before ≤ start + length done → now ≤ before + 1 → StopsWhenFull takes (entries_by f es) a from start now 0
+    stops_when_full taker output start before now t b n =
+        let later = one_more e rest (min (tried + 1) (2 ^ 64 - 1)) next unspent refl in
+        let rests = entries_by f (through_spent rest) in
+        record {
+          front = entries_by f done;
+          last = entry_by f e;
+          behind = rests;
+          parts = ap (entries_by f) later.whole ∙ (map-append (entry_by f) (done ++ e ∷ []) (through_spent rest) ∙ (ap (λ l. l ++ rests) (map-append (entry_by f) done (e ∷ [])) ∙ append_assoc (entries_by f done) (entry_by f e ∷ []) rests));
+          taker = taker;
+          output = output;
+          room = subst (λ rows. takes a from rows taker output (Some More)) (sym (rows_by f done)) t;
+          few = omega (arith, b, n, length_of_entries_by f done);
+        }
+
     pub halts : (halt : Halt) → Took takes a from (map f (rows_of done)) (map f (row_of e.mark)) b out (Err halt) → Halts takes (entries_by f es) a from b out halt
     halts Sink t = (length (map f (rows_of done) ++ map f (row_of e.mark)), subst (λ rows. takes a from rows b out None) (sym front_now) t)
     halts (Memory why) t = (length (map f (rows_of done)), More, subst (λ rows. takes a from rows b out (Some More)) (sym (front f)) t)
@@ -173,3 +190,30 @@ runs_listed {R} all some span cut upto (Ok end) start sought after s c u h k =
     let e : entries_in (At cut) upto some ≡ entries_in (At span.after) span.upto all =
     ap (λ (l : List (Entry R)). entries_in (At cut) upto l) s ∙ (ap (λ (k : List ℕ). entries_in (At k) upto all) c ∙ ap (λ (b : Bound). entries_in (At span.after) b all) u) in
     omega (arith, h, k, ap (λ (l : List (Entry R)). length l) e)
+
+-- ---- a full taker
+
+-- a spent entry fills nothing
+pub spent_fills_nothing : (tried : ℕ) (key : List ℕ) (r : Result End Halt) (P : Type 0) → EndsAt tried key r → IfOk r (λ end. IfFull end P)
+spent_fills_nothing tried key (Ok end) P at = subst (λ (x : End). IfFull x P) (sym at) tt
+spent_fills_nothing tried key (Err halt) P at = tt
+
+-- in the terms of what is listed
+pub full_listed : {R B T K : Type 0} (takes : Takes T K B) (f : R → B) (all some : List (Entry R)) (span : Span) (cut : List ℕ) (upto : Bound) (a : T) (from : K) (r : Result End Halt) (start sought now : ℕ) → some ≡ all → cut ≡ span.after → upto ≡ span.upto
+    → sought ≤ start + length span.after + 1 → IfOk r (λ end. IfFull end (StopsWhenFull takes (entries_by f (entries_in (At cut) upto some)) a from sought now 0)) → IfOk r (λ end. IfFull end (StopsWhenFull takes (listed_in (entries_by f all) span) a from start now (length span.after + 1)))
+full_listed takes f all some span cut upto a from (Err halt) start sought now s c u h k = tt
+full_listed takes f all some span cut upto a from (Ok (Whole tried spent)) start sought now s c u h k = tt
+full_listed {R} {B} takes f all some span cut upto a from (Ok AtFull) start sought now s c u h k =
+    let e : entries_in (At cut) upto some ≡ entries_in (At span.after) span.upto all =
+    ap (λ (l : List (Entry R)). entries_in (At cut) upto l) s ∙ (ap (λ (k : List ℕ). entries_in (At k) upto all) c ∙ ap (λ (b : Bound). entries_in (At span.after) b all) u) in
+    let same : entries_by f (entries_in (At cut) upto some) ≡ listed_in (entries_by f all) span = ap (λ (l : List (Entry R)). entries_by f l) e ∙ sym (entries_in_by f (At span.after) span.upto all) in
+    record {
+      front = k.front;
+      last = k.last;
+      behind = k.behind;
+      parts = sym same ∙ k.parts;
+      taker = k.taker;
+      output = k.output;
+      room = k.room;
+      few = omega (arith, h, k.few);
+    }

@@ -6,6 +6,7 @@ ghost use Rattle.kr_mean.specs.Entries.{all_entries, mark_of};
 ghost use Rattle.kr_mean.specs.Runs.{end_on, key_of};
 ghost use Rattle.kr_mean.specs.Space.{IsVector, space_of};
 ghost use Rattle.kr_space_problem.specs.Posed.{posed};
+ghost use Rattle.kr_scan.specs.Filling.{IfFull, StopsWhenFull};
 ghost use Rattle.kr_scan.specs.Stops.{EndsAt};
 ghost use Rattle.kr_step.specs.Scans.{RunsOn, ending_of};
 ghost use Rattle.kr_survey.specs.Listings.{listed_in};
@@ -105,6 +106,7 @@ fn hand_over<R, M: Making<Row, Row = R>, T: Taker<K, Row = R>, C: Candidate + Dr
     requires runs_on { RunsOn (posed maker.old.problem) (C.space span.old.candidates) (C.order span.old.candidates) (C.ending span.old.candidates) }
     ensures hands { Hands T.takes (entries_by (M.made_of making.now) (entries_in (At span.old.cut) span.old.upto (all_entries (posed maker.old.problem)))) taker.old out.old taker.new out.new result }
     ensures runs { IfOk result (λ end. runs.new ≤ runs.old + length (entries_in (At span.old.cut) span.old.upto (all_entries (posed maker.old.problem))) + 1) }
+    ensures full { IfOk result (λ end. IfFull end (StopsWhenFull T.takes (entries_by (M.made_of making.now) (entries_in (At span.old.cut) span.old.upto (all_entries (posed maker.old.problem)))) taker.old out.old runs.old runs.new 0)) }
 {
     let mut room = making.room();
     let mut tried: u64 = 0;
@@ -127,7 +129,7 @@ fn hand_over<R, M: Making<Row, Row = R>, T: Taker<K, Row = R>, C: Candidate + Dr
 }
 
 /// The rows of a problem's entries in a span, made into others and handed over by one worker: each before the next candidate is
-/// run. There is at most one run an entry, beside those that seeking takes. It waits for nobody.
+/// run. There is at most one run an entry, beside those that seeking takes, and none once the taker is full. It waits for nobody.
 pub fn walk<'p, R, M: Making<Row, Row = R>, T: Taker<K, Row = R>, K, L: Ledger>(
     survey: &Mapped<Scan<'p>, M>,
     span: Span,
@@ -138,6 +140,7 @@ pub fn walk<'p, R, M: Making<Row, Row = R>, T: Taker<K, Row = R>, K, L: Ledger>(
     requires { T.takes taker.old out.old [] taker.old out.old (Some More) }
     ensures hands { Hands T.takes (listed_in (entries_by (M.made_of survey.now.making) (all_entries (posed survey.now.survey))) span) taker.old out.old taker.new out.new result }
     ensures runs { IfOk result (λ end. runs.new ≤ runs.old + length (entries_in (At span.after) span.upto (all_entries (posed survey.now.survey))) + length span.after + 2) }
+    ensures full { IfOk result (λ end. IfFull end (StopsWhenFull T.takes (listed_in (entries_by (M.made_of survey.now.making) (all_entries (posed survey.now.survey))) span) taker.old out.old runs.old runs.new (length span.after + 1))) }
 {
     let scan = &survey.survey;
     let mut maker = match RowMaker::new(scan.alloc, scan.prepared) {

@@ -179,11 +179,6 @@ split nodes first ss v g f x keeps made h here =
     (sym (ap (change v (λ s rest. g s ∷ (f s ∷ rest))) r.whole ∙ change_at v (λ s rest. g s ∷ (f s ∷ rest)) r.pre x.segment r.post r.before r.number))
     (split_here nodes first r.pre r.post v g x.segment (f x.segment) keeps h' r.before r.number is (made x.segment)))
 
--- the segment after another is dropped
-abbrev pub without_next : List Segment → List Segment
-without_next [] = []
-without_next (t ∷ ts) = ts
-
 pub drop_here : (nodes : List Node) (first : Option ℕ) (pre post : List Segment) (v : ℕ) (s t : Segment)
     → IsChain nodes first (pre ++ s ∷ t ∷ post) → segment_of v pre ≡ None → s.number ≡ v → node_of nodes v ≡ Some (node_at s (Some t.number))
     → IsChain (at_number (at_number nodes t.number dropped) v (linked_to (first_number post))) first (pre ++ s ∷ post)

@@ -1,9 +1,7 @@
 -- The events of a text, a line at a time.
-use Rattle.std.proofs.Common.{◌≡◌, ℕ, zero, suc, ◌+◌, ◌<◌, ◌≤◌, List, [], ◌∷◌, ◌++◌, Bool, true, false, length, take, refl, sym, ap, ◌∙◌, subst, arith}
-use Rattle.std.specs.Prelude.{Option, Some, None, Result, Ok, Err, ◌&&◌, not, is_some, if◌then◌else◌}
-use Rattle.kr_base.specs.declared.span.Span.{Span}
+use Rattle.std.proofs.Common.{◌≡◌, ℕ, zero, suc, ◌+◌, ◌<◌, ◌≤◌, List, [], ◌∷◌, ◌++◌, Bool, true, false, length, refl, sym, ap, ◌∙◌, subst, arith}
+use Rattle.std.specs.Prelude.{Some, Ok, Err, ◌&&◌, not, if◌then◌else◌}
 use Rattle.kr_text.specs.Splitting.{ended, is_empty, lines_in, unended}
-use Rattle.kr_core.specs.Openings.{end_of}
 use Rattle.kr_core.specs.States.{State}
 use Rattle.kr_core.specs.Steps.{after, fits}
 use Rattle.kr_core.specs.declared.event.Event.{Event}
@@ -11,12 +9,12 @@ use Rattle.kr_trace.specs.declared.refusal.Fault.{Fault}
 use Rattle.kr_trace.specs.declared.refusal.TraceRefusal.{TraceRefusal}
 use Rattle.kr_trace.specs.declared.refusal.TraceRefusal.TheVariants.{Bad, NoMemory}
 use Rattle.kr_trace.specs.declared.refusal.TraceRule.{TraceRule}
-use Rattle.kr_trace.specs.declared.refusal.TraceRule.TheVariants.{NoForm, NoStep, OtherRows}
+use Rattle.kr_trace.specs.declared.refusal.TraceRule.TheVariants.{NoForm, NoStep}
 use Rattle.kr_trace.specs.declared.ending.Last.{Last}
 use Rattle.kr_trace.specs.declared.judging.Listing.{Listing}
 use Rattle.kr_trace.specs.Words.{event_in}
-use Rattle.kr_trace.specs.Checked.{Checked, Parts, Rows, and_then, bad, checked_parts, event_after, events_from, has_rows, is_by, is_test, parts_of, rows_from, with_last}
-use Rattle.kr_trace.specs.Stages.{Answers, HasParts, Reaches}
+use Rattle.kr_trace.specs.Checked.{Checked, and_then, bad, event_after, events_from, has_rows, is_by}
+use Rattle.kr_trace.specs.Stages.{Reaches}
 use Rattle.kr_trace.proofs.Sections.{HasLines, ends_here, lines_counted, lines_few, no_lines_yet, one_line}
 
 -- ---- one event
@@ -28,10 +26,6 @@ judged workers last keys s n event fit by rows = rw (fit, by, rows) refl
 pub unfit : (workers : ℕ) (last : Last) (keys : List (List ℕ)) (s : State) (event : Event) → (fits s event && is_by workers event) ≡ false
     → (n : ℕ) → event_after workers last keys s n (Some event) ≡ bad n NoStep
 unfit workers last keys s event wrong n = rw wrong refl
-
-pub other_rows : (workers : ℕ) (last : Last) (keys : List (List ℕ)) (s : State) (event : Event)
-    → fits s event ≡ true → is_by workers event ≡ true → has_rows last keys s event ≡ false → (n : ℕ) → event_after workers last keys s n (Some event) ≡ bad n OtherRows
-other_rows workers last keys s event fit by rows n = rw (fit, by, rows) refl
 
 -- ---- lines
 
@@ -122,26 +116,3 @@ cut_refused listing wanted s first text rest count refusal h none some is =
     subst (λ (r : TraceRefusal). Reaches {U = ℕ} wanted s (Err r)) (sym is) (takes_cut listing wanted s first text rest count h none some)
 
 -- ---- the parts together
-
--- where there is a last line, the events' text ends as the whole does
-same_ends : (span : Span) (workers : ℕ) (rows : Rows) (n : ℕ) (last : Option Last) (lines : List (List ℕ)) (text events : List ℕ) → (is_some last ≡ true → unended text ≡ unended events)
-    → with_last span workers rows n last lines (is_empty (unended text)) ≡ with_last span workers rows n last lines (is_empty (unended events))
-same_ends span workers rows n None lines text events is = refl
-same_ends span workers rows n (Some last) lines text events is = ap (λ (t : List ℕ). with_last span workers rows n (Some last) lines (is_empty t)) (is refl)
-
-pub parts_checked : (span : Span) (workers : ℕ) (text : List ℕ) (count : ℕ) (last : Option Last) (events : List ℕ) (rows : Rows) (r : Result ℕ TraceRefusal) → HasParts text count last events
-    → rows_from (is_test last) (end_of span) span.after 1 (take count (lines_in text)) ≡ Ok rows → Answers (with_last span workers rows (length rows.keys + 1) last (lines_in events) (is_empty (unended events))) r
-    → Answers (checked_parts span workers (parts_of (lines_in text)) (is_empty (unended text))) r
-parts_checked span workers text count last events rows r h read answers =
-    let ends = is_empty (unended text) in
-    let whole : checked_parts span workers (parts_of (lines_in text)) ends ≡ with_last span workers rows (length rows.keys + 1) last (lines_in events) (is_empty (unended events)) =
-    ap (λ (p : Parts). checked_parts span workers p ends) h.parts
-    ∙ (ap (λ (c : Checked Rows). and_then c (λ rows. with_last span workers rows (length rows.keys + 1) last (lines_in events) ends)) read
-    ∙ same_ends span workers rows (length rows.keys + 1) last (lines_in events) text events h.ending) in
-    subst (λ (c : Checked ℕ). Answers c r) (sym whole) answers
-
-pub parts_refused : (span : Span) (workers : ℕ) (text : List ℕ) (count : ℕ) (last : Option Last) (events : List ℕ) (fault : Fault) → HasParts text count last events
-    → rows_from (is_test last) (end_of span) span.after 1 (take count (lines_in text)) ≡ Err fault → checked_parts span workers (parts_of (lines_in text)) (is_empty (unended text)) ≡ Err fault
-parts_refused span workers text count last events fault h read =
-    ap (λ (p : Parts). checked_parts span workers p (is_empty (unended text))) h.parts
-    ∙ ap (λ (c : Checked Rows). and_then c (λ rows. with_last span workers rows (length rows.keys + 1) last (lines_in events) (is_empty (unended text)))) read

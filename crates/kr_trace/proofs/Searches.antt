@@ -65,13 +65,6 @@ to_the_right bound keys low high middle key ascend h after before is above = rec
   above = h.above;
 }
 
-pub splits_there : (bound : Bound) (keys : List (List ℕ)) (low high : ℕ) → IsBetween bound keys low high → high ≤ low → SplitsAt bound keys low
-splits_there bound keys low high h met = record {
-  within = omega (arith, h.order, h.within);
-  low = h.not_above;
-  high = λ i from l. h.above i (omega (arith, from, met)) l;
-}
-
 -- without the first key
 rest_zero : (b : Bound) (k : List ℕ) (ks : List (List ℕ)) → SplitsAt b (k ∷ ks) zero → SplitsAt b ks zero
 rest_zero b k ks s = record {

@@ -84,9 +84,6 @@ split_becomes nodes more nodes' first m v made seat cut x rest h is some read co
     (subst (λ (ns : List Node). IsChain ns first (change v (λ s ss. lowered cut s ∷ (stolen seat cut (length nodes) s ∷ ss)) m.segments)) (sym want) chain))
     (omega (arith, long, longer, made_is nodes first m is, ap (λ (ns : List Node). length ns) new, ap (λ (ns : List Node). length ns) more_is))
 
-pub same_becomes : (nodes nodes' : List Node) (first : Option ℕ) → Holds nodes first → nodes' ≡ nodes → Holds nodes' first
-same_becomes nodes nodes' first h same = subst (λ (ns : List Node). Holds ns first) (sym same) h
-
 -- ---- the next one
 
 pub record HasNext (nodes : List Node) (ss : List Segment) (v next : ℕ) : Type 0 where
@@ -190,12 +187,6 @@ cut_dropped v old new h =
 
 pub cut_last : (v : ℕ) (old new : List Segment) → IsLast v old new → cut_after v old ≡ new
 cut_last v old new h = ap (cut_after v) h.old_is ∙ (change_at v (λ s rest. s ∷ []) h.pre h.here [] h.before h.number ∙ (sym h.old_is ∙ sym h.new_is))
-
-pub fewer_dropped : (v : ℕ) (old new : List Segment) → DropsNext v old new → length new < length old
-fewer_dropped v old new h =
-    let a = length-append h.pre (h.here ∷ h.next ∷ h.post) in
-    let b = length-append h.pre (h.here ∷ h.post) in
-    omega (arith, a, b, ap (λ (zs : List Segment). length zs) h.old_is, ap (λ (zs : List Segment). length zs) h.new_is)
 
 found_past : (v : ℕ) (pre : List Segment) (s : Segment) (post : List Segment) → s.number ≡ v → is_some (segment_of v (pre ++ s ∷ post)) ≡ true
 found_past v [] s post number = ap (λ (b : Bool). is_some (cond b (Some s) (segment_of v post))) (is_number s.number v number)
@@ -310,40 +301,6 @@ pub record DrainLeft (old now : List Segment) (tried : ℕ) : Type 0 where
   pub sum : capped (sum_by (λ (s : Segment). s.tried) (gone old)) ≡ capped (tried + sum_by (λ (s : Segment). s.tried) (gone now))
   pub left_is : left now ≡ left old
   pub fits : tried ≤ 2 ^ 64 - 1
-
-pub drain_begins : (ss : List Segment) → DrainLeft ss ss 0
-drain_begins ss = record {
-  sum = let same : sum_by (λ (s : Segment). s.tried) (gone ss) ≡ 0 + sum_by (λ (s : Segment). s.tried) (gone ss) = omega arith in ap capped same;
-  left_is = refl;
-  fits = omega arith;
-}
-
-going_two : (s t : Segment) (ss : List Segment) (more : ℕ) → going_first (s ∷ t ∷ ss) ≡ Some more
-    → (gone (s ∷ t ∷ ss) ≡ s ∷ gone (t ∷ ss)) × (left (s ∷ t ∷ ss) ≡ left (t ∷ ss)) × (s.tried ≡ more)
-going_two s t ss more h =
-    elim (is_closed s) as (λ b. (if b then Some s.tried else None) ≡ Some more → (cond b (s ∷ gone (t ∷ ss)) [] ≡ s ∷ gone (t ∷ ss)) × (cond b (left (t ∷ ss)) (cleared s ∷ (t ∷ ss)) ≡ left (t ∷ ss)) × (s.tried ≡ more)) [
-      | true ↦ λ q. (refl, refl, cc (q))
-      | false ↦ λ q. absurd (cc (q))
-    ] h
-
-pub drain_step : (old now new : List Segment) (tried more tried' : ℕ) → DrainLeft old now tried → going_first now ≡ Some more → new ≡ without_first now → tried' ≡ capped (tried + more)
-    → DrainLeft old new tried' × (length new < length now)
-drain_step old [] new tried more tried' h is_going new_is sum_is = absurd (cc (is_going))
-drain_step old (s ∷ []) new tried more tried' h is_going new_is sum_is = absurd (cc (is_going))
-drain_step old (s ∷ t ∷ ss) new tried more tried' h is_going new_is sum_is =
-    let two = going_two s t ss more is_going in
-    let sum : List Segment → ℕ = λ zs. sum_by (λ (u : Segment). u.tried) zs in
-    let whole : sum (gone (s ∷ t ∷ ss)) ≡ more + sum (gone (t ∷ ss)) =
-    ap sum two.0 ∙ (sum_by-cons (λ (u : Segment). u.tried) s (gone (t ∷ ss)) ∙ ap (λ (n : ℕ). n + sum (gone (t ∷ ss))) two.2) in (
-      record {
-        sum = let rest : sum (gone new) ≡ sum (gone (t ∷ ss)) = ap (λ (zs : List Segment). sum (gone zs)) new_is in
-            let before : capped (sum (gone old)) ≡ capped (tried + (more + sum (gone (t ∷ ss)))) = h.sum ∙ ap (λ (n : ℕ). capped (tried + n)) whole in
-            omega (arith, rest, before, sum_is);
-        left_is = ap left new_is ∙ (sym two.1 ∙ h.left_is);
-        fits = omega (arith, sum_is);
-      },
-      omega (arith, ap (λ (zs : List Segment). length zs) new_is),
-    )
 
 not_going : (ss : List Segment) → going_first ss ≡ None → (gone ss ≡ []) × (left ss ≡ without_rows ss)
 not_going [] h = (refl, refl)

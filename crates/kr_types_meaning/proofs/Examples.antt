@@ -7,7 +7,7 @@ use Rattle.kr_value.specs.declared.value.Value.TheVariants.{Int as Whole, Bool a
 use Rattle.kr_classes_table.specs.Constants.{is_constant, evaluated, constant_width, values_of}
 use Rattle.kr_types_meaning.specs.Typing.{judged, type_fault, refusal, type_faults}
 use Rattle.kr_types_meaning.specs.Texts.{class_rule_at, type_rule_at, fault_at}
-use Rattle.kr_types_meaning.specs.Examples.{c1_two, c1_nested, c1_collection, c1_fine, c2_unknown, c2_qualified, c2_fine, c3_self, c3_round, c3_fine, c4_two, c4_inherited, c4_constant, c4_constructors, c4_fine, c5_two, c5_inherited, c5_number, c5_fine, c6_object, c6_fine, c7_static, c7_result, c7_above, c7_fine, c8_fields, c8_fine, c_order, t1_unknown, t1_argument, t1_raw, t1_class, t1_deep, t1_new, t1_new_raw, t1_qualified, t1_fine, t1_untyped, t3_name, t3_class, t3_ended, t3_own, t3_outer, t3_fine, t4_two, t4_inner, t4_parameters, t4_for, t4_fine, t5_this, t5_field, t5_method, t5_super, t5_constant, t5_fine, t6_alone, t6_plus, t6_fine, t7, t8, t9, t10, t10_unrelated, t10_fine, t11, t11_fine, t12, t13, t14, t15, t15_arms, t15_fine, t16, t16_below, t17, t17_fine, t18, t19_constant, t19_length, t19_call, t19_fine, t20, t20_unrelated, t20_collection, t20_fine, t21, t21_unrelated, t21_fine, t22, t22_constant, t22_static, t22_outer, t22_int, t22_fine, t23, t23_no_array, t24_unknown, t24_number, t24_type, t24_static, t24_int, t24_fine, t25_add, t25_first, t25_contains, t25_clear, t25_diamond, t25_fine, t26_number, t26_type, t26_collection, t26_diamond, t26_fine, t27, t28_while, t28_if, t28_do, t28_for, t28_contract, t28_fine, t29, t29_fine, t30_void, t30_none, t30_type, t30_constructor, t30_fine, t31, t31_continue, t32, t32_argument, t32_initial, t32_fine, t33, t33_static, t33_fine, t34_class, t34_absent, t34_type, t34_none, t34_fine, t35, t35_constant, t35_fine, t36_absent, t36_later, t36_call, t36_divisor, t36_zero, t36_instance, t36_fine, t37_static, t37_type, t38_requires, t38_void, t38_old, t38_old_requires, t38_fine, t39_write, t39_step, t39_new, t39_array, t40, t40_parameter, t_place, t_rule, t_files, demo, c5_argument, c5_head, c5_spelled, c7_fine_unknown, t36_cast, each_operator, each_result, each_compound, each_step, each_type, each_cast, each_call, each_loop, each_contract, each_constant, each_return, each_static, each_nested, each_local, family, operator_values, boolean_values, ordered_values, c3_fine_deep, c1_case, each_role, shifted_values, each_minus, each_void, t34_void, t28_void, c5_second, t6_condition, each_typed, each_missing, t1_diamond, Worked}
+use Rattle.kr_types_meaning.specs.Examples.{c1_two, c1_nested, c1_collection, c1_fine, c2_unknown, c2_qualified, c2_fine, c3_self, c3_round, c3_fine, c4_two, c4_inherited, c4_constant, c4_constructors, c4_fine, c5_two, c5_inherited, c5_number, c5_fine, c6_object, c6_fine, c7_static, c7_result, c7_above, c7_fine, c8_fields, c8_fine, c_order, t1_unknown, t1_argument, t1_raw, t1_class, t1_deep, t1_new, t1_new_raw, t1_qualified, t1_fine, t1_untyped, t3_name, t3_class, t3_ended, t3_own, t3_outer, t3_fine, t4_two, t4_inner, t4_parameters, t4_for, t4_fine, t5_this, t5_field, t5_method, t5_super, t5_constant, t5_fine, t6_alone, t6_plus, t6_fine, t7, t8, t9, t10, t10_unrelated, t10_fine, t11, t11_fine, t12, t13, t14, t15, t15_arms, t15_fine, t16, t16_below, t17, t17_fine, t18, t19_constant, t19_length, t19_call, t19_fine, t20, t20_unrelated, t20_collection, t20_fine, t21, t21_unrelated, t21_fine, t22, t22_constant, t22_static, t22_outer, t22_int, t22_fine, t23, t23_no_array, t24_unknown, t24_number, t24_type, t24_static, t24_int, t24_fine, t25_add, t25_first, t25_contains, t25_clear, t25_diamond, t25_fine, t26_number, t26_type, t26_collection, t26_diamond, t26_fine, t27, t28_while, t28_if, t28_do, t28_for, t28_contract, t28_fine, t29, t29_fine, t30_void, t30_none, t30_type, t30_constructor, t30_fine, t31, t31_continue, t32, t32_argument, t32_initial, t32_fine, t33, t33_static, t33_fine, t34_class, t34_absent, t34_type, t34_none, t34_fine, t35, t35_constant, t35_fine, t36_absent, t36_later, t36_call, t36_divisor, t36_zero, t36_instance, t36_fine, t37_static, t37_type, t38_requires, t38_void, t38_old, t38_old_requires, t38_fine, t39_write, t39_step, t39_new, t39_array, t40, t40_parameter, t_place, t_rule, t_files, demo, c5_argument, c5_head, c5_spelled, c7_fine_unknown, t36_cast, each_operator, each_result, each_compound, each_step, each_type, each_cast, each_call, each_loop, each_contract, each_constant, each_return, each_static, each_nested, each_local, family, operator_values, boolean_values, ordered_values, c3_fine_deep, c1_case, each_role, shifted_values, each_minus, each_void, t34_void, t28_void, c5_second, t6_condition, each_typed, each_missing, t1_diamond, t35_long, t35_long_fine, t17_long_fine, each_long, Worked}
 
 c1_two_read : refusal c1_two ≡ Some (class_rule_at 1 0 1 19)
 unfolding table_of class_fault is_constant evaluated constant_width values_of judged type_fault
@@ -825,6 +825,22 @@ t1_diamond_read : refusal t1_diamond ≡ Some (type_rule_at 1 0 1 26)
 unfolding table_of class_fault is_constant evaluated constant_width values_of judged type_fault
 t1_diamond_read = refl
 
+t35_long_read : refusal t35_long ≡ Some (type_rule_at 35 0 1 15)
+unfolding table_of class_fault is_constant evaluated constant_width values_of judged type_fault
+t35_long_read = refl
+
+t35_long_fine_read : refusal t35_long_fine ≡ None
+unfolding table_of class_fault is_constant evaluated constant_width values_of judged type_fault
+t35_long_fine_read = refl
+
+t17_long_fine_read : refusal t17_long_fine ≡ None
+unfolding table_of class_fault is_constant evaluated constant_width values_of judged type_fault
+t17_long_fine_read = refl
+
+each_long_read : type_faults each_long ≡ fault_at 16 0 2 1 ∷ fault_at 16 0 3 1 ∷ fault_at 16 0 4 1 ∷ fault_at 16 0 5 1 ∷ fault_at 16 0 6 1 ∷ fault_at 23 0 7 5 ∷ fault_at 27 0 8 5 ∷ fault_at 24 0 9 5 ∷ fault_at 29 0 10 5 ∷ fault_at 6 0 11 5 ∷ fault_at 6 0 12 5 ∷ fault_at 11 0 13 5 ∷ []
+unfolding table_of class_fault is_constant evaluated constant_width values_of judged type_fault
+each_long_read = refl
+
 pub worked : Worked
 worked = record {
   c1_two_read = c1_two_read;
@@ -1031,4 +1047,8 @@ worked = record {
   each_typed_read = each_typed_read;
   each_missing_read = each_missing_read;
   t1_diamond_read = t1_diamond_read;
+  t35_long_read = t35_long_read;
+  t35_long_fine_read = t35_long_fine_read;
+  t17_long_fine_read = t17_long_fine_read;
+  each_long_read = each_long_read;
 }

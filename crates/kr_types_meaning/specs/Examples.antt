@@ -1,6 +1,6 @@
 -- Between crates: sources, and the first rule that each breaks.
 use Rattle.std.specs.Prelude.{◌≡◌, map, pos, negsuc, List, [], ◌∷◌, true, false, codes, Some, None}
-use Rattle.kr_ast.specs.declared.node.Primitive.TheVariants.{Int, Boolean, Void}
+use Rattle.kr_ast.specs.declared.node.Primitive.TheVariants.{Int, Long, Boolean, Void}
 use Rattle.kr_ast.specs.declared.node.UnaryOperator.TheVariants.{Plus, Minus, Complement, Not}
 use Rattle.kr_ast.specs.declared.node.StepOperator.TheVariants.{IncrementBefore, DecrementBefore, IncrementBehind, DecrementBehind}
 use Rattle.kr_ast.specs.declared.node.BinaryOperator.TheVariants.{Multiply, Divide, Remainder, Add, Subtract, ShiftLeft, ShiftRight, ShiftRightUnsigned, Less, Greater, LessOrEqual, GreaterOrEqual, Equal, NotEqual, BitAnd, BitXor, BitOr, And, Or}
@@ -828,6 +828,22 @@ each_missing = (list_of ((trees.Class (at 0 1 7) (codes "A") Nil (list_of ((tree
 abbrev pub t1_diamond : List Tree
 t1_diamond = (list_of ((trees.Class (at 0 1 7) (codes "A") Nil (list_of ((trees.Method (at 0 1 16) false (codes "m") (trees.Signature (at 0 1 16) (trees.PrimitiveType (at 0 1 16) Void) Nil Nil) (list_of ((trees.ExpressionStatement (at 0 1 22) (trees.ObjectCreation (at 0 1 22) (trees.DiamondType (at 0 1 26) (trees.NamedType (at 0 1 26) (codes "B"))) Nil)) ∷ []))) ∷ []))) ∷ [])) ∷ []
 
+-- class A { int v = 1L; }
+abbrev pub t35_long : List Tree
+t35_long = (list_of ((trees.Class (at 0 1 7) (codes "A") Nil (list_of ((trees.Field (at 0 1 11) false false (trees.PrimitiveType (at 0 1 11) Int) (list_of ((trees.Declarator (at 0 1 15) (codes "v") (trees.LongNumber (at 0 1 19) 1)) ∷ []))) ∷ []))) ∷ [])) ∷ []
+
+-- class A { long v = 1; }
+abbrev pub t35_long_fine : List Tree
+t35_long_fine = (list_of ((trees.Class (at 0 1 7) (codes "A") Nil (list_of ((trees.Field (at 0 1 11) false false (trees.PrimitiveType (at 0 1 11) Long) (list_of ((trees.Declarator (at 0 1 16) (codes "v") (trees.Number (at 0 1 20) 1)) ∷ []))) ∷ []))) ∷ [])) ∷ []
+
+-- class A { void m(int i, long l) { i += l; l += i; i <<= l; } }
+abbrev pub t17_long_fine : List Tree
+t17_long_fine = (list_of ((trees.Class (at 0 1 7) (codes "A") Nil (list_of ((trees.Method (at 0 1 16) false (codes "m") (trees.Signature (at 0 1 16) (trees.PrimitiveType (at 0 1 16) Void) (list_of ((trees.Parameter (at 0 1 22) (trees.PrimitiveType (at 0 1 18) Int) (codes "i")) ∷ (trees.Parameter (at 0 1 30) (trees.PrimitiveType (at 0 1 25) Long) (codes "l")) ∷ [])) Nil) (list_of ((trees.ExpressionStatement (at 0 1 35) (trees.CompoundAssignment (at 0 1 35) Add (trees.Variable (at 0 1 35) (codes "i")) (trees.Variable (at 0 1 40) (codes "l")))) ∷ (trees.ExpressionStatement (at 0 1 43) (trees.CompoundAssignment (at 0 1 43) Add (trees.Variable (at 0 1 43) (codes "l")) (trees.Variable (at 0 1 48) (codes "i")))) ∷ (trees.ExpressionStatement (at 0 1 51) (trees.CompoundAssignment (at 0 1 51) ShiftLeft (trees.Variable (at 0 1 51) (codes "i")) (trees.Variable (at 0 1 57) (codes "l")))) ∷ []))) ∷ []))) ∷ [])) ∷ []
+
+-- class A { int n(int x) { return x; } void m(int i, long l, int[] a, boolean b) {¶i = l;¶i = i + l;¶i = -l;¶i = l << i;¶i = b ? i : l;¶i = a[l];¶a = new int[l];¶i = n(l);¶int x = l;¶l = 9223372036854775808L;¶l = 2147483648;¶b = b & l;¶l = i;¶l = 9223372036854775807L;¶l = 2147483648L;¶l = i + l;¶i = i << l;¶i += l;¶l = b ? i : l;¶i = (int) l;¶b = i < l;¶b = i == l;¶l++;¶l = n(i);¶l = i & l;¶long y = i;¶} }
+abbrev pub each_long : List Tree
+each_long = (list_of ((trees.Class (at 0 1 7) (codes "A") Nil (list_of ((trees.Method (at 0 1 15) false (codes "n") (trees.Signature (at 0 1 15) (trees.PrimitiveType (at 0 1 11) Int) (list_of ((trees.Parameter (at 0 1 21) (trees.PrimitiveType (at 0 1 17) Int) (codes "x")) ∷ [])) Nil) (list_of ((trees.Return (at 0 1 26) (trees.Variable (at 0 1 33) (codes "x"))) ∷ []))) ∷ (trees.Method (at 0 1 43) false (codes "m") (trees.Signature (at 0 1 43) (trees.PrimitiveType (at 0 1 43) Void) (list_of ((trees.Parameter (at 0 1 49) (trees.PrimitiveType (at 0 1 45) Int) (codes "i")) ∷ (trees.Parameter (at 0 1 57) (trees.PrimitiveType (at 0 1 52) Long) (codes "l")) ∷ (trees.Parameter (at 0 1 66) (trees.ArrayType (at 0 1 60) (trees.PrimitiveType (at 0 1 60) Int)) (codes "a")) ∷ (trees.Parameter (at 0 1 77) (trees.PrimitiveType (at 0 1 69) Boolean) (codes "b")) ∷ [])) Nil) (list_of ((trees.ExpressionStatement (at 0 2 1) (trees.Assignment (at 0 2 1) (trees.Variable (at 0 2 1) (codes "i")) (trees.Variable (at 0 2 5) (codes "l")))) ∷ (trees.ExpressionStatement (at 0 3 1) (trees.Assignment (at 0 3 1) (trees.Variable (at 0 3 1) (codes "i")) (trees.Binary (at 0 3 5) Add (trees.Variable (at 0 3 5) (codes "i")) (trees.Variable (at 0 3 9) (codes "l"))))) ∷ (trees.ExpressionStatement (at 0 4 1) (trees.Assignment (at 0 4 1) (trees.Variable (at 0 4 1) (codes "i")) (trees.Unary (at 0 4 5) Minus (trees.Variable (at 0 4 6) (codes "l"))))) ∷ (trees.ExpressionStatement (at 0 5 1) (trees.Assignment (at 0 5 1) (trees.Variable (at 0 5 1) (codes "i")) (trees.Binary (at 0 5 5) ShiftLeft (trees.Variable (at 0 5 5) (codes "l")) (trees.Variable (at 0 5 10) (codes "i"))))) ∷ (trees.ExpressionStatement (at 0 6 1) (trees.Assignment (at 0 6 1) (trees.Variable (at 0 6 1) (codes "i")) (trees.Conditional (at 0 6 5) (trees.Variable (at 0 6 5) (codes "b")) (trees.Variable (at 0 6 9) (codes "i")) (trees.Variable (at 0 6 13) (codes "l"))))) ∷ (trees.ExpressionStatement (at 0 7 1) (trees.Assignment (at 0 7 1) (trees.Variable (at 0 7 1) (codes "i")) (trees.ArrayAccess (at 0 7 5) (trees.Variable (at 0 7 5) (codes "a")) (trees.Variable (at 0 7 7) (codes "l"))))) ∷ (trees.ExpressionStatement (at 0 8 1) (trees.Assignment (at 0 8 1) (trees.Variable (at 0 8 1) (codes "a")) (trees.ArrayCreation (at 0 8 5) (trees.PrimitiveType (at 0 8 9) Int) (trees.Variable (at 0 8 13) (codes "l"))))) ∷ (trees.ExpressionStatement (at 0 9 1) (trees.Assignment (at 0 9 1) (trees.Variable (at 0 9 1) (codes "i")) (trees.Call (at 0 9 5) (codes "n") (list_of ((trees.Variable (at 0 9 7) (codes "l")) ∷ []))))) ∷ (trees.Local (at 0 10 1) (trees.PrimitiveType (at 0 10 1) Int) (list_of ((trees.Declarator (at 0 10 5) (codes "x") (trees.Variable (at 0 10 9) (codes "l"))) ∷ []))) ∷ (trees.ExpressionStatement (at 0 11 1) (trees.Assignment (at 0 11 1) (trees.Variable (at 0 11 1) (codes "l")) (trees.LongNumber (at 0 11 5) 9223372036854775808))) ∷ (trees.ExpressionStatement (at 0 12 1) (trees.Assignment (at 0 12 1) (trees.Variable (at 0 12 1) (codes "l")) (trees.Number (at 0 12 5) 2147483648))) ∷ (trees.ExpressionStatement (at 0 13 1) (trees.Assignment (at 0 13 1) (trees.Variable (at 0 13 1) (codes "b")) (trees.Binary (at 0 13 5) BitAnd (trees.Variable (at 0 13 5) (codes "b")) (trees.Variable (at 0 13 9) (codes "l"))))) ∷ (trees.ExpressionStatement (at 0 14 1) (trees.Assignment (at 0 14 1) (trees.Variable (at 0 14 1) (codes "l")) (trees.Variable (at 0 14 5) (codes "i")))) ∷ (trees.ExpressionStatement (at 0 15 1) (trees.Assignment (at 0 15 1) (trees.Variable (at 0 15 1) (codes "l")) (trees.LongNumber (at 0 15 5) 9223372036854775807))) ∷ (trees.ExpressionStatement (at 0 16 1) (trees.Assignment (at 0 16 1) (trees.Variable (at 0 16 1) (codes "l")) (trees.LongNumber (at 0 16 5) 2147483648))) ∷ (trees.ExpressionStatement (at 0 17 1) (trees.Assignment (at 0 17 1) (trees.Variable (at 0 17 1) (codes "l")) (trees.Binary (at 0 17 5) Add (trees.Variable (at 0 17 5) (codes "i")) (trees.Variable (at 0 17 9) (codes "l"))))) ∷ (trees.ExpressionStatement (at 0 18 1) (trees.Assignment (at 0 18 1) (trees.Variable (at 0 18 1) (codes "i")) (trees.Binary (at 0 18 5) ShiftLeft (trees.Variable (at 0 18 5) (codes "i")) (trees.Variable (at 0 18 10) (codes "l"))))) ∷ (trees.ExpressionStatement (at 0 19 1) (trees.CompoundAssignment (at 0 19 1) Add (trees.Variable (at 0 19 1) (codes "i")) (trees.Variable (at 0 19 6) (codes "l")))) ∷ (trees.ExpressionStatement (at 0 20 1) (trees.Assignment (at 0 20 1) (trees.Variable (at 0 20 1) (codes "l")) (trees.Conditional (at 0 20 5) (trees.Variable (at 0 20 5) (codes "b")) (trees.Variable (at 0 20 9) (codes "i")) (trees.Variable (at 0 20 13) (codes "l"))))) ∷ (trees.ExpressionStatement (at 0 21 1) (trees.Assignment (at 0 21 1) (trees.Variable (at 0 21 1) (codes "i")) (trees.Cast (at 0 21 5) (trees.PrimitiveType (at 0 21 6) Int) (trees.Variable (at 0 21 11) (codes "l"))))) ∷ (trees.ExpressionStatement (at 0 22 1) (trees.Assignment (at 0 22 1) (trees.Variable (at 0 22 1) (codes "b")) (trees.Binary (at 0 22 5) Less (trees.Variable (at 0 22 5) (codes "i")) (trees.Variable (at 0 22 9) (codes "l"))))) ∷ (trees.ExpressionStatement (at 0 23 1) (trees.Assignment (at 0 23 1) (trees.Variable (at 0 23 1) (codes "b")) (trees.Binary (at 0 23 5) Equal (trees.Variable (at 0 23 5) (codes "i")) (trees.Variable (at 0 23 10) (codes "l"))))) ∷ (trees.ExpressionStatement (at 0 24 1) (trees.Step (at 0 24 1) IncrementBehind (trees.Variable (at 0 24 1) (codes "l")))) ∷ (trees.ExpressionStatement (at 0 25 1) (trees.Assignment (at 0 25 1) (trees.Variable (at 0 25 1) (codes "l")) (trees.Call (at 0 25 5) (codes "n") (list_of ((trees.Variable (at 0 25 7) (codes "i")) ∷ []))))) ∷ (trees.ExpressionStatement (at 0 26 1) (trees.Assignment (at 0 26 1) (trees.Variable (at 0 26 1) (codes "l")) (trees.Binary (at 0 26 5) BitAnd (trees.Variable (at 0 26 5) (codes "i")) (trees.Variable (at 0 26 9) (codes "l"))))) ∷ (trees.Local (at 0 27 1) (trees.PrimitiveType (at 0 27 1) Long) (list_of ((trees.Declarator (at 0 27 6) (codes "y") (trees.Variable (at 0 27 10) (codes "i"))) ∷ []))) ∷ []))) ∷ []))) ∷ [])) ∷ []
+
 -- the results of the definitions
 pub record Worked : Type 0 where
   pub c1_two_read : refusal c1_two ≡ Some (class_rule_at 1 0 1 19)
@@ -1034,3 +1050,7 @@ pub record Worked : Type 0 where
   pub each_typed_read : type_faults each_typed ≡ []
   pub each_missing_read : type_faults each_missing ≡ fault_at 22 0 2 1 ∷ fault_at 24 0 3 1 ∷ fault_at 24 0 4 1 ∷ fault_at 24 0 5 1 ∷ fault_at 22 0 6 1 ∷ fault_at 22 0 7 1 ∷ fault_at 3 0 8 1 ∷ fault_at 24 0 9 1 ∷ fault_at 24 0 10 1 ∷ fault_at 24 0 11 1 ∷ fault_at 24 0 12 1 ∷ fault_at 24 0 15 1 ∷ fault_at 24 0 16 1 ∷ fault_at 22 0 17 1 ∷ fault_at 22 0 18 1 ∷ fault_at 22 0 19 8 ∷ fault_at 22 0 19 19 ∷ []
   pub t1_diamond_read : refusal t1_diamond ≡ Some (type_rule_at 1 0 1 26)
+  pub t35_long_read : refusal t35_long ≡ Some (type_rule_at 35 0 1 15)
+  pub t35_long_fine_read : refusal t35_long_fine ≡ None
+  pub t17_long_fine_read : refusal t17_long_fine ≡ None
+  pub each_long_read : type_faults each_long ≡ fault_at 16 0 2 1 ∷ fault_at 16 0 3 1 ∷ fault_at 16 0 4 1 ∷ fault_at 16 0 5 1 ∷ fault_at 16 0 6 1 ∷ fault_at 23 0 7 5 ∷ fault_at 27 0 8 5 ∷ fault_at 24 0 9 5 ∷ fault_at 29 0 10 5 ∷ fault_at 6 0 11 5 ∷ fault_at 6 0 12 5 ∷ fault_at 11 0 13 5 ∷ []

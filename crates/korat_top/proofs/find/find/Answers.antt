@@ -5,7 +5,7 @@ use Rattle.kr_mean.specs.declared.mode.Mode.TheVariants.{List as Listing}
 use Rattle.korat_top_files.specs.Refusals.{files_of}
 use Rattle.korat_top_files.specs.Found.{FindsIn}
 use Rattle.korat_top.specs.Found.{Finds}
-use Rattle.korat_top.proofs.Answered.{shard_found, list_found, test_found, demo_found}
+use Rattle.korat_top.proofs.Answered.{emit_found, shard_found, list_found, test_found, demo_found}
 use Rattle.korat_top.proofs.find.find.Goals as goal
 
 pub returns-in-List-clause-found : goal.returns-in-List-clause-found
@@ -43,3 +43,11 @@ returns-in-Demo-clause-found g c =
     let last = g.F.Files.last in
     subst (λ (o : Search). Finds held faults last (commands.Search o) c.args.files.now c.args.files.now c.find_demo.result) (sym c.in-Demo.is)
     (demo_found held faults last c.in-Demo.n c.in-Demo.workers c.args.files.now c.args.files.now c.find_demo.result c.find_demo.ensures.judged)
+
+pub returns-in-Emit-clause-found : goal.returns-in-Emit-clause-found
+returns-in-Emit-clause-found g c =
+    let held = g.F.Files.held in
+    let faults = g.F.Files.faults in
+    let last = g.F.Files.last in
+    subst (λ (o : Search). Finds held faults last (commands.Search o) c.args.files.now c.find_built.new.files c.find_built.result) (sym c.in-Emit.is)
+    (emit_found held faults last c.in-Emit.ask c.args.files.now c.find_built.new.files c.find_built.result c.find_built.ensures.found)

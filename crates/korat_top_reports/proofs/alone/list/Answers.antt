@@ -7,4 +7,4 @@ use Rattle.korat_top_reports.proofs.alone.list.Goals as goal
 
 pub returns-in-Ok-clause-ends : goal.returns-in-Ok-clause-ends
 returns-in-Ok-clause-ends g c =
-    subst (λ (s : Span). EndsListing g.K.Sink.taken g.K.Sink.faults (listed (posed c.args.prepared.now.problem) c.args.ask.now.limit s) c.args.out.now c.list_alone.new.out c.list_alone.result) c.in-Ok.ensures c.list_alone.ensures
+    subst (λ (s : Span). EndsListing g.K.Sink.taken g.K.Sink.faults (listed (posed c.args.prepared.now.problem) c.args.ask.now.limit s) c.args.out.now c.list_alone.new.out c.list_alone.result) c.in-Ok.ensures c.list_alone.ensures.ends

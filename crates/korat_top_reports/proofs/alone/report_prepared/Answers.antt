@@ -3,7 +3,7 @@ use Rattle.std.specs.Prelude.{IfOk}
 use Rattle.kr_args.specs.declared.forms.Search.{Search}
 use Rattle.kr_args.specs.declared.forms.Search.TheVariants as searches
 use Rattle.kr_space_problem.specs.Posed.{posed}
-use Rattle.korat_top_reports.specs.Reports.{EndsReport, Reports, is_alone, shard_of, tally_of}
+use Rattle.korat_top_reports.specs.Reports.{EndsReport, Reports, builders_of, is_alone, shard_of, tally_of}
 use Rattle.korat_top_reports.proofs.Reporting.{by_one_ok, reported, reported_ok}
 use Rattle.korat_top_reports.proofs.alone.report_prepared.Goals as goal
 
@@ -42,3 +42,11 @@ returns-in-Shard-clause-ends g c =
     let P = posed c.args.prepared.now.problem in
     subst (λ (s : Search). IfOk c.shard.result (EndsReport taken faults s P c.args.out.now c.shard.new.out)) (sym c.in-Shard.is)
     (reported_ok taken faults P c.args.out.now c.shard.new.out (Reports (searches.Shard c.in-Shard.ask) P) (shard_of c.in-Shard.ask P) c.shard.result refl c.shard.ensures.ends)
+
+pub returns-in-Emit-clause-ends : goal.returns-in-Emit-clause-ends
+returns-in-Emit-clause-ends g c =
+    let taken = g.K.Sink.taken in
+    let faults = g.K.Sink.faults in
+    let P = posed c.args.prepared.now.problem in
+    subst (λ (s : Search). IfOk c.emit.result (EndsReport taken faults s P c.args.out.now c.emit.new.out)) (sym c.in-Emit.is)
+    (reported_ok taken faults P c.args.out.now c.emit.new.out (Reports (searches.Emit c.in-Emit.ask) P) (builders_of c.in-Emit.ask P) c.emit.result refl c.emit.ensures.ends)

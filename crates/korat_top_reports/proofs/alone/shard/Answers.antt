@@ -13,7 +13,7 @@ returns-in-Ok-put_first_line-clause-ends g c =
     let P = posed c.args.prepared.now.problem in
     let ask = c.args.ask.now in
     listing_after g.K.Sink.taken g.K.Sink.faults c.args.out.now c.put_first_line.new.out c.list_alone.new.out (first_text (span_in ask)) (listing_of ask P) c.list_alone.result c.in-Ok-put_first_line.ensures
-    (subst (λ (s : Span). EndsListing g.K.Sink.taken g.K.Sink.faults (listed P ask.limit s) c.put_first_line.new.out c.list_alone.new.out c.list_alone.result) c.in-Ok.ensures c.list_alone.ensures)
+    (subst (λ (s : Span). EndsListing g.K.Sink.taken g.K.Sink.faults (listed P ask.limit s) c.put_first_line.new.out c.list_alone.new.out c.list_alone.result) c.in-Ok.ensures c.list_alone.ensures.ends)
 
 pub returns-in-Err-put_first_line-clause-ends : goal.returns-in-Err-put_first_line-clause-ends
 returns-in-Err-put_first_line-clause-ends g c =

@@ -13,7 +13,7 @@ use Rattle.kr_run.proofs.arguments.take_next.Goals as goal
 
 pub returns-in-Ok : goal.returns-in-Ok
 unfolding bind
-returns-in-Ok c =
+returns-in-Ok g c =
     let code = c.args.code.now in
     let w = c.args.world.now in
     let fs = c.args.stack.now in

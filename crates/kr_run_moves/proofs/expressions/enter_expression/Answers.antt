@@ -29,7 +29,7 @@ pub returns-in-Or : goal.returns-in-Or
 returns-in-Or c = rw c.in-Or.is (c.first-in-Or.ensures c.args.code.now c.args.world.now)
 
 pub returns-in-Binary : goal.returns-in-Binary
-returns-in-Binary c = rw c.in-Binary.is (c.first-in-Binary.ensures c.args.code.now c.args.world.now)
+returns-in-Binary c = rw c.in-Binary.is c.enter_binary.ensures
 
 pub returns-in-InstanceOf : goal.returns-in-InstanceOf
 returns-in-InstanceOf c = rw c.in-InstanceOf.is (c.first-in-InstanceOf.ensures c.args.code.now c.args.world.now)

@@ -16,6 +16,6 @@ returns-in-Some c =
     let code = c.args.code.now in
     let w = c.args.world.now in
     let fs = c.args.stack.now in
-    rw c.in-Some.is (leads_alike code (next_task c.test_next.result c.test_next.new.task) c.test_next.new.stack c.test_next.new.world w (λ d x. out_flow code d fs (tested code d (tests.Declared c.args.local (Some c.in-Some.node) c.args.others) c.args.given (state_at w x))) (λ d x. out_flow code d fs (bind (d.value c.in-Some.node) (tested code d (tests.Initial c.args.local c.args.others)) (state_at w x)))
+    rw c.in-Some.is (leads_alike code (next_task c.initial_next.result c.initial_next.new.task) c.initial_next.new.stack c.initial_next.new.world w (λ d x. out_flow code d fs (tested code d (tests.Declared c.args.local (Some c.in-Some.node) c.args.others) c.args.given (state_at w x))) (λ d x. out_flow code d fs (bind (d.value c.in-Some.node) (tested code d (tests.Initial c.args.local c.args.others)) (state_at w x)))
     (λ x d m. ap (out_flow code d fs) (begins code d c.args.local c.in-Some.node c.args.others c.args.given (state_at w x)))
-    c.test_next.ensures)
+    c.initial_next.ensures)

@@ -17,7 +17,7 @@ returns-in-Ok c =
     let code = c.args.code.now in
     let w = c.args.world.now in
     let fs = c.args.stack.now in
-    let then = c.act.new.world in
+    let then = c.assign.new.world in
     let k = c.args.local in
     let v = c.args.given in
     leads_alike code (next_task c.declare_rest.result c.declare_rest.new.task) fs then w (λ d x. out_flow code d fs (tested code d (tests.Initial k c.args.others) v (state_at w x))) (λ d x. out_flow code d fs (bind (bind (assign k v) (λ u. give v)) (λ u. all_declared code d (listed code c.args.others)) (state_at w x)))
@@ -29,7 +29,7 @@ returns-in-Err c =
     let code = c.args.code.now in
     let w = c.args.world.now in
     let fs = c.args.stack.now in
-    let then = c.act.new.world in
+    let then = c.assign.new.world in
     let k = c.args.local in
     let v = c.args.given in
     leads_alike code (Err c.in-Err.halt) fs then w (λ d x. out_flow code d fs (tested code d (tests.Initial k c.args.others) v (state_at w x))) (λ d x. out_flow code d fs (bind (bind (assign k v) (λ u. give v)) (λ u. all_declared code d (listed code c.args.others)) (state_at w x)))

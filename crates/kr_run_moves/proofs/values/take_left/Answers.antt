@@ -6,7 +6,7 @@ use Rattle.kr_code.specs.Doing.{Doing}
 use Rattle.kr_run_state.specs.declared.world.World.{World}
 use Rattle.kr_run_state.specs.Worlds.{Others, state_at}
 use Rattle.kr_run_frames.specs.Frames.{out_value}
-use Rattle.kr_run_moves.proofs.Going.{value_then, leads_from}
+use Rattle.kr_run_moves.proofs.Going.{value_then, leads_behind}
 use Rattle.kr_run_frames.specs.Leads.{next_task}
 use Rattle.kr_run_moves.proofs.values.take_left.Goals as goal
 
@@ -23,4 +23,4 @@ returns-in-None c =
     let w = c.args.world.now in
     let then = c.at_once.new.world in
     let same : then ≡ w = search rules in
-    leads_from code (next_task c.first.result c.first.new.task) c.first.new.stack then w (λ (u : World) (d : Doing) (x : Others). out_value code d c.args.stack.now (bind (d.value c.args.right) ((λ (d : Doing) (u : Value). say (operated c.args.operation c.args.given u)) d) (state_at u x))) same (c.first.ensures code then)
+    leads_behind code (next_task c.read_first.result c.read_first.new.task) c.read_first.new.stack c.read_first.new.world then w (λ (u : World) (d : Doing) (x : Others). out_value code d c.args.stack.now (bind (d.value c.args.right) ((λ (d : Doing) (u : Value). say (operated c.args.operation c.args.given u)) d) (state_at u x))) same c.read_first.ensures

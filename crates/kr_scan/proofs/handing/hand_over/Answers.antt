@@ -15,7 +15,7 @@ use Rattle.kr_survey.specs.declared.taker.Room.{Room}
 use Rattle.kr_scan.specs.Stops.{IsSpent}
 use Rattle.kr_scan.proofs.Gathering.{runs_along}
 use Rattle.kr_scan.proofs.Marks.{spent_as}
-use Rattle.kr_scan.proofs.Walking.{IsWalked, at_start, ends_full, ends_whole, goes_on, halts, halts_memory, if_ok, one_more, runs_in, spent_exit}
+use Rattle.kr_scan.proofs.Walking.{IsWalked, at_start, ends_full, ends_whole, goes_on, halts, halts_memory, if_ok, one_more, runs_in, spent_exit, spent_fills_nothing, stops_when_full}
 use Rattle.kr_survey.proofs.Scanning.{length-more}
 use Rattle.kr_scan.proofs.handing.hand_over.Goals as goal
 
@@ -194,3 +194,25 @@ returns-in-Ok-Full-clause-runs g c =
     let es = entries_in (At c.args.span.now.cut) c.args.span.now.upto (all_entries P) in
     let inv = c.loop-why.invariant.so_far in
     runs_in es inv.0 (left P c.loop-why.span.upto c.loop-why.span.cut) c.loop-why.tried inv.1 c.args.runs.now c.loop-why.runs c.next.new.runs inv.3 c.in-Ok-Found.ensures.runs
+
+pub returns-then-is_spent-clause-full : goal.returns-then-is_spent-clause-full
+returns-then-is_spent-clause-full g c = spent_fills_nothing c.one_more-tried.result c.cut.result.now c.spent_at.result _ c.spent_at.ensures
+
+pub returns-in-Ok-Full-clause-full : goal.returns-in-Ok-Full-clause-full
+returns-in-Ok-Full-clause-full g c =
+    let P = posed c.args.maker.now.problem in
+    let f = g.M.Making.made_of c.args.making.now in
+    let takes = g.T.Taker.takes in
+    let es = entries_in (At c.args.span.now.cut) c.args.span.now.upto (all_entries P) in
+    let inv = c.loop-why.invariant in
+    let cut = c.loop-why.span.cut in
+    let upto = c.loop-why.span.upto in
+    let done = inv.so_far.0 in
+    let runs = runs_along P (g.C.Slots.space c.args.span.now.candidates) (g.C.Slots.space c.loop-why.span.candidates) (g.C.Candidate.order c.args.span.now.candidates) (g.C.Candidate.order c.loop-why.span.candidates)
+    (g.C.Candidate.ending c.args.span.now.candidates) (g.C.Candidate.ending c.loop-why.span.candidates) inv.space inv.order inv.ending c.requires.runs_on in
+    let v = g.C.Candidate.vector c.next.new.self.candidates in
+    let new = c.next.new.self.cut in
+    let ending = c.in-Ok-Found.ending in
+    let found : Finds P upto cut v new ending = subst (λ (n : Next). Scans P upto cut v new n) c.in-Ok-Found.field-0-is (c.in-Ok-Found.ensures.found P runs) in
+    let unspent = spent_as P v ending false found.ends (subst (λ (b : Bool). IsSpent ending b) c.if-is_spent.false c.is_spent.ensures) in
+    stops_when_full es done (left P upto cut) c.loop-why.tried inv.so_far.1 takes f c.args.taker.now c.hand_entry.new.taker c.args.out.now c.hand_entry.new.out (entry_at P v) (left P upto new) found.entries unspent c.loop-why.taker c.loop-why.out c.args.runs.now c.loop-why.runs c.next.new.runs inv.so_far.2 inv.so_far.3 c.in-Ok-Found.ensures.runs

@@ -1,0 +1,7 @@
+pub mod Lines
+pub mod LongTypes
+pub mod FieldsAt
+pub mod Named
+pub mod Faults
+pub mod Numbered
+pub mod Answered

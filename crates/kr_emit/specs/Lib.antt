@@ -1,0 +1,4 @@
+pub mod TypeNames
+pub mod Refusals
+pub mod Makings
+pub mod Writers

@@ -1,0 +1,4 @@
+pub mod Buildable
+pub mod Builders
+pub mod Emitted
+pub mod Worked

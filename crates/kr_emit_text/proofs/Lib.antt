@@ -1,0 +1,12 @@
+pub mod Tokens
+pub mod Placed
+pub mod Spelled
+pub mod Derived
+pub mod Read
+pub mod Texts
+pub mod Comments
+pub mod Listings
+pub mod Writable
+pub mod Written
+pub mod Structures
+pub mod Sized

@@ -1,0 +1,6 @@
+pub mod BuilderTree
+pub mod Laws
+pub mod Pieces
+pub mod Printable
+pub mod Syntax
+pub mod Writable

@@ -1,0 +1,26 @@
+use Rattle.std.proofs.Common.{◌≡◌, rules}
+use Rattle.kr_value.specs.declared.value.Value.{Value}
+use Rattle.kr_mean.specs.Operators.{operated}
+use Rattle.kr_mean.specs.Steps.{bind, say}
+use Rattle.kr_code.specs.Doing.{Doing}
+use Rattle.kr_run_state.specs.declared.world.World.{World}
+use Rattle.kr_run_state.specs.Worlds.{Others, state_at}
+use Rattle.kr_run_frames.specs.Frames.{out_value}
+use Rattle.kr_run_moves.proofs.Going.{value_then, leads_behind}
+use Rattle.kr_run_frames.specs.Leads.{next_task}
+use Rattle.kr_run_moves.proofs.expressions.enter_binary.Goals as goal
+
+pub returns-in-Some : goal.returns-in-Some
+returns-in-Some c =
+    let code = c.args.code.now in
+    let w = c.args.world.now in
+    let then = c.at_once.new.world in
+    value_then code (next_task c.take_left.result c.take_left.new.task) c.args.stack.now c.take_left.new.stack c.take_left.new.world then w (λ (d : Doing). d.value c.args.left) (λ (d : Doing) (u : Value). bind (d.value c.args.right) (λ v. say (operated c.args.operation u v))) c.in-Some.value c.in-Some.ensures c.take_left.ensures
+
+pub returns-in-None : goal.returns-in-None
+returns-in-None c =
+    let code = c.args.code.now in
+    let w = c.args.world.now in
+    let then = c.at_once.new.world in
+    let same : then ≡ w = search rules in
+    leads_behind code (next_task c.read_first.result c.read_first.new.task) c.read_first.new.stack c.read_first.new.world then w (λ (y : World) (d : Doing) (x : Others). out_value code d c.args.stack.now (bind (d.value c.args.left) ((λ (d : Doing) (u : Value). bind (d.value c.args.right) (λ v. say (operated c.args.operation u v))) d) (state_at y x))) same c.read_first.ensures

@@ -1,0 +1,2 @@
+class KoratBuild { }
+class N { N next; N() { } boolean repOk() { return true; } }

@@ -1,0 +1,1 @@
+class N { N next; N() { } boolean repOk() { return true; } }

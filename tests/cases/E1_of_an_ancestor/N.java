@@ -1,0 +1,2 @@
+class N extends A { N next; boolean repOk() { return true; } }
+class A { A() { } }

@@ -1,0 +1,1 @@
+class N { N next; int v = +1; boolean repOk() { return true; } }

@@ -1,0 +1,1 @@
+class N { N next; int[][] rows; boolean repOk() { return next == null; } }

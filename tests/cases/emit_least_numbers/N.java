@@ -1,0 +1,1 @@
+class N { int a; long b; boolean c; boolean repOk() { return c; } }

@@ -1,0 +1,1 @@
+class N { N next; boolean repOk() { if (next == null) return true; while (true) { } } }
