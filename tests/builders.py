@@ -9,7 +9,7 @@ there is a JDK, to compile and to build those rows' structures on a JVM.
     back       each text is read back by `check`, beside the sources
     own        `test` runs the first methods of each text, and a method of a class made here finds each field and element of the row
     java       each text compiles; each method's structure is its row's, up to the numbers of objects
-    lacking    a class of many methods with little memory: the whole, or 8, whole methods from the first on and `out of memory`; a
+    lacking    methods that grow, with little memory: the whole, or 8, whole methods from the first on and `out of memory`; a
                reader that leaves and a full disk: 7, and a front of the text
 
 KORAT names the program; SEED another start of what is at random. The last line is `N passed, M failed`, and the status is 0
@@ -319,30 +319,32 @@ def all_examples(parts):
 
 def lacking():
     place = tempfile.mkdtemp()
+    fields = [f"v{k}" for k in range(30)]
     with open(f"{place}/N.java", "w") as file:
-        file.write("class N { N next; int v; boolean repOk() { return true; } }")
+        file.write(f"class N {{ N next; int {', '.join(fields)}; boolean repOk() {{ int count = 0; for (N n = this; n != null; n = n.next) {{ if (count == 64) return false; count++; }} return true; }} }}")
     with open(f"{place}/fin.toml", "w") as file:
-        file.write('root = "N"\nfuel = 1000\n[objects]\nN = 3\n[fields]\n"N.next" = ["null", "N"]\n"N.v" = [{ from = 0, to = 12 }]\n')
+        file.write('root = "N"\nfuel = 10000\n[objects]\nN = 64\n[fields]\n"N.next" = ["null", "N"]\n' + "".join(f'"N.{field}" = [7]\n' for field in fields))
     words = ["emit", "fin.toml", "N.java"]
     whole = run(words, place)
     methods = re.split(rb"(?<=\n  }\n)", whole[1])
-    count(whole[0] == 0 and len(methods) > 1000 and whole[2] == b"", f"many: {whole[0]}, {len(methods)} methods")
+    count(whole[0] == 0 and len(methods) == 65 and whole[2] == b"", f"longer and longer: {whole[0]}, {len(methods)} methods")
 
     def is_front(out):
         """Whole builders and the last line; or nothing, with no memory for the words, as by each command."""
         front = out.removesuffix(b"out of memory\n")
         return out == b"" or front != out and whole[1].startswith(front) and (front in (b"", b"class KoratBuild {\n") or front.endswith(b"\n  }\n"))
 
-    ends = {}
-    for size in [2600 + 400 * step for step in range(60)] + [30000 + 4000 * step for step in range(20)] + [400000]:
+    ends, fronts = {}, set()
+    for size in [*range(2600, 8000, 50), 30000, 400000]:
         def little(size=size):
             resource.setrlimit(resource.RLIMIT_AS, (size * 1024, size * 1024))
 
         status, out, error = run(words, place, preexec_fn=little)
         if status != 127 and b"error while loading" not in error:
             ends[status] = ends.get(status, 0) + 1
+            fronts.add(out.count(b"\n  }\n"))
             count((status, out, error) == whole or (status == 8 and is_front(out) and error == b""), f"{size} KB: {status}, {len(out)} bytes, {error[:80]}")
-    count(0 in ends and 8 in ends, f"ends with little memory: {ends}")
+    count(0 in ends and 8 in ends and any(0 < methods < 64 for methods in fronts), f"ends with little memory: {ends} {fronts}")
     for lines in (0, 1, 5, 1000):
         call = subprocess.Popen([KORAT, *words], cwd=place, stdin=subprocess.DEVNULL, stdout=subprocess.PIPE, stderr=subprocess.PIPE)
         front = b"".join(call.stdout.readline() for _ in range(lines))

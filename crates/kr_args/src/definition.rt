@@ -1,4 +1,5 @@
-// The definition of the command line, as `clap` gets it.
+// The definition of the command line, as `clap` gets it. A command's definition is a function that isn't inlined, so that one frame doesn't
+// have them all: a stack of 64 KB is enough for the program.
 ghost use Rattle.std.specs.Prelude.{◌≡◌, codes, false, IfOk};
 ghost use Rattle.clap.specs.declared.builder.command.Command.TheViews.{out-Command as fields_of};
 ghost use Rattle.clap.specs.Words.{rule_of, app_of, with_rule, with_subcommand};
@@ -101,6 +102,7 @@ fn with_options<'a>(alloc: Global, command: Definition<'a>) -> Result<Definition
 }
 
 /// `list FIN SOURCE..` with its options.
+#[inline(never)]
 fn list_definition<'a>(alloc: Global) -> Result<Definition<'a>, NoMemory>
     ensures app { IfOk result (λ c. app_of c ≡ list_app) }
     ensures local { IfOk result (λ c. (fields_of c).has_globals ≡ false) }
@@ -113,6 +115,7 @@ fn list_definition<'a>(alloc: Global) -> Result<Definition<'a>, NoMemory>
 }
 
 /// `test FIN METHOD SOURCE..` with its options.
+#[inline(never)]
 fn test_definition<'a>(alloc: Global) -> Result<Definition<'a>, NoMemory>
     ensures app { IfOk result (λ c. app_of c ≡ test_app) }
     ensures local { IfOk result (λ c. (fields_of c).has_globals ≡ false) }
@@ -127,6 +130,7 @@ fn test_definition<'a>(alloc: Global) -> Result<Definition<'a>, NoMemory>
 }
 
 /// `check FIN SOURCE..`.
+#[inline(never)]
 fn check_definition<'a>(alloc: Global) -> Result<Definition<'a>, NoMemory>
     ensures app { IfOk result (λ c. app_of c ≡ check_app) }
     ensures local { IfOk result (λ c. (fields_of c).has_globals ≡ false) }
@@ -140,6 +144,7 @@ fn check_definition<'a>(alloc: Global) -> Result<Definition<'a>, NoMemory>
 }
 
 /// `demo N` with its option.
+#[inline(never)]
 fn demo_definition<'a>(alloc: Global) -> Result<Definition<'a>, NoMemory>
     ensures app { IfOk result (λ c. app_of c ≡ demo_app) }
     ensures local { IfOk result (λ c. (fields_of c).has_globals ≡ false) }
@@ -150,6 +155,7 @@ fn demo_definition<'a>(alloc: Global) -> Result<Definition<'a>, NoMemory>
 }
 
 /// `shard FIN SOURCE..` with its options.
+#[inline(never)]
 fn shard_definition<'a>(alloc: Global) -> Result<Definition<'a>, NoMemory>
     ensures app { IfOk result (λ c. app_of c ≡ shard_app) }
     ensures local { IfOk result (λ c. (fields_of c).has_globals ≡ false) }
@@ -163,6 +169,7 @@ fn shard_definition<'a>(alloc: Global) -> Result<Definition<'a>, NoMemory>
 }
 
 /// `merge FILE..`.
+#[inline(never)]
 fn merge_definition<'a>(alloc: Global) -> Result<Definition<'a>, NoMemory>
     ensures app { IfOk result (λ c. app_of c ≡ merge_app) }
     ensures local { IfOk result (λ c. (fields_of c).has_globals ≡ false) }
@@ -171,6 +178,7 @@ fn merge_definition<'a>(alloc: Global) -> Result<Definition<'a>, NoMemory>
 }
 
 /// `upgrade FIN`.
+#[inline(never)]
 fn upgrade_definition<'a>(alloc: Global) -> Result<Definition<'a>, NoMemory>
     ensures app { IfOk result (λ c. app_of c ≡ upgrade_app) }
     ensures local { IfOk result (λ c. (fields_of c).has_globals ≡ false) }
@@ -180,6 +188,7 @@ fn upgrade_definition<'a>(alloc: Global) -> Result<Definition<'a>, NoMemory>
 }
 
 /// `trace FILE` with its options.
+#[inline(never)]
 fn trace_definition<'a>(alloc: Global) -> Result<Definition<'a>, NoMemory>
     ensures app { IfOk result (λ c. app_of c ≡ trace_app) }
     ensures local { IfOk result (λ c. (fields_of c).has_globals ≡ false) }
@@ -191,6 +200,7 @@ fn trace_definition<'a>(alloc: Global) -> Result<Definition<'a>, NoMemory>
 }
 
 /// `emit FIN SOURCE..` with its options.
+#[inline(never)]
 fn emit_definition<'a>(alloc: Global) -> Result<Definition<'a>, NoMemory>
     ensures app { IfOk result (λ c. app_of c ≡ emit_app) }
     ensures local { IfOk result (λ c. (fields_of c).has_globals ≡ false) }

@@ -1,26 +1,21 @@
--- To be believed: the builders of a problem's rows, read back beside its sources.
-use Rattle.std.specs.Prelude.{◌≡◌, ℕ, ◌<◌, ◌^◌, List, [], ◌∷◌, ◌++◌, length, take, Some, None, Ok, slice_get}
+-- To be believed: the builders of a listing, read back beside its sources.
+use Rattle.std.specs.Prelude.{◌≡◌, ℕ, ◌<◌, ◌^◌, List, [], ◌∷◌, ◌++◌, length, Some, None, slice_get}
 use Rattle.kr_ast.specs.Tree.{Tree}
-use Rattle.kr_base.specs.Entries.{entries_in}
-use Rattle.kr_base.specs.declared.span.Bound.TheVariants.{At}
 use Rattle.kr_base.specs.declared.span.Span.{Span}
 use Rattle.kr_classes_table.specs.Rules.{class_fault}
 use Rattle.kr_classes_table.specs.Table.{headings_of, table_of}
 use Rattle.kr_emit_meaning.specs.Buildable.{build_fault}
 use Rattle.kr_emit_meaning.specs.Emitted.{emitted}
-use Rattle.kr_fin.specs.declared.document.FinDoc.{FinDoc}
-use Rattle.kr_laws_never_stuck.specs.Grown.{AreGrown}
+use Rattle.kr_emit_text.specs.Accepted.{rows_listed}
+use Rattle.kr_laws_never_stuck.specs.NeverStuck.{IsAccepted}
 use Rattle.kr_lex.specs.Lexemes.{Lexemes}
 use Rattle.kr_lex.specs.Spells.{AreTokens}
-use Rattle.kr_mean.specs.Entries.{all_entries}
 use Rattle.kr_mean.specs.Problem.{Problem}
 use Rattle.kr_mean.specs.Program.{program_of}
-use Rattle.kr_mean.specs.Purity.{IsPure}
 use Rattle.kr_mean.specs.declared.mode.Mode.TheVariants.{List as Listing}
 use Rattle.kr_mean.specs.declared.row.Row.{Row}
 use Rattle.kr_parse.specs.Refusals.{IsParsed}
-use Rattle.kr_report.specs.Reports.{bytes_of, rows_in}
-use Rattle.kr_space_meaning.specs.Meaning.{meaning}
+use Rattle.kr_report.specs.Reports.{bytes_of}
 use Rattle.kr_types_meaning.specs.Typing.{type_fault}
 use Rattle.kr_emit_laws.specs.Built.{Builds}
 
@@ -38,13 +33,8 @@ pub record AreBuilders (files : List Tree) (file : ℕ) (problem : Problem) (row
   pub typed : type_fault (with_builders files tree) ≡ None
   pub built : (n : ℕ) (row : Row) → slice_get rows n ≡ Some row → Builds (program_of (with_builders files tree)) (length (headings_of files)) n problem row.structure
 
--- the rows of a listing
-abbrev pub rows_listed : Problem → ℕ → Span → List Row
-rows_listed problem limit span = take limit (rows_in (entries_in (At span.after) span.upto (all_entries problem)))
-
 -- Of sources and a finitization that are accepted, for whose problem builders can be written, in a text that a file's numbers can count.
 abbrev pub BuildersLaw : Type 0
-BuildersLaw = (sources : List (List ℕ)) (files : List Tree) (document : FinDoc) (problem : Problem) (limit : ℕ) (span : Span)
-    → AreGrown 0 sources files → class_fault (table_of files) ≡ None → type_fault files ≡ None → meaning files document Listing ≡ Ok problem → IsPure problem → build_fault problem ≡ None
-    → length (bytes_of (emitted problem limit span)) < 2 ^ 30
-    → AreBuilders files (length sources) problem (rows_listed problem limit span) (bytes_of (emitted problem limit span))
+BuildersLaw = (sources : List (List ℕ)) (bytes : List ℕ) (problem : Problem) (limit : ℕ) (span : Span)
+    → (accepted : IsAccepted sources bytes Listing problem) → build_fault problem ≡ None → length (bytes_of (emitted problem limit span)) < 2 ^ 30
+    → AreBuilders accepted.files (length sources) problem (rows_listed problem limit span) (bytes_of (emitted problem limit span))

@@ -10,3 +10,8 @@ pub mod Writable
 pub mod Written
 pub mod Structures
 pub mod Sized
+pub mod Ranges
+pub mod Rows
+pub mod Counts
+pub mod Names
+pub mod Accepted

@@ -1,5 +1,5 @@
 -- The text of builders is that of their lines.
-use Rattle.std.proofs.Common.{◌≡◌, ℕ, suc, ◌==◌, Bool, true, false, List, [], ◌∷◌, ◌++◌, refl, sym, ap, ◌∙◌, arith, append_assoc}
+use Rattle.std.proofs.Common.{◌≡◌, ℕ, suc, ◌<◌, ◌==◌, Bool, true, false, List, [], ◌∷◌, ◌++◌, length, refl, sym, ap, ◌∙◌, arith, append_assoc}
 use Rattle.std.specs.Prelude.{ℤ, pos, negsuc, codes, decimal, flat_map, Option, Some, None, if◌then◌else◌}
 use Rattle.std.specs.Fmt.{signed_decimal}
 use Rattle.std.specs.List.{AllByRecursion}
@@ -111,6 +111,13 @@ line_text (Creates t n) = declared_text (words t) [] (local_name n) (codes "()")
 line_text (CreatesArray t n length) = declared_text (words t) (codes "[]") (local_name n) (codes "[" ++ signed_decimal length ++ codes "]")
 line_text (SetsField n field v) = assigned_text (local_name n) (codes "." ++ field) (spoken v)
 line_text (SetsElement n index v) = assigned_text (local_name n) (codes "[" ++ decimal index ++ codes "]") (spoken v)
+
+pub line_some : (a : Line) → 0 < length (line_text a)
+unfolding line_text
+line_some (Creates t n) = omega arith
+line_some (CreatesArray t n z) = omega arith
+line_some (SetsField n f v) = omega arith
+line_some (SetsElement n i v) = omega arith
 
 three : (a b c rest : List ℕ) → a ++ (b ++ (c ++ rest)) ≡ (a ++ b ++ c) ++ rest
 three a b c rest = simp append_assoc

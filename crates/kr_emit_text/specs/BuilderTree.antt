@@ -1,4 +1,4 @@
--- To be believed: the tree of the class of builders. Places are given by the text before a token; what holds of the tree beside
+-- Between crates: the tree of the class of builders. Places are given by the text before a token; what holds of the tree beside
 -- the sources holds whatever they are.
 use Rattle.std.specs.Prelude.{ℕ, suc, ◌+◌, Bool, true, false, List, [], ◌∷◌, ◌++◌, ℤ, pos, negsuc, codes}
 use Rattle.kr_ast.specs.Tree as trees

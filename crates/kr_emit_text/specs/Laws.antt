@@ -1,4 +1,4 @@
--- To be believed: what holds of the text of builders.
+-- Between crates: what holds of the text of builders.
 use Rattle.std.specs.Prelude.{◌≡◌, ℕ, List, [], ◌∷◌, ℤ, length, take}
 use Rattle.std.specs.List.{AllByRecursion}
 use Rattle.kr_lex.specs.Lexemes.{Lexemes}

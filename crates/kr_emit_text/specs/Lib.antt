@@ -1,3 +1,4 @@
+pub mod Accepted
 pub mod BuilderTree
 pub mod Laws
 pub mod Pieces

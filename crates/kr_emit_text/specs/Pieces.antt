@@ -1,4 +1,4 @@
--- To be believed: the spelling of builders: gaps and tokens.
+-- Between crates: the spelling of builders: gaps and tokens.
 use Rattle.std.specs.Prelude.{ℕ, suc, ◌+◌, Bool, true, false, List, [], ◌∷◌, ◌++◌, ℤ, pos, negsuc, codes, decimal}
 use Rattle.kr_ast.specs.declared.node.Primitive.{Primitive}
 use Rattle.kr_ast.specs.declared.node.Primitive.TheVariants as primitives

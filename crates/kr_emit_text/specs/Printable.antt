@@ -1,4 +1,4 @@
--- To be believed: what can be written: names that are no keywords, numbers that their types have.
+-- Between crates: what can be written: names that are no keywords, numbers that their types have.
 use Rattle.std.specs.Prelude.{◌≡◌, ℕ, suc, ◌<◌, ◌≤◌, ◌^◌, Bool, true, false, List, ℤ, pos, negsuc}
 use Rattle.std.specs.List.{AllByRecursion}
 use Rattle.std.specs.Str.{IsUtf8}

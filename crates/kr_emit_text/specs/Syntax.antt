@@ -1,4 +1,4 @@
--- To be believed: the builders of rows as syntax: their lines, without spelling and places.
+-- Between crates: the builders of rows as syntax: their lines, without spelling and places.
 use Rattle.std.specs.Prelude.{ℕ, ◌==◌, Bool, List, [], ◌∷◌, ◌++◌, ℤ, pos, map, flat_map, Option, Some, None, if◌then◌else◌}
 use Rattle.std.specs.List.{position_or_len}
 use Rattle.std.proofs.Common.{get_or}

@@ -1,4 +1,5 @@
 // Builders as syntax.
+ghost use Rattle.kr_emit_text.specs.Accepted.{ReadLaw};
 ghost use Rattle.kr_emit_text.specs.Laws.{EmittedLaw, PrintedLaw, TextLaw};
 ghost use Rattle.kr_emit_text.specs.Writable.{LengthsLaw, PrintableLaw, WritableLaw};
 
@@ -30,4 +31,9 @@ pub fn writable_law()
 /// Each array of a well formed problem's structure has one length.
 pub fn lengths_law()
     ensures { LengthsLaw }
+{}
+
+/// The text of an accepted listing's builders has tokens and their tree.
+pub fn read_law()
+    ensures { ReadLaw }
 {}

@@ -3,4 +3,6 @@
 
 mod laws;
 
-pub use laws::{emitted_law, lengths_law, printable_law, printed_law, text_law, writable_law};
+pub use laws::{
+    emitted_law, lengths_law, printable_law, printed_law, read_law, text_law, writable_law,
+};
