@@ -239,6 +239,8 @@ explain_document() {
     S3)
         if [ "$item" = this ] && is_second; then
             echo "for example, in [objects]: $(values_at root | tr -d '"') = { class = \"$(names_of class | head -n 1)\", count = 1 }"
+        elif [ "$item" = this ] && ! names_of class | grep -qxF "$(values_at root | tr -d '"')"; then
+            echo "a predefined class has no objects: the root is a class of the sources"
         elif [ "$item" = this ]; then
             echo "for example, in [objects]: $(values_at root | tr -d '"') = 1"
         fi

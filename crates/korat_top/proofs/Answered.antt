@@ -38,7 +38,7 @@ refused_no_usage (input.Source n) e = omega (arith, e)
 
 -- ---- by commands
 
--- what files come to, by the steps read top down
+-- what files give, by the steps read top down
 pub checks_found : {F : Type 0} (held : F → Held) (faults : F → ℕ) (last : F → Option (List ℕ)) (command : Command) (mode : Mode) (inputs : Inputs) (files files' : F) (r : Result Problem Stop)
     → ((x : Result means.Problem Refusal) → Checks (held files) mode inputs x → steps_of (held files) command x)
     → (IsTold (held files) (Some command) → AllTold (held files) inputs)
@@ -65,7 +65,7 @@ pub shard_found : {F : Type 0} (held : F → Held) (faults : F → ℕ) (last : 
 shard_found held faults last ask files files' r h =
     checks_found held faults last (commands.Search (searches.Shard ask)) Listing (files_of ask.fin ask.sources) files files' r (λ x c. c) (λ t. t) (λ file s. s) refl h
 
--- what the steps of builders come to is what the command's do
+-- the steps of builders give what the command's do
 pub emit_found : {F : Type 0} (held : F → Held) (faults : F → ℕ) (last : F → Option (List ℕ)) (ask : Ask) (files files' : F) (r : Result Problem Stop)
     → FindsBuilds held faults last (files_of ask.fin ask.sources) files files' r → Finds held faults last (commands.Search (searches.Emit ask)) files files' r
 emit_found held faults last ask files files' (Ok f) h = h

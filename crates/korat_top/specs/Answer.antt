@@ -96,7 +96,7 @@ abbrev pub checked_answer : Checked ℕ → Answer
 checked_answer checked = line_answer (status_for checked) (said_of checked)
 
 -- The answer to a command, or to words that give none, over what the files hold: the first refusal, in the order of the
--- steps; else a search's report, or how many classes and slots the problem has. Of files of shards, what they come to. Of a
+-- steps; else a search's report, or how many classes and slots the problem has. Of files of shards, what these give. Of a
 -- finitization alone, the text that it is carried over to. Of the file of a traced listing, how many events it has, or the first
 -- line and rule that it breaks.
 pub data IsAnswer (held : Held) : Option Command → Answer → Type 0 where

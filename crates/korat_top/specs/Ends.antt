@@ -80,7 +80,7 @@ pub record BeginsText (asked : Option Command) (before after : Outside) : Type 0
   pub may : MayTell before.held asked text
   pub written : Broke before after text
 
--- Want of memory, which is free, after some rows.
+-- Out of memory, which is free, after some rows.
 pub record TellsMemory (asked : Option Command) (before after : Outside) : Type 0 where
   pub rows : List ℕ
   pub front : IsTold before.held asked → IsFront before.held asked rows

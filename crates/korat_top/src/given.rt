@@ -30,7 +30,7 @@ impl From<NoMemory> for NoWords {
     }
 }
 
-/// Want of memory that the system reports.
+/// A refusal of memory that the system reports.
 fn lacking(kind: io::ErrorKind) -> NoMemory
     requires { kind ≡ OutOfMemory }
 {

@@ -1,4 +1,4 @@
--- What `upgrade` comes to, by its steps.
+-- What `upgrade` gives, by its steps.
 use Rattle.std.proofs.Common.{◌≡◌, ◌∙◌, ℕ, List, [], true≢false, ap, inl, inr, refl, sym, subst, string_bytes, String, Global}
 use Rattle.std.specs.Prelude.{Option, Some, Result, Ok, Err}
 use Rattle.kr_fin.specs.declared.document.FinDoc.{FinDoc}
@@ -30,7 +30,7 @@ pub one_carried : ((held : Held) (file : InputFile) (name : List ℕ) → HasOne
 one_carried reads states held fin =
     one_then (reading held input.Finitization fin) carrying_bytes (reads held input.Finitization fin) (λ bytes. one_then (stating bytes) carrying (states bytes) one_carrying)
 
--- ---- what the work comes to
+-- ---- what the work gives
 
 module _ {F : Type 0} (held : F → Held) (faults : F → ℕ) (last : F → Option (List ℕ)) (fin : List ℕ) (files files' : F) where
   pub unread : (stop : Stop) → HasRead held faults last input.Finitization fin files files' (Err stop) → FindsUpgrade held faults last fin files files' (Err stop)

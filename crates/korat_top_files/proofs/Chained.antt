@@ -2,13 +2,14 @@
 use Rattle.std.proofs.Common.{◌≡◌, ℕ, ◌+◌, inl, inr, List, [], ◌∷◌, ◌++◌, length, refl, sym, ap, subst, arith}
 use Rattle.std.specs.Prelude.{None, Result, Ok, Err}
 use Rattle.kr_ast.specs.Tree.{Tree}
+use Rattle.kr_classes_table.specs.Predefined.{with_predefined}
 use Rattle.kr_classes_table.specs.Table.{Table, table_of}
 use Rattle.kr_classes_table.specs.Rules.{class_fault}
 use Rattle.kr_mean.specs.Problem.{Problem}
 use Rattle.kr_mean.specs.declared.mode.Mode.{Mode}
 use Rattle.korat_top_files.specs.declared.refusal.InputFile.TheVariants as input
 use Rattle.korat_top_files.specs.Refusals.{Inputs, Refusal, too_long}
-use Rattle.korat_top_files.specs.Steps.{AreRead, AreTrees, Judges, unlexed, unparsed, unclassed, untyped, unstated, unposed, impure, accepted, Checks, long_finitization, long_source, judged}
+use Rattle.korat_top_files.specs.Steps.{AreProgram, AreRead, AreTrees, Judges, unlexed, unparsed, unclassed, untyped, unstated, unposed, impure, accepted, Checks, long_finitization, long_source, judged}
 use Rattle.kr_io.specs.Held.{Held}
 use Rattle.korat_top_files.specs.Chains.{and_then, each, made, reading, reading_source, lexing, parsing, growing, classing, typing, stating, spacing, purifying, from_problem, from_document, from_trees, from_table, from_grown, from_texts, from_fin, checking}
 use Rattle.korat_top_files.proofs.Outcomes.{each_stop}
@@ -37,7 +38,7 @@ stopping first next r h = inl h
 moved : {A : Type 0} (n : ℕ) (a : A) (items : List A) → (n + 1) + length items ≡ n + length (a ∷ items)
 moved n a items = omega arith
 
--- a refusal comes behind some items
+-- a refusal comes after some items
 on_stop : {A B C : Type 0} (step : ℕ → A → Result B Refusal → Type 0) (n : ℕ) (items : List A) (r : Refusal) → each step n items (Err r)
     → ((front : List A) (a : A) (rest : List A) (made : List B) → items ≡ front ++ a ∷ rest → each step n front (Ok made) → step (n + length front) a (Err r) → C) → C
 on_stop step n [] r h go = absurd h
@@ -78,19 +79,20 @@ first_of_all n = omega arith
 class_of : (trees : List Tree) (table : Table) → classing trees (Ok table) → class_fault (table_of trees) ≡ None
 class_of trees table h = subst (λ (t : Table). class_fault t ≡ None) h.0 h.1
 
--- ---- what texts come to
+-- ---- what texts give
 
 module _ (mode : Mode) (fin : List ℕ) (sources : List (List ℕ)) where
   from_accepted : (p : Problem) → from_texts mode fin sources (Ok p) → Judges mode fin sources (Ok p)
   from_accepted p h =
-      on_ok (each growing 0 sources) (λ trees. from_grown mode fin trees) p h (λ trees grown h.
+      on_ok (each growing 0 sources) (λ files. from_grown mode fin (with_predefined files)) p h (λ files grown h.
+      let trees = with_predefined files in
       on_ok (classing trees) (λ table. from_table mode fin trees) p h (λ table classed h.
       on_ok (typing trees) (λ done. from_trees mode fin trees) p h (λ done typed h.
       on_ok (stating fin) (λ document. from_document mode trees document) p h (λ document stated h.
       on_ok (spacing mode trees document) from_problem p h (λ problem posed h.
       on_ok (purifying problem) (λ done. made problem) p h (λ done pure is.
       subst (λ (q : Problem). Judges mode fin sources (Ok q)) is
-      (accepted trees document problem (trees_of 0 sources trees grown) (class_of trees table classed) typed stated posed pure)))))))
+      (accepted trees document problem (refl, trees_of 0 sources files grown) (class_of trees table classed) typed stated posed pure)))))))
 
   from_unlexed : (r : Refusal) → each growing 0 sources (Err r) → Judges mode fin sources (Err r)
   from_unlexed r h =
@@ -102,8 +104,9 @@ module _ (mode : Mode) (fin : List ℕ) (sources : List (List ℕ)) where
 
   from_refused : (r : Refusal) → from_texts mode fin sources (Err r) → Judges mode fin sources (Err r)
   from_refused r h =
-      on_err (each growing 0 sources) (λ trees. from_grown mode fin trees) r h (from_unlexed r) (λ trees grown h.
-      let all = trees_of 0 sources trees grown in
+      on_err (each growing 0 sources) (λ files. from_grown mode fin (with_predefined files)) r h (from_unlexed r) (λ files grown h.
+      let trees = with_predefined files in
+      let all : AreProgram sources trees = (refl, trees_of 0 sources files grown) in
       on_err (classing trees) (λ table. from_table mode fin trees) r h (unclassed trees r all) (λ table classed h.
       let right = class_of trees table classed in
       on_err (typing trees) (λ done. from_trees mode fin trees) r h (untyped trees r all right) (λ done typed h.
@@ -115,20 +118,23 @@ module _ (mode : Mode) (fin : List ℕ) (sources : List (List ℕ)) where
   to_judges (Ok p) h = from_accepted p h
   to_judges (Err r) h = from_refused r h
 
-  onto_grown : (trees : List Tree) (x : Result Problem Refusal) → AreTrees 0 sources trees → from_grown mode fin trees x → from_texts mode fin sources x
-  onto_grown trees x all h = onward (each growing 0 sources) (λ trees. from_grown mode fin trees) x trees (grown_of 0 sources trees all) h
+  onto_grown : (trees : List Tree) (x : Result Problem Refusal) → AreProgram sources trees → from_grown mode fin trees x → from_texts mode fin sources x
+  onto_grown [] x all h = absurd all
+  onto_grown (tree ∷ files) x all h =
+      onward (each growing 0 sources) (λ files. from_grown mode fin (with_predefined files)) x files (grown_of 0 sources files all.1)
+      (subst (λ (t : Tree). from_grown mode fin (t ∷ files) x) all.0 h)
 
-  onto_table : (trees : List Tree) (x : Result Problem Refusal) → AreTrees 0 sources trees → class_fault (table_of trees) ≡ None → from_table mode fin trees x → from_texts mode fin sources x
+  onto_table : (trees : List Tree) (x : Result Problem Refusal) → AreProgram sources trees → class_fault (table_of trees) ≡ None → from_table mode fin trees x → from_texts mode fin sources x
   onto_table trees x all right h = onto_grown trees x all (onward (classing trees) (λ table. from_table mode fin trees) x (table_of trees) (refl, right) h)
 
   pub from_judges : (x : Result Problem Refusal) → Judges mode fin sources x → from_texts mode fin sources x
   from_judges x (unlexed front bytes rest trees r is all broken) =
-      stopping (each growing 0 sources) (λ trees. from_grown mode fin trees) r
+      stopping (each growing 0 sources) (λ files. from_grown mode fin (with_predefined files)) r
       (subst (λ xs. each growing 0 xs (Err r)) (sym is)
       (each_stop growing 0 front trees bytes rest r (grown_of 0 front trees all)
       (subst (λ k. growing k bytes (Err r)) (first_of_all (length front)) (stopping (lexing (length front) bytes) parsing r broken))))
   from_judges x (unparsed front bytes rest trees tokens r is all lexed broken) =
-      stopping (each growing 0 sources) (λ trees. from_grown mode fin trees) r
+      stopping (each growing 0 sources) (λ files. from_grown mode fin (with_predefined files)) r
       (subst (λ xs. each growing 0 xs (Err r)) (sym is)
       (each_stop growing 0 front trees bytes rest r (grown_of 0 front trees all)
       (subst (λ k. growing k bytes (Err r)) (first_of_all (length front)) (onward (lexing (length front) bytes) parsing (Err r) tokens lexed broken))))
@@ -156,7 +162,7 @@ module _ (mode : Mode) (fin : List ℕ) (sources : List (List ℕ)) where
       (onward (spacing mode trees document) from_problem (Ok problem) problem posed
       (onward (purifying problem) (λ done. made problem) (Ok problem) tt pure refl))))
 
--- ---- what files come to
+-- ---- what files give
 
 module _ (held : Held) (mode : Mode) (inputs : Inputs) where
   from_long : (fin : List ℕ) (r : Refusal) → reading held input.Finitization inputs.fin (Ok fin) → each (reading_source held) 0 inputs.sources (Err r) → Checks held mode inputs (Err r)

@@ -24,7 +24,7 @@ each_more step n [] (m ∷ made) a b h s = absurd h
 each_more step n (i ∷ items) [] a b h s = absurd h
 each_more step n (i ∷ items) (m ∷ made) a b h s = (h.0, each_more step (n + 1) items made a b h.1 (subst (λ k. step k a (Ok b)) (next_number n i items) s))
 
--- a refusal behind some items
+-- a refusal after some items
 pub each_stop : {A B : Type 0} (step : ℕ → A → Result B Refusal → Type 0) (n : ℕ) (items : List A) (made : List B) (a : A) (rest : List A) (r : Refusal)
     → each step n items (Ok made) → step (n + length items) a (Err r) → each step n (items ++ a ∷ rest) (Err r)
 each_stop {A} step n [] [] a rest r h s =
@@ -68,7 +68,7 @@ stops_first first next (Refused r) h = inl h
 stops_first first next (Read file) h = absurd h
 stops_first first next (Memory why) h = tt
 
--- what is judged behind a step
+-- what is judged after a step
 pub meets_next : {A B V : Type 0} (first : Result A Refusal → Type 0) (next : A → Result B Refusal → Type 0) (seen : V → B) (a : A) (r : Result V Stop) → first (Ok a) → Meets (next a) seen r → Meets (and_then first next) seen r
 meets_next first next seen a (Ok v) h j = (a, h, j)
 meets_next first next seen a (Err stop) h j = stops_next first next a stop h j

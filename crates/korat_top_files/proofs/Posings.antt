@@ -1,4 +1,4 @@
--- What a program and a document come to.
+-- What a program and a document give.
 use Rattle.std.proofs.Common.{◌≡◌, ◌∙◌, List, ap, subst, sym}
 use Rattle.std.specs.Prelude.{None, Option, Result, Ok, Err}
 use Rattle.kr_mean.specs.declared.mode.Mode.{Mode}
@@ -29,6 +29,6 @@ posed_stops mode files document (of.Broken fault) stop h s =
     subst (StopsBy (spacing mode files document)) (sym s.1) (fault, ap (λ (o : Option Fault). unless o (problem_of files document mode)) h, s.2)
 posed_stops mode files document (of.NoMemory why) stop h s = subst (StopsBy (spacing mode files document)) (sym s) tt
 
--- work that stops comes to that
+-- work that stops gives that
 pub meets_stop : {A : Type 0} (steps : Result A Refusal → Type 0) (seen : Problem → A) (r : Result Problem Stop) (stop : Stop) → r ≡ Err stop → StopsBy steps stop → Meets steps seen r
 meets_stop steps seen r stop e h = subst (Meets steps seen) (sym e) h

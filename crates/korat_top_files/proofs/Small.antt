@@ -51,7 +51,7 @@ some_nodes (t ∷ trees) h =
     let more = some_nodes trees (All-tail IsSmall t trees h) in
     omega (arith, more, All-head IsSmall t trees h, length-append t.entries (all_entries trees))
 
-pub few_nodes : (trees : List Arena) → length trees ≤ 16 → All (λ tree. length tree.entries ≤ MOST_NODES) trees → length (all_entries trees) < 2 ^ 32
+pub few_nodes : (trees : List Arena) → length trees ≤ 17 → All (λ tree. length tree.entries ≤ MOST_NODES) trees → length (all_entries trees) < 2 ^ 32
 few_nodes trees n h = let most = some_nodes trees h in omega (arith, most, n)
 
 -- the demo's source isn't too long

@@ -1,4 +1,4 @@
--- What was read, as far as bytes are told, is what the files hold where they are told.
+-- What was read, as far as bytes are known, is what the files hold where they are known.
 use Rattle.std.proofs.Common.{◌≡◌, ℕ, ◌+◌, ◌<◌, ◌≤◌, inl, inr, List, [], ◌∷◌, ◌++◌, length, take, drop, get_or, zero, suc, refl, sym, ap, ◌∙◌, subst, arith}
 use Rattle.std.specs.Prelude.{Option, Some, None, IfSome, IsSome, Result, Ok, Err, All, map, slice_index_or}
 use Rattle.std.proofs.lemmas.List.{length-take, take_all}
@@ -158,13 +158,13 @@ judged held mode inputs fin texts (Err r) h s j told = inr (
   inr (texts, each_whole held 0 inputs.sources texts s (rest_told held inputs fin h told), j),
 )
 
--- a source is read behind a finitization that is not too long
+-- a source is read after a finitization that is not too long
 pub source_reads : (held : Held) (inputs : Inputs) (fin file : List ℕ) → telling held input.Finitization inputs.fin (Ok fin) → ReadsIn held inputs.sources file → Reads held inputs file
 source_reads held inputs fin file h r = inr (short_told (held inputs.fin) fin h.1 h.0, r)
 
--- ---- what the work comes to
+-- ---- what the work gives
 
--- a source that is not read, behind others
+-- a source that is not read, after others
 pub stopped_at : {F : Type 0} (held : F → Held) (faults : F → ℕ) (last : F → Option (List ℕ)) (names : List (List ℕ)) (i : ℕ) (files before after : F) (texts : List (List ℕ)) (stop : Stop)
     → i < length names → each (telling_source (held files)) 0 (take i names) (Ok texts) → ((name : List ℕ) → held before name ≡ held files name) → faults before ≡ faults files
     → HasRead held faults last (input.Source i) (slice_index_or names i []) before after (Err stop) → HasReadAll held faults last names files after (Err stop)
@@ -174,7 +174,7 @@ stopped_at held faults last names i files before after texts (Read failed) l e s
     record { number = i; file = h.0; read = reads_next (held files) names i texts l e; named = h.1; cause = subst (λ n. Rose n (faults after)) count h.2 }
 stopped_at held faults last names i files before after texts (Memory why) l e same count h = tt
 
--- sources that are not all read, behind the finitization
+-- sources that are not all read, after the finitization
 pub sources_stopped : {F : Type 0} (held : F → Held) (faults : F → ℕ) (last : F → Option (List ℕ)) (mode : Mode) (inputs : Inputs) (files before after : F) (fin : List ℕ) (stop : Stop)
     → telling (held files) input.Finitization inputs.fin (Ok fin) → ((name : List ℕ) → held before name ≡ held files name) → faults before ≡ faults files
     → HasReadAll held faults last inputs.sources before after (Err stop) → FindsIn held faults last mode inputs files after (Err stop)

@@ -13,6 +13,7 @@ use Rattle.kr_ast.specs.Tree.{Tree}
 use Rattle.kr_parse.specs.Rules.{rule_code as parse_code}
 use Rattle.kr_parse.specs.Refusals.{OneRefusal, ParsedUnbroken}
 use Rattle.kr_parse_laws.specs.Laws.{OneTree}
+use Rattle.kr_classes_table.specs.Predefined.{with_predefined}
 use Rattle.kr_classes_table.specs.Table.{Table}
 use Rattle.kr_classes_table.specs.Rules.{Fault as ClassFault, class_fault}
 use Rattle.kr_classes.specs.declared.refusal.ClassRule.{ClassRule}
@@ -225,7 +226,7 @@ one_from_grown : (mode : Mode) (fin : List ℕ) (trees : List Tree) → HasOne (
 one_from_grown mode fin trees = one_then (classing trees) (λ table. from_table mode fin trees) (one_classing trees) (λ table. one_from_table mode fin trees)
 
 one_from_texts : Laws → (mode : Mode) (fin : List ℕ) (sources : List (List ℕ)) → HasOne (from_texts mode fin sources)
-one_from_texts laws mode fin sources = one_then (each growing 0 sources) (λ trees. from_grown mode fin trees) (one_each growing (one_growing laws) 0 sources) (λ trees. one_from_grown mode fin trees)
+one_from_texts laws mode fin sources = one_then (each growing 0 sources) (λ files. from_grown mode fin (with_predefined files)) (one_each growing (one_growing laws) 0 sources) (λ files. one_from_grown mode fin (with_predefined files))
 
 one_checking : Laws → (held : Held) (mode : Mode) (inputs : Inputs) → HasOne (checking held mode inputs)
 one_checking laws held mode inputs =

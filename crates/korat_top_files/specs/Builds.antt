@@ -30,7 +30,7 @@ Builds held inputs (Err r) =
 
 -- ---- between crates
 
--- what stops is a refusal by one of these rules, or want of memory
+-- what stops is a refusal by one of these rules, or being out of memory
 abbrev pub StopsUnbuilt : BuildRefusal → Stop → Type 0
 StopsUnbuilt (refusals.Construction place) stop = IsFor (refusal_for (Construction place)) stop
 StopsUnbuilt (refusals.ClassName place) stop = IsFor (refusal_for (ClassName place)) stop

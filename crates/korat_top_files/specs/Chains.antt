@@ -7,6 +7,7 @@ use Rattle.kr_lex.specs.Broken.{IsFirstBroken}
 use Rattle.kr_ast.specs.Tree.{Tree}
 use Rattle.kr_parse.specs.Rules.{rule_code as parse_code}
 use Rattle.kr_parse.specs.Refusals.{IsParsed, IsUnparsed}
+use Rattle.kr_classes_table.specs.Predefined.{with_predefined}
 use Rattle.kr_classes_table.specs.Table.{Table, table_of}
 use Rattle.kr_classes_table.specs.Rules.{class_fault}
 use Rattle.kr_types_meaning.specs.Typing.{type_fault}
@@ -116,7 +117,7 @@ abbrev pub from_grown : Mode → List ℕ → List Tree → Result Problem Refus
 from_grown mode fin trees = and_then (classing trees) (λ table. from_table mode fin trees)
 
 abbrev pub from_texts : Mode → List ℕ → List (List ℕ) → Result Problem Refusal → Type 0
-from_texts mode fin sources = and_then (each growing 0 sources) (λ trees. from_grown mode fin trees)
+from_texts mode fin sources = and_then (each growing 0 sources) (λ files. from_grown mode fin (with_predefined files))
 
 abbrev pub from_fin : Held → Mode → Inputs → List ℕ → Result Problem Refusal → Type 0
 from_fin held mode inputs fin = and_then (each (reading_source held) 0 inputs.sources) (λ sources. from_texts mode fin sources)

@@ -33,7 +33,7 @@ CountStays before now (Err (Refused r)) = now ≡ before
 CountStays before now (Err (Memory why)) = now ≡ before
 CountStays before now (Err (Read file)) = Unit {0}
 
--- what is read of a file, as far as its bytes are told
+-- what is read of a file, as far as its bytes are known
 abbrev pub telling : Held → InputFile → List ℕ → Result (List ℕ) Refusal → Type 0
 telling held file name (Ok bytes) = (length bytes ≤ LIMIT) × IfSome (held name) (λ all. all ≡ bytes)
 telling held file name (Err r) = IfSome (held name) (λ all. LIMIT < length all) × (r ≡ too_long file)
@@ -69,7 +69,7 @@ HasReadAll held faults last names files files' (Err (Memory why)) = Unit {0}
 abbrev pub IsFor : Refusal → Stop → Type 0
 IsFor refusal stop = (r : OwnRefusal) × (stop ≡ Refused r) × (refusal_of r ≡ refusal)
 
--- what stops is a refusal of a source, of the finitization, or of the predicate, or for want of memory
+-- what stops is a refusal of a source, of the finitization, or of the predicate, or for being out of memory
 abbrev pub StopsAt : {R : Type 0} → (R → List ℕ) → RefusalAt R → Stop → Type 0
 StopsAt code (at.Broken place rule) stop = IsFor (at_place place (code rule)) stop
 StopsAt code (at.NoMemory why) stop = stop ≡ Memory why
@@ -97,9 +97,9 @@ Meets outcome seen (Err stop) = StopsBy outcome stop
 abbrev pub AreShaped : List Arena → Type 0
 AreShaped files = All (λ a. AreClasses (root a)) files
 
--- the trees of at most 16 sources, each of as many nodes as a source can have, and of the shapes of classes
+-- the trees of the predefined classes and of at most 16 sources, each of as many nodes as a source can have, and of the shapes of classes
 pub record AreGrown (trees : List Arena) : Type 0 where
-  pub few : length trees ≤ 16
+  pub few : length trees ≤ 17
   pub small : All (λ tree. length tree.entries ≤ MOST_NODES) trees
   pub shaped : AreShaped trees
 
@@ -111,7 +111,7 @@ pub record FailsToRead {F : Type 0} (faults : F → ℕ) (last : F → Option (L
   pub named : last files' ≡ Some name
   pub cause : Rose (faults files) (faults files')
 
--- what the steps say of what the files hold, where it is told; or a read fault; or want of memory, which is free
+-- what the steps say of what the files hold, where it is known; or a read fault; or being out of memory, which is free
 abbrev pub FindsIn : {F : Type 0} → (F → Held) → (F → ℕ) → (F → Option (List ℕ)) → Mode → Inputs → F → F → Result Problem Stop → Type 0
 FindsIn held faults last mode inputs files files' (Ok f) = AllTold (held files) inputs → checking (held files) mode inputs (Ok (posed f))
 FindsIn held faults last mode inputs files files' (Err (Refused r)) = AllTold (held files) inputs → checking (held files) mode inputs (Err (refusal_of r))

@@ -62,7 +62,7 @@ abbrev pub too_long : InputFile → Refusal
 too_long input.Finitization = of_finitization (fin_code TooLong) (codes "size")
 too_long (input.Source n) = at_place (source_start n) (call_code LongSource)
 
--- ---- what is told of a refusal
+-- ---- what is reported of a refusal
 
 -- a file's name, as the words give it
 abbrev pub name_of : Inputs → InputFile → List ℕ

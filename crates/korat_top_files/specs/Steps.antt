@@ -9,6 +9,7 @@ use Rattle.kr_lex.specs.Broken.{IsFirstBroken}
 use Rattle.kr_ast.specs.Tree.{Tree}
 use Rattle.kr_parse.specs.Rules.{rule_code as parse_code}
 use Rattle.kr_parse.specs.Refusals.{IsParsed, IsUnparsed}
+use Rattle.kr_classes_table.specs.Predefined.{predefined}
 use Rattle.kr_classes_table.specs.Table.{table_of}
 use Rattle.kr_classes_table.specs.Rules.{class_fault}
 use Rattle.kr_types_meaning.specs.Typing.{type_fault}
@@ -60,6 +61,11 @@ AreTrees n [] (tree ∷ trees) = ⊥
 AreTrees n (bytes ∷ sources) [] = ⊥
 AreTrees n (bytes ∷ sources) (tree ∷ trees) = IsTreeOf n bytes tree × AreTrees (n + 1) sources trees
 
+-- the trees of a program: of the predefined classes, and of its sources
+abbrev pub AreProgram : List (List ℕ) → List Tree → Type 0
+AreProgram sources [] = ⊥
+AreProgram sources (tree ∷ trees) = (tree ≡ predefined) × AreTrees 0 sources trees
+
 -- a source is refused: by a rule that it breaks at a place
 abbrev pub broken_at : {R : Type 0} → (R → List ℕ) → (Place → R → Type 0) → Refusal → Type 0
 broken_at {R} code breaks r = (place : Place) × (rule : R) × breaks place rule × (r ≡ at_place place (code rule))
@@ -81,8 +87,8 @@ mistyped trees r = broken_at typing_code (λ place rule. type_fault trees ≡ So
 
 -- ---- The steps over texts
 
--- What a finitization and sources come to: the problem of a mode, or the first refusal. Each step stands on what the steps
--- before it made: the trees of the sources, one after another; classes that break no class rule; no node that breaks a
+-- What a finitization and sources give: the problem of a mode, or the first refusal. Each step uses what the steps
+-- before it made: the trees of the predefined classes and of the sources, one after another; classes that break no class rule; no node that breaks a
 -- typing rule; the document that the finitization is; the problem that it poses; a predicate that leaves the candidates alone.
 pub data Judges (mode : Mode) (fin : List ℕ) (sources : List (List ℕ)) : Result Problem Refusal → Type 0 where
   unlexed : (front : List (List ℕ)) (bytes : List ℕ) (rest : List (List ℕ)) (trees : List Tree) (r : Refusal)
@@ -92,29 +98,29 @@ pub data Judges (mode : Mode) (fin : List ℕ) (sources : List (List ℕ)) : Res
       → sources ≡ front ++ bytes ∷ rest → AreTrees 0 front trees → AreTokens (length front) bytes tokens
       → broken_at parse_code (IsUnparsed tokens) r → Judges mode fin sources (Err r)
   unclassed : (trees : List Tree) (r : Refusal)
-      → AreTrees 0 sources trees
+      → AreProgram sources trees
       → misclassed trees r → Judges mode fin sources (Err r)
   untyped : (trees : List Tree) (r : Refusal)
-      → AreTrees 0 sources trees → class_fault (table_of trees) ≡ None
+      → AreProgram sources trees → class_fault (table_of trees) ≡ None
       → mistyped trees r → Judges mode fin sources (Err r)
   unstated : (trees : List Tree) (r : Refusal)
-      → AreTrees 0 sources trees → class_fault (table_of trees) ≡ None → type_fault trees ≡ None
+      → AreProgram sources trees → class_fault (table_of trees) ≡ None → type_fault trees ≡ None
       → broken_of fin_code (meaning fin) r → Judges mode fin sources (Err r)
   unposed : (trees : List Tree) (document : FinDoc) (r : Refusal)
-      → AreTrees 0 sources trees → class_fault (table_of trees) ≡ None → type_fault trees ≡ None → meaning fin ≡ Ok document
+      → AreProgram sources trees → class_fault (table_of trees) ≡ None → type_fault trees ≡ None → meaning fin ≡ Ok document
       → broken_of space_code (problem_meant trees document mode) r → Judges mode fin sources (Err r)
   impure : (trees : List Tree) (document : FinDoc) (problem : Problem) (r : Refusal)
-      → AreTrees 0 sources trees → class_fault (table_of trees) ≡ None → type_fault trees ≡ None → meaning fin ≡ Ok document
+      → AreProgram sources trees → class_fault (table_of trees) ≡ None → type_fault trees ≡ None → meaning fin ≡ Ok document
       → problem_meant trees document mode ≡ Ok problem
       → impure_at problem r → Judges mode fin sources (Err r)
   accepted : (trees : List Tree) (document : FinDoc) (problem : Problem)
-      → AreTrees 0 sources trees → class_fault (table_of trees) ≡ None → type_fault trees ≡ None → meaning fin ≡ Ok document
+      → AreProgram sources trees → class_fault (table_of trees) ≡ None → type_fault trees ≡ None → meaning fin ≡ Ok document
       → problem_meant trees document mode ≡ Ok problem → IsPure problem
       → Judges mode fin sources (Ok problem)
 
 -- ---- The steps over files
 
--- What files come to: they are read, the finitization first, and judged.
+-- What files give: they are read, the finitization first, and judged.
 pub data Checks (held : Held) (mode : Mode) (inputs : Inputs) : Result Problem Refusal → Type 0 where
   long_finitization : IsTooLong held inputs.fin → Checks held mode inputs (Err (too_long input.Finitization))
   long_source : (fin : List ℕ) (front : List (List ℕ)) (name : List ℕ) (rest texts : List (List ℕ))
@@ -126,7 +132,7 @@ pub data Checks (held : Held) (mode : Mode) (inputs : Inputs) : Result Problem R
 
 -- ---- Which files are read
 
--- The file is one of these, which are read in order, and no file before it is too long, as far as their bytes are told.
+-- The file is one of these, which are read in order, and no file before it is too long, as far as their bytes are known.
 abbrev pub ReadsIn : Held → List (List ℕ) → List ℕ → Type 0
 ReadsIn held [] file = ⊥
 ReadsIn held (name ∷ names) file = (name ≡ file) ⊎ (IfSome (held name) (λ bytes. length bytes ≤ LIMIT) × ReadsIn held names file)
@@ -135,6 +141,6 @@ ReadsIn held (name ∷ names) file = (name ≡ file) ⊎ (IfSome (held name) (λ
 abbrev pub Reads : Held → Inputs → List ℕ → Type 0
 Reads held inputs file = ReadsIn held (inputs.fin ∷ inputs.sources) file
 
--- the bytes of all files that the command reads are told
+-- the bytes of all files that the command reads are known
 abbrev pub AllTold : Held → Inputs → Type 0
 AllTold held inputs = (file : List ℕ) → Reads held inputs file → IsSome (held file)

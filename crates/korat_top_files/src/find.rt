@@ -1,6 +1,7 @@
 // The work on the files of a call: they are read, and then judged.
 ghost use Rattle.std.specs.Prelude.{◌≡◌, ◌<◌, ◌≤◌, ◌∷◌, ◌++◌, [], All, IfOk, OnOk, length, map};
-ghost use Rattle.kr_ast.specs.Arena.{root};
+ghost use Rattle.kr_ast.specs.Arena.{Arena, root};
+ghost use Rattle.kr_classes_table.specs.Predefined.{predefined};
 ghost use Rattle.kr_args.specs.Definition.{MOST_SOURCES};
 ghost use Rattle.kr_classes.specs.ClassTables.{IsClassTable};
 ghost use Rattle.kr_types.specs.Programs.{IsProgram};
@@ -25,6 +26,7 @@ use kr_args::forms::{Ask, Word};
 use kr_ast::Tree;
 use kr_base::{ItemName, NoMemory, Place, Words};
 use kr_classes::{ClassTable, classes};
+use kr_classes_table::predefined_tree;
 use kr_demo::{demo_finitization, demo_source};
 use kr_fin::{FinDoc, FinRule, MAX_FIN_BYTES, read_fin};
 use kr_io::{Files, ReadRefusal};
@@ -214,6 +216,16 @@ fn judge_from_classes(
     judge_from_typing(alloc, mode, fin, trees, table)
 }
 
+/// The trees of a program: of the predefined classes, and of its files.
+fn with_predefined(alloc: Global, files: Vec<Tree>) -> Result<Vec<Tree>, NoMemory>
+    ensures { IfOk result (λ trees. (tree : Arena) × (root tree ≡ predefined) × (length tree.entries ≤ MOST_NODES) × (trees.items ≡ tree ∷ files.items)) }
+{
+    let predefined = predefined_tree(alloc)?;
+    let mut trees = files;
+    trees.insert(0, predefined)?;
+    Ok(trees)
+}
+
 /// Judges what was read, as what a mode asks of it.
 fn judge_from_parsing(
     alloc: Global,
@@ -225,7 +237,8 @@ fn judge_from_parsing(
     requires short { All (λ text. length text ≤ LIMIT) texts.now }
     ensures judged { Meets (from_texts mode fin.now texts.now) posed result }
 {
-    let trees = trees_of(alloc, texts)?;
+    let files = trees_of(alloc, texts)?;
+    let trees = with_predefined(alloc, files)?;
     judge_from_classes(alloc, mode, fin, trees)
 }
 

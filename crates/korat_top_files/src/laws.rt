@@ -5,7 +5,7 @@ use kr_lex::{one_list_law, unbroken_law};
 use kr_parse::one_refusal_law;
 use kr_parse_laws::one_tree;
 
-/// Files, and texts, come to one problem or one refusal at most.
+/// Files, and texts, give one problem or one refusal at most.
 pub fn one_outcome()
     ensures { OneOutcome }
 {

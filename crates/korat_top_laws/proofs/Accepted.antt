@@ -4,9 +4,10 @@ use Rattle.std.specs.List.{AllByRecursion}
 use Rattle.kr_ast.specs.Tree.{Tree}
 use Rattle.kr_mean.specs.Problem.{Problem}
 use Rattle.kr_mean.specs.declared.mode.Mode.{Mode}
-use Rattle.kr_laws_never_stuck.specs.Grown.{AreGrown}
+use Rattle.kr_laws_never_stuck.specs.Grown.{AreGrown, AreProgram}
 use Rattle.kr_laws_never_stuck.specs.NeverStuck.{IsAccepted}
 use Rattle.korat_top_files.specs.Refusals.{Inputs, Refusal}
+use Rattle.korat_top_files.specs.Steps as steps
 use Rattle.korat_top_files.specs.Steps.{AreRead, AreTrees, Checks, Judges, LIMIT, accepted, impure, judged, long_finitization, long_source, unclassed, unlexed, unparsed, unposed, unstated, untyped}
 use Rattle.kr_io.specs.Held.{Held}
 use Rattle.korat_top_laws.specs.Laws.{AcceptedLaw}
@@ -17,11 +18,15 @@ grown n [] (t ∷ ts) h = absurd h
 grown n (bytes ∷ sources) [] h = absurd h
 grown n (bytes ∷ sources) (t ∷ ts) h = (record { tokens = h.0.0.list; spelled = h.0.1.spelled; derived = h.0.2.derived }, grown (n + 1) sources ts h.1)
 
+pub program : (sources : List (List ℕ)) (trees : List Tree) → steps.AreProgram sources trees → AreProgram sources trees
+program sources [] h = absurd h
+program sources (t ∷ ts) h = (h.0, grown 0 sources ts h.1)
+
 of_steps : (mode : Mode) (fin : List ℕ) (sources : List (List ℕ)) (problem : Problem) (result : Result Problem Refusal) → Judges mode fin sources result → result ≡ Ok problem → IsAccepted sources fin mode problem
 of_steps mode fin sources problem _ (accepted trees document own read classes types stated posed pure) e =
     let same : own ≡ problem = ap inside e in
     subst (λ (p : Problem). IsAccepted sources fin mode p) same
-    (record { files = trees; read = grown 0 sources trees read; classes = classes; types = types; document = document; stated = stated; posed = posed })
+    (record { files = trees; read = program sources trees read; classes = classes; types = types; document = document; stated = stated; posed = posed })
   where
     inside : Result Problem Refusal → Problem
     inside (Ok p) = p

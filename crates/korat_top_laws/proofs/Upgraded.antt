@@ -27,9 +27,9 @@ use Rattle.kr_space_meaning.proofs.Each.{each_weaker}
 use Rattle.kr_shard_laws.specs.Names.{IsIdentifier}
 use Rattle.kr_shard_laws.proofs.SourceNames.{named}
 use Rattle.korat_top_files.specs.Refusals.{Refusal}
-use Rattle.korat_top_files.specs.Steps.{AreTrees, Judges, accepted, impure, unclassed, unlexed, unparsed, unposed, unstated, untyped}
+use Rattle.korat_top_files.specs.Steps.{AreProgram, Judges, accepted, impure, unclassed, unlexed, unparsed, unposed, unstated, untyped}
 use Rattle.korat_top_files.specs.Upgrades.{IsCarried}
-use Rattle.korat_top_laws.proofs.Accepted.{grown}
+use Rattle.korat_top_laws.proofs.Accepted.{program}
 use Rattle.korat_top_laws.proofs.Identifiers.{domain_name}
 use Rattle.korat_top_laws.proofs.Posed.{poses_it, posed}
 use Rattle.korat_top_laws.specs.Laws.{UpgradedLaw}
@@ -61,9 +61,9 @@ read_back text document short reads is =
 
 -- ---- the steps
 
-domain_names : (sources : List (List ℕ)) (files : List Tree) → AreTrees 0 sources files → AreDomainNames (headings_of files)
+domain_names : (sources : List (List ℕ)) (files : List Tree) → AreProgram sources files → AreDomainNames (headings_of files)
 domain_names sources files read =
-    each_weaker (λ (h : Heading). IsIdentifier h.name) (λ h. is_domain_name h.name ≡ true) (headings_of files) (λ h n. domain_name h.name n) (named sources files (grown 0 sources files read)).classes
+    each_weaker (λ (h : Heading). IsIdentifier h.name) (λ h. is_domain_name h.name ≡ true) (headings_of files) (λ h n. domain_name h.name n) (named sources files (program sources files read)).classes
 
 same_document : (fin : List ℕ) (a b : FinDoc) → meaning fin ≡ Ok a → meaning fin ≡ Ok b → a ≡ b
 same_document fin a b x y = ap inside (sym x ∙ y)
@@ -73,7 +73,7 @@ same_document fin a b x y = ap inside (sym x ∙ y)
     inside (Err f) = a
 
 carried : (mode : Mode) (fin text : List ℕ) (sources : List (List ℕ)) (problem : Problem) (files : List Tree) (document : FinDoc)
-    → AreTrees 0 sources files → class_fault (class_table files) ≡ None → type_fault files ≡ None
+    → AreProgram sources files → class_fault (class_table files) ≡ None → type_fault files ≡ None
     → meaning fin ≡ Ok document → problem_meant files document mode ≡ Ok problem → IsPure problem → IsInOrder document → IsCarried document text → length text ≤ 1048576 → Judges mode text sources (Ok problem)
 carried mode fin text sources problem files document read classes types stated meant pure order c short =
     let table = table_read fin document stated in

@@ -1,11 +1,12 @@
 -- To be believed: what a search reports of the problem that its files pose.
-use Rattle.std.specs.Prelude.{◌≡◌, ◌<◌, ℕ, List, [], ◌∷◌, ◌++◌, length, Bool, true, false, ◌&&◌, ◌==◌, not, Option}
+use Rattle.std.specs.Prelude.{◌≡◌, ◌<◌, ◌-◌, ℕ, List, [], ◌∷◌, ◌++◌, length, Bool, true, false, ◌&&◌, ◌==◌, not, Option}
 use Rattle.kr_base.specs.declared.span.Bound.TheVariants.{At, End}
 use Rattle.kr_base.specs.declared.span.Span.{Span}
 use Rattle.kr_base.specs.Entries.{entries_in}
 use Rattle.kr_args.specs.declared.forms.Ask.{Ask}
 use Rattle.kr_args.specs.declared.forms.Search.{Search}
 use Rattle.kr_args.specs.declared.forms.Search.TheVariants as searches
+use Rattle.kr_classes_table.specs.Predefined.{PREDEFINED}
 use Rattle.kr_core.specs.declared.event.Event.{Event}
 use Rattle.kr_mean.specs.Problem.{Problem, slots}
 use Rattle.kr_mean.specs.Entries.{all_entries}
@@ -37,9 +38,9 @@ shard_of ask problem =
 abbrev pub builders_of : Ask → Problem → Answer
 builders_of ask problem = emitted problem ask.limit (span_in ask)
 
--- how many classes and slots there are
+-- how many classes the files have, and how many slots there are
 abbrev pub counts_of : Problem → Answer
-counts_of problem = line_answer 0 (checked_text (length problem.program.table.classes) (length (slots problem)))
+counts_of problem = line_answer 0 (checked_text (length problem.program.table.classes - PREDEFINED) (length (slots problem)))
 
 -- how many entries are valid, of so many nodes
 abbrev pub tally_of : ℕ → Problem → Answer

@@ -1,10 +1,10 @@
 -- Entries in few bytes stay the same while the second list grows.
-use Rattle.std.proofs.Common.{◌≡◌, ℕ, ◌+◌, ◌<◌, ◌≤◌, Bool, true, false, refl, sym, ap, ◌∙◌, subst, arith, List, [], ◌∷◌, ◌++◌, length, get_or, All, length-append}
+use Rattle.std.proofs.Common.{◌≡◌, ℕ, ◌+◌, ◌<◌, ◌≤◌, Bool, true, false, refl, sym, ap, ◌∙◌, arith, List, [], ◌∷◌, ◌++◌, length, get_or, All, length-append}
 use Rattle.std.specs.Prelude.{Result, Ok, Err, OnErr}
 use Rattle.std.proofs.Math.ListN.{set}
 use Rattle.std.proofs.Math.Seq.{get_or-append_seam}
 use Rattle.std.proofs.lemmas.List.{get_or_append_left, get_or-map, map-append, map-set}
-use Rattle.std.proofs.lemmas.List.Elements.{All-get_or, All-head, All-push, All-set, All-tail, All-weaker}
+use Rattle.std.proofs.lemmas.List.Elements.{All-head, All-push, All-tail, All-weaker}
 use Rattle.kr_ast.specs.declared.node.Entry.{Entry}
 use Rattle.kr_ast.specs.declared.short_entry.ShortEntry.{ShortEntry}
 use Rattle.kr_ast.specs.declared.short_entry.LongNode.{LongNode}
@@ -54,16 +54,6 @@ pub shown_parent : (file : ℕ) (longs : List LongNode) (ss : List ShortEntry) (
 shown_parent file longs ss i parent position s d lt is =
     map-set (entry_shown file longs) ss i (record s { parent = parent; position = position })
     ∙ ap (λ e. set (entries_shown file longs ss) i (owned parent position e)) (ap (entry_shown file longs) is ∙ sym (get_or-map (entry_shown file longs) ss i s d lt))
-
-pub kept_parent : (n : ℕ) (ss : List ShortEntry) (i parent position : ℕ) (s : ShortEntry) → i < length ss → s ≡ get_or ss i s → All (IsKept n) ss → All (IsKept n) (set ss i (record s { parent = parent; position = position }))
-kept_parent n ss i parent position s lt is kept =
-    let here : IsKept n s = subst (IsKept n) (sym is) (All-get_or (IsKept n) ss i s lt kept) in
-    All-set (IsKept n) ss i (record s { parent = parent; position = position }) here kept
-
--- the first entry's file may be any while there are none
-pub shown_none : (file next : ℕ) (longs : List LongNode) (ss : List ShortEntry) → length ss ≡ 0 → entries_shown next longs ss ≡ entries_shown file longs ss
-shown_none file next longs [] none = refl
-shown_none file next longs (s ∷ ss) none = absurd (omega arith)
 
 abbrev pub entries_of : ℕ → List LongNode → List ShortEntry → Entries
 entries_of file longs ss = record { items = entries_shown file longs ss }

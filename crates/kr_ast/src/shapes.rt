@@ -169,7 +169,7 @@ pub(crate) fn words_of(node: Node) -> Option<Words>
     }
 }
 
-/// The node that has these words. `Nil` stands for one that doesn't fit.
+/// The node that has these words. `Nil` where they are no node's.
 #[inline(always)]
 pub(crate) fn node_of(shape: Shape, first: u32, second: u32) -> Node
     ensures { result ≡ node_of shape first second }

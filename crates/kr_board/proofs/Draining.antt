@@ -37,7 +37,7 @@ use Rattle.kr_board.proofs.Sound.{join, size, sizes}
 use Rattle.kr_board.proofs.Staying.{holds, stays}
 use Rattle.kr_board.proofs.Whole.{board_law}
 
--- the front are so many lists, and those that stay are the others behind an empty one
+-- the front are so many lists, and those that stay are the others after an empty one
 
 pub front-taken : {R : Type 0} (ss : List Segment) (ks : List (List R)) → length ks ≡ length ss → ss ≢ [] → fronts ss ks ≡ take (suc (length (gone ss))) ks
 front-taken [] ks same some = absurd (some refl)

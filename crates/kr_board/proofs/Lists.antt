@@ -142,7 +142,7 @@ edit-within ss (Drain rows) = tt
 edit-within ss (StopAt cut) = tt
 edit-within ss (Look seat) = tt
 
--- a place that stands is of a segment
+-- a place that is in use is of a segment
 
 found_there : (n : ℕ) (ss : List Segment) → place_of n ss < length ss → (g : Segment) × (segment_of n ss ≡ Some g)
 found_there n [] h = absurd (omega arith)

@@ -1,4 +1,4 @@
--- A seat that steals from itself: it fits, and the rest is behind its mark.
+-- A seat that steals from itself: it fits, and the rest is after its mark.
 use Rattle.std.proofs.Common.{◌≡◌, ℕ, ◌-◌, ◌^◌, List, [], Bool, true, false, ◌&&◌, not, refl, sym, ap, ◌∙◌, Option, Some, None}
 use Rattle.std.specs.Prelude.{if◌then◌else◌, nat_lt}
 use Rattle.std.specs.Option.{option_map}
@@ -75,7 +75,7 @@ pub split_other : (mark : Bound) (m : List ℕ) (upto : Bound) (lease : Lease) �
 split_other mark m upto lease at differ =
     sym (ap (λ (b : Bound). split_at b upto lease) at ∙ ap (λ (b : Bool). if b then inside_of m upto else None) (other-cut m lease.mark differ))
 
--- the rest: whose it is, from where on, behind the mark; and the board stays its survey's
+-- the rest: whose it is, from where on, after the mark; and the board stays its survey's
 pub record IsRest {R : Type 0} (old : Held R) (lease rest : Lease) (cut : List ℕ) (new : Held R) : Type 0 where
   pub seat : rest.seat ≡ lease.seat
   pub mark : rest.mark ≡ cut

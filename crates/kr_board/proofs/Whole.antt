@@ -21,7 +21,7 @@ use Rattle.kr_board.proofs.Staying.{holds}
 rows-join : {R : Type 0} (a m b : Bound) (all : List (Entry R)) → Ascends all → less m a ≡ false → less b m ≡ false → rows_of (within a m all) ++ rows_of (within m b all) ≡ rows_of (within a b all)
 rows-join {R} a m b all asc h k = sym (flat_map-append _ (within a m all) (within m b all)) ∙ ap (λ (l : List (Entry R)). rows_of l) (within-append a m b all asc h k)
 
--- from a bound on: those up to the mark, those up to the upto, those behind it
+-- from a bound on: those up to the mark, those up to the upto, those after it
 three : {R : Type 0} (a mark upto e : Bound) (all : List (Entry R)) (rest : List R) → Ascends all → less mark a ≡ false → less upto mark ≡ false → less e upto ≡ false → rest ≡ rows_of (within upto e all)
     → rows_of (within a mark all) ++ (rows_of (within mark upto all) ++ rest) ≡ rows_of (within a e all)
 three {R} a mark upto e all rest asc low high up is =

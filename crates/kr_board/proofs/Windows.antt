@@ -16,7 +16,7 @@ use Rattle.kr_board.specs.Held.{Held}
 use Rattle.kr_board.specs.Windows.{CountsFew, IsInWindow, IsFew, passes, is_open_front, is_over, Admits}
 use Rattle.kr_board.proofs.Sound.{join, size, sizes, total-end, total-grown, total-parted, total-emptied, total-first}
 
--- the rows behind the first list
+-- the rows after the first list
 abbrev behind : {R : Type 0} → List (List R) → ℕ
 behind ks = length (joined (drop 1 ks))
 
@@ -49,13 +49,10 @@ not-over : (a b : ℕ) (c : Bool) → (nat_lt a b && not c) ≡ false → c ≡ 
 not-over a b true h e = absurd (cc (e))
 not-over a b false h e = grind (arith, nat_tests)
 
-both-false : (b : Bool) → (false && b) ≡ false
-both-false b = refl
-
 zero-test : (n : ℕ) → (n == 0) ≡ true → n ≡ 0
 zero-test n h = grind (arith, nat_tests)
 
--- a report: in a list behind the first, or in the first with rows, all stay within the window; else the first alone grows
+-- a report: in a list after the first, or in the first with rows, all stay within the window; else the first alone grows
 record InWindow {R : Type 0} (w : ℕ) (ks : List (List R)) : Type 0 where
   pub later : behind ks ≤ w
   pub all : length (joined ks) ≤ w + 256

@@ -18,7 +18,7 @@ use Rattle.kr_core.specs.Beside.{beside, Measures}
 use Rattle.kr_board.specs.Held.{Held}
 use Rattle.kr_board.specs.Parts.{IsPart}
 
--- the rows are the survey's: behind those drained, of the first segment those up to its mark, of each other its own
+-- the rows are the survey's: after those drained, of the first segment those up to its mark, of each other its own
 pub record KeepsRows {R : Type 0} (all : List (Entry R)) (from : Bound) (events : List Event) (segments : List Segment) (kept : List (List R)) : Type 0 where
   pub before : List R
   pub count : length before ≡ drained events
@@ -63,7 +63,7 @@ abbrev pub StaysWith : {R : Type 0} → List ℕ → Part R → Held R → Held 
 StaysWith {R} mark part old new =
     (all : List (Entry R)) (span : Span) (cuts : List (List ℕ)) → Ascends all → AreInside cuts span → IsPart all mark part → IsBoardOf all span cuts old → IsBoardOf all span cuts new
 
--- these are the next of the survey's rows behind those drained
+-- these are the next of the survey's rows after those drained
 abbrev pub AreNext : {R : Type 0} → Held R → List R → Type 0
 AreNext {R} old rows =
     (all : List (Entry R)) (span : Span) (cuts : List (List ℕ)) → Ascends all → AreInside cuts span → IsBoardOf all span cuts old

@@ -51,7 +51,7 @@ pub record IsListing {R : Type 0} (b : Held R) (l : Listing R) : Type 0 where
   pub tried : l.tried ≡ capped (b.core.past + sum_by (λ g. g.tried) b.core.segments)
   pub spent : l.spent ≡ spent_key b.core
 
--- of every survey that the board is of: the rows up to the end behind those drained, the number of all entries up to the
+-- of every survey that the board is of: the rows up to the end after those drained, the number of all entries up to the
 -- end, cut after the first spent one, and the key of that, or none where there is none
 pub record IsListingOf {R : Type 0} (all : List (Entry R)) (span : Span) (b : Held R) (l : Listing R) : Type 0 where
   pub rows : l.rows ≡ drop (drained b.log) (rows_of (within (At span.after) b.core.end all))

@@ -14,7 +14,7 @@ added i rows [] = []
 added zero rows (k ∷ ks) = (k ++ rows) ∷ ks
 added (suc i) rows (k ∷ ks) = k ∷ added i rows ks
 
--- what an edit makes: an empty list directly behind a place; rows at the end of the list at a place, which is the last one then
+-- what an edit makes: an empty list directly after a place; rows at the end of the list at a place, which is the last one then
 -- or not; the first list alone
 abbrev pub edited : {R : Type 0} → Edit → List R → List (List R) → List (List R)
 edited Nothing rows ks = ks

@@ -1,4 +1,4 @@
--- Between crates: what a report comes to.
+-- Between crates: what a report gives.
 use Rattle.std.specs.Prelude.{◌≡◌, Bool, not, Option, Some, None, is_none, length, if◌then◌else◌}
 use Rattle.kr_base.specs.declared.span.Bound.{Bound}
 use Rattle.kr_base.specs.declared.span.Bound.TheVariants.{At, End}

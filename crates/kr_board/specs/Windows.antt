@@ -8,7 +8,7 @@ use Rattle.kr_core.specs.declared.event.Event.TheVariants.{Take, Steal, Report, 
 use Rattle.kr_core.specs.States.{State}
 use Rattle.kr_board.specs.Held.{Held}
 
--- of the rows kept: those behind the first segment are no more than the window, and all are at most 256 more
+-- of the rows kept: those after the first segment are no more than the window, and all are at most 256 more
 abbrev pub IsInWindow : {R : Type 0} → Option ℕ → List (List R) → Type 0
 IsInWindow None ks = Unit {0}
 IsInWindow (Some window) ks = (length (joined (drop 1 ks)) ≤ window) × (length (joined ks) ≤ window + 256)

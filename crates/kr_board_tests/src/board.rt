@@ -355,7 +355,7 @@ fn step_all(
     Ok(())
 }
 
-/// What is left of a text whose front tells what a board closed to.
+/// What is left of a text whose front says what a board closed to.
 fn after_closed<'a>(text: &'a str, closed: &Closed<Cut>) -> Option<&'a str> {
     match closed {
         Closed::Unfinished(_board) => after_word(text, "unfinished"),

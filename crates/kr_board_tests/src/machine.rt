@@ -103,7 +103,7 @@ fn after_owned<'a>(line: &'a str, kind: &str, seat: u32, segment: u64) -> Option
     after_number(text, segment)
 }
 
-/// What is left of a line whose front tells an event.
+/// What is left of a line whose front is an event.
 fn after_event<'a>(line: &'a str, event: &Event) -> Option<&'a str> {
     match event {
         Event::Take { seat, segment } => after_owned(line, "take", *seat, *segment),

@@ -156,7 +156,7 @@ fn push_pieces(alloc: Global, pieces: &mut Vec<Vec<u8>>) -> Result<(), NoMemory>
     Ok(())
 }
 
-/// How many rows stand in pieces.
+/// How many rows pieces have.
 fn count_of(pieces: &[Vec<u8>]) -> usize {
     let mut count: usize = 0;
     for piece in pieces {

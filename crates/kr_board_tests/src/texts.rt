@@ -1,5 +1,5 @@
 // Values against their texts in a table, word by word. Numbers of a cut are joined by dots, `.` is the empty cut. It takes
-// no memory. Each `after_` answers what is left of a text whose front tells a value.
+// no memory. Each `after_` answers what is left of a text whose front is a value.
 
 use kr_base::{Bound, Cut};
 use kr_core::{Lease, Segment};

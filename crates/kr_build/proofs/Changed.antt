@@ -175,16 +175,16 @@ same_range : (f g : ℕ → Value) (a n : ℕ) → ((t : ℕ) → a ≤ t → f 
 same_range f g a zero h = refl
 same_range f g a (suc n) h = ap (λ (x : Value). x ∷ map f (range_with_len (a + 1) n)) (h a (omega arith)) ∙ ap (λ (xs : List Value). g a ∷ xs) (same_range f g (a + 1) n (λ t l. h t (omega (arith, l))))
 
-set_range : (f g : ℕ → Value) (a n j : ℕ) (x : Value) → j < n → ((t : ℕ) → (t ≡ a + j → ⊥) → f t ≡ g t) → f (a + j) ≡ x → map f (range_with_len a n) ≡ slice_set (map g (range_with_len a n)) j x
-set_range f g a zero j x l h e = absurd (omega (arith, l))
-set_range f g a (suc n) zero x l h e =
+set_range : (f g : ℕ → Value) (a n j : ℕ) (x : Value) → ((t : ℕ) → (t ≡ a + j → ⊥) → f t ≡ g t) → f (a + j) ≡ x → map f (range_with_len a n) ≡ slice_set (map g (range_with_len a n)) j x
+set_range f g a zero j x h e = refl
+set_range f g a (suc n) zero x h e =
     let at : a ≡ a + 0 = omega arith in
     ap (λ (y : Value). y ∷ map f (range_with_len (a + 1) n)) (ap f at ∙ e)
     ∙ ap (λ (xs : List Value). x ∷ xs) (same_range f g (a + 1) n (λ t m. h t (λ q. omega (arith, m, q))))
-set_range f g a (suc n) (suc j) x l h e =
+set_range f g a (suc n) (suc j) x h e =
     let at : a + 1 + j ≡ a + suc j = omega arith in
     ap (λ (y : Value). y ∷ map f (range_with_len (a + 1) n)) (h a (λ q. omega (arith, q)))
-    ∙ ap (λ (xs : List Value). g a ∷ xs) (set_range f g (a + 1) n j x (omega (arith, l)) (λ t m. h t (λ q. m (q ∙ sym at))) (ap f at ∙ e))
+    ∙ ap (λ (xs : List Value). g a ∷ xs) (set_range f g (a + 1) n j x (λ t m. h t (λ q. m (q ∙ sym at))) (ap f at ∙ e))
 
 -- a slot of an object that has fields changes that field alone
 pub field_set : (problem : Problem) → IsWellFormed problem → (v u : List ℕ) (s i : ℕ) → u ≡ slice_set v s i → (o : DomainObject) → InDomain problem o → (slot_at problem s).owner ≡ Some o → (c : ℕ) → (domain_at problem o.domain).class ≡ Object c
@@ -198,9 +198,26 @@ field_set problem w v u s i q o d e c class j at l =
     ap (λ (x : HeapObject). x.values) (sym (heap_get problem w u o.domain o.number d.domain d.number)) ∙ heap_values problem w u o.domain o.number (Object c) d.domain d.number class in
     let others = λ (t : ℕ) (m : t ≡ first + j → ⊥).
     subst (λ (x : List ℕ). value_at problem x t ≡ value_at problem v t) (sym q) (value_same problem v s i t (λ y. m (y ∙ sym at))) in
-    let one = set_range (value_at problem u) (value_at problem v) first width j (value_at problem u s) l others (ap (value_at problem u) at) in
+    let one = set_range (value_at problem u) (value_at problem v) first width j (value_at problem u s) others (ap (value_at problem u) at) in
     heap_with problem v s i w o u q d e
     ∙ ap (λ (xs : List Value). with_values (heap_of problem v) (heap_number problem o) xs) (new ∙ (one ∙ ap (λ (xs : List Value). slice_set xs j (value_at problem u s)) (sym old)))
+
+-- a slot of an array after its length changes that element alone, or nothing past its length
+pub element_set : (problem : Problem) → IsWellFormed problem → (v u : List ℕ) (s i : ℕ) → u ≡ slice_set v s i → (o : DomainObject) → InDomain problem o → (slot_at problem s).owner ≡ Some o → (t : ℕ) → (domain_at problem o.domain).class ≡ Array t
+    → (m : ℕ) → numbering.first_slot problem o.domain o.number + 1 + m ≡ s → heap_of problem u ≡ with_value (heap_of problem v) (heap_number problem o) m (value_at problem u s)
+unfolding new
+element_set problem w v u s i q o d e t class m at =
+    let first = numbering.first_slot problem o.domain o.number in
+    let old = heap_values problem w v o.domain o.number (Array t) d.domain d.number class in
+    let others = λ (r : ℕ) (k : r ≡ first + 1 + m → ⊥).
+    subst (λ (x : List ℕ). value_at problem x r ≡ value_at problem v r) (sym q) (value_same problem v s i r (λ y. k (y ∙ sym at))) in
+    let head : value_at problem u first ≡ value_at problem v first = others first (λ y. omega (arith, y)) in
+    let new : (heap_object problem u o).values ≡ map (value_at problem u) (range_with_len (first + 1) (length_in (value_at problem u first))) =
+    ap (λ (x : HeapObject). x.values) (sym (heap_get problem w u o.domain o.number d.domain d.number)) ∙ heap_values problem w u o.domain o.number (Array t) d.domain d.number class in
+    let long = ap (λ (x : Value). map (value_at problem u) (range_with_len (first + 1) (length_in x))) head in
+    let one = set_range (value_at problem u) (value_at problem v) (first + 1) (length_in (value_at problem v first)) m (value_at problem u s) others (ap (value_at problem u) at) in
+    heap_with problem v s i w o u q d e
+    ∙ ap (λ (xs : List Value). with_values (heap_of problem v) (heap_number problem o) xs) (new ∙ (long ∙ (one ∙ ap (λ (xs : List Value). slice_set xs m (value_at problem u s)) (sym old))))
 
 pub vector_long : (problem : Problem) (v : List ℕ) → IsVector (space_of problem) v → length v ≡ length (slots problem)
 unfolding space_of

@@ -1,5 +1,5 @@
 // A heap that is brought from one candidate to another.
-ghost use Rattle.std.specs.Prelude.{◌≡◌, ◌<◌, ◌≤◌, ◌+◌, ◌^◌, ◌++◌, ℕ, OnOk, Some, length, map, slice_set};
+ghost use Rattle.std.specs.Prelude.{◌≡◌, ◌<◌, ◌≤◌, ◌+◌, ◌^◌, ◌++◌, ℕ, OnOk, Some, length, map, slice_index, slice_set};
 ghost use Rattle.std.specs.List.{range_with_len};
 ghost use Rattle.kr_heap.specs.Objects.{with_values};
 ghost use Rattle.kr_iso.specs.Objects.{object_of};
@@ -62,18 +62,22 @@ fn rebuild(
     Ok(())
 }
 
-/// Gives an object of a heap what a candidate has there, where one of its slots has changed: a field alone, if it has fields.
+/// Gives an object of a heap what a candidate has there, where one of its slots has changed: a field or an element alone, and all
+/// where the length of an array changes.
+#[inline(always)]
 fn renew(
     heap: &mut Heap,
     layout: &Layout,
     vector: &Vector,
     object: Object,
     slot: u32,
+    index: u32,
 ) -> Result<(), NoMemory>
     requires well { IsWellFormed (bare layout.now) }
     requires vector { IsVector (space_of (bare layout.now)) vector.now }
     requires small { length (slots (bare layout.now)) < 2 ^ 31 }
     requires slot { slot < length (slots (bare layout.now)) }
+    requires index { index ≡ slice_index vector.now slot }
     requires owner { (slot_at (bare layout.now) slot).owner ≡ Some (object_of object) }
     requires heap { IsBut (bare layout.now) slot vector.now heap.old }
     ensures { OnOk result (heap.new ≡ heap_of (bare layout.now) vector.now) }
@@ -81,8 +85,18 @@ fn renew(
     match layout.class(object.domain) {
         Class::Object(_) => {
             let at = slot - layout.first_slot(object);
-            let value = layout.value(slot, vector.get(Slot(slot)));
+            let value = layout.value(slot, index);
             heap.write(layout.heap_number(object), at as usize, value);
+            Ok(())
+        }
+        Class::Array(_) => {
+            let at = slot - layout.first_slot(object);
+            if at == 0 {
+                rebuild(heap, layout, vector, object)?;
+                return Ok(());
+            }
+            let value = layout.value(slot, index);
+            heap.write(layout.heap_number(object), at as usize - 1, value);
             Ok(())
         }
         _ => {
@@ -114,7 +128,7 @@ fn change(
     match layout.owner(slot) {
         None => Ok(()),
         Some(object) => {
-            renew(heap, layout, vector, object, slot)?;
+            renew(heap, layout, vector, object, slot, index)?;
             Ok(())
         }
     }

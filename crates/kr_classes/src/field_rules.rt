@@ -3,6 +3,7 @@ ghost use Rattle.std.specs.Prelude.{◌≡◌, ◌<◌, ◌≤◌, ◌||◌, ◌
 ghost use Rattle.std.specs.List.{position_from};
 ghost use Rattle.kr_ast.specs.Arena.{Arena};
 ghost use Rattle.kr_classes_table.specs.Table.{ancestors, class_at, field_on, is_instance, is_number, own_fields};
+ghost use Rattle.kr_classes_table.specs.Predefined.{PREDEFINED};
 ghost use Rattle.kr_classes_table.specs.Rules.{C4, C8, break_if, least, past, repeated};
 ghost use Rattle.kr_classes_members.specs.Kept.{AreMembers, class_count};
 ghost use Rattle.kr_classes.specs.Faults.{class_in, fault_at, field_places, inherited_names};
@@ -137,12 +138,12 @@ fn extra_field(members: &Members, class: ClassId, room: usize) -> Option<Place>
     first
 }
 
-/// The place of a class past the 64th.
+/// The place of a class past the 64th after the predefined ones.
 fn extra_class(members: &Members, class: ClassId) -> Option<Place>
     requires { class < class_count members.now }
-    ensures { (files : List Arena) → AreMembers files members.now → fault_at 8 result ≡ least (break_if (nat_lt 63 class) 8 (class_in (table_in files) class).place) }
+    ensures { (files : List Arena) → AreMembers files members.now → fault_at 8 result ≡ least (break_if (nat_lt (63 + PREDEFINED) class) 8 (class_in (table_in files) class).place) }
 {
-    if class > 63 {
+    if class > 76 {
         members.place(class)
     } else {
         None

@@ -21,7 +21,7 @@ pub enum ClassRule {
     ObjectMethod,
     /// C7: an overriding method differs in `static`, or its result doesn't fit.
     OtherResult,
-    /// C8: there are more than 64 classes, or more than 32 instance fields in one.
+    /// C8: there are more than 64 classes beside the predefined ones, or more than 32 instance fields in one.
     TooMany,
 }
 

@@ -4,7 +4,7 @@ use Rattle.std.specs.Prelude.{None}
 use Rattle.std.proofs.lemmas.List.{map-append, take_more}
 use Rattle.kr_ast.specs.Tree.{Tree}
 use Rattle.kr_classes_table.specs.Table.{Heading, headings_from, heading_of, with_nested}
-use Rattle.kr_classes_table.proofs.Predefined.{headings_append}
+use Rattle.kr_classes_table.proofs.Headings.{headings_append}
 
 pub headings_step : {A : Type 0} (v : A → Tree) (all more : List Heading) (k : ℕ) (xs : List A) (i : ℕ) (d : A) → i < length xs → all ≡ headings_from 0 (map v (take i xs)) → k ≡ length all → more ≡ with_nested k (heading_of None (v (get_or xs i d))) → all ++ more ≡ headings_from 0 (map v (take (i + 1) xs))
 headings_step v all more k xs i d l a e m =

@@ -1,6 +1,8 @@
 pub mod Nodes
 pub mod Types
 pub mod Table
+pub mod Predefined
+pub mod Extended
 pub mod Arrays
 pub mod Rules
 pub mod Numbers

@@ -4,6 +4,7 @@ use Rattle.kr_base.specs.declared.place.Place.{Place}
 use Rattle.kr_ast.specs.Tree as trees
 use Rattle.kr_ast.specs.Tree.{Tree}
 use Rattle.kr_classes_table.specs.Types.{JavaType, is_same, is_reference}
+use Rattle.kr_classes_table.specs.Predefined.{PREDEFINED}
 use Rattle.kr_classes_table.specs.Table.{Table, Class, Field, Parameter, Method, ancestors, is_among, own_fields, method_on, fields_of, is_assignable}
 
 -- a rule that is broken, and where
@@ -114,9 +115,9 @@ past n fs = flat_map (λ f. break_if true 8 f.place) (drop n fs)
 abbrev pub own_instance_fields : Class → List Field
 own_instance_fields d = flat_map (λ f. if f.is_static then [] else f ∷ []) d.fields
 
--- C8: more than 64 classes, or more than 32 instance fields in one, inherited ones with them
+-- C8: more than 64 classes beside the predefined ones, or more than 32 instance fields in one, inherited ones with them
 abbrev pub C8 : Table → ℕ → Class → List Fault
-C8 t c d = break_if (nat_lt 63 c) 8 d.place ++ past (32 - (length (fields_of t c) - length (own_instance_fields d))) (own_instance_fields d)
+C8 t c d = break_if (nat_lt (63 + PREDEFINED) c) 8 d.place ++ past (32 - (length (fields_of t c) - length (own_instance_fields d))) (own_instance_fields d)
 
 abbrev pub first_of : List (Option Fault) → Option Fault
 first_of [] = None

@@ -36,17 +36,9 @@ abbrev pub headings_from : ℕ → List Tree → List Heading
 headings_from k [] = []
 headings_from k (t ∷ ts) = let own = with_nested k (heading_of None t) in own ++ headings_from (k + length own) ts
 
--- classes that no file declares, as a file would: none
-abbrev pub predefined : List Tree
-predefined = []
-
--- predefined classes come after those of the files, which keep their numbers
-abbrev pub with_predefined : List Tree → List Tree → List Tree
-with_predefined own [] = own
-with_predefined own (t ∷ ts) = own ++ t ∷ ts
-
+-- the classes of files in source order
 abbrev pub headings_of : List Tree → List Heading
-headings_of files = headings_from 0 (with_predefined (flat_map items files) predefined)
+headings_of files = headings_from 0 (flat_map items files)
 
 -- the number of the class of a name, counted from k
 abbrev pub number_from : ℕ → List Heading → List ℕ → Option ℕ
@@ -199,7 +191,7 @@ abbrev pub classes_from : List Heading → ℕ → List Heading → List Class
 classes_from all c [] = []
 classes_from all c (h ∷ hs) = class_of all c h ∷ classes_from all (c + 1) hs
 
--- the table of the files' classes, in file and source order
+-- the table of the files' classes, in file and source order; those of a program begin with the predefined ones
 unfoldable pub table_of : List Tree → Table
 table_of files = let hs = headings_of files in record { headings = hs; classes = classes_from hs 0 hs }
 

@@ -1,6 +1,7 @@
 // Theorems on the class table and the class rules.
-ghost use Rattle.kr_classes_table.specs.Laws.{LeastLaw, PredefinedLaw};
+ghost use Rattle.kr_classes_table.specs.Laws.{LeastLaw};
 ghost use Rattle.kr_classes_table.specs.Ancestors.{AncestorsLaw, TableLaw};
+ghost use Rattle.kr_classes_table.specs.Extended.{PredefinedRows};
 
 /// The first of several broken rules is one of them, and none is before it.
 #[tactic(auto, using(crate::proofs::Least::is_least))]
@@ -20,8 +21,8 @@ pub fn table_law()
     ensures { TableLaw }
 {}
 
-/// Predefined classes come after those of the files, whose numbers stay.
-#[tactic(auto, using(crate::proofs::Predefined::predefined_law))]
-pub fn predefined_law()
-    ensures { PredefinedLaw }
+/// The predefined classes, worked by hand.
+#[tactic(auto, using(crate::proofs::Extended::predefined_rows))]
+pub fn predefined_rows()
+    ensures { PredefinedRows }
 {}

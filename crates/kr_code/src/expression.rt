@@ -133,7 +133,7 @@ pub enum Expression {
         class: TypeId,
         operand: u32,
     },
-    /// A cast to a primitive type: a value is converted to it. With one type of numbers it stays as it is.
+    /// A cast to `boolean`, by which a value stays as it is.
     Convert {
         to: TypeId,
         operand: u32,

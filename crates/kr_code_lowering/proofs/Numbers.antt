@@ -123,10 +123,6 @@ number_unmarked c o (true ∷ bs) (suc j) h is = omega (arith, number_unmarked (
 number_unmarked c o (false ∷ bs) zero h is = omega arith
 number_unmarked c o (false ∷ bs) (suc j) h is = omega (arith, number_unmarked c (suc o) bs j (omega (arith, h)) is)
 
--- the marked ones at an index and after it
-pub marked_after : (c : ℕ) (bs : List Bool) (j : ℕ) → get_or bs j false ≡ true → c + ahead bs j < c + counted bs
-marked_after c bs j is = omega (arith, ahead_below bs j is)
-
 -- ---- nodes by their numbers
 
 low_origin : (p : Program) (ns : List Node) (k : ℕ) → k < others_from p → origin_of p ns k ≡ get_or (marked (marks p) (origins_from p 0 (file_count p)) ++ ns) k (nothing p)

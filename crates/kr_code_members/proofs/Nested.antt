@@ -15,7 +15,7 @@ use Rattle.kr_laws_shapes.specs.Shapes.{IsMember, MayExtend}
 use Rattle.kr_types_meaning.specs.Handing.{handed}
 use Rattle.kr_ast.specs.Files.{no_file}
 use Rattle.kr_ast.specs.declared.files.NodeId.{NodeId}
-use Rattle.kr_classes_table.proofs.Predefined.{headings_append}
+use Rattle.kr_classes_table.proofs.Headings.{headings_append}
 use Rattle.kr_types.specs.declared.program.Program.{Program}
 use Rattle.kr_types.specs.Programs.{IsProgram}
 use Rattle.kr_code_members.specs.Nodes.{AreShaped, IsHere, IsMemberNode, arena_at, members_scope, node_scope, node_tree, table}

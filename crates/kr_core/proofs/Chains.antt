@@ -10,7 +10,7 @@ use Rattle.kr_core.specs.States.{has_remainder, is_owned, is_closed, segment_of,
 use Rattle.kr_core.specs.Kept.{first_after}
 use Rattle.kr_core.specs.Counts.{EndsSpent}
 
--- of a segment that stands directly above the bound
+-- of a segment that is directly above the bound
 pub record IsLink {R : Type 0} (P : Type 0) (es : List (Entry R)) (next : ℕ) (a : Bound) (s : Segment) : Type 0 where
   pub adjoins : s.after ≡ a
   pub low : less s.mark s.after ≡ false

@@ -1,4 +1,4 @@
--- The cuts for workers stand inside the span.
+-- The cuts for workers are inside the span.
 use Rattle.std.proofs.Common.{◌≡◌, ℕ, zero, suc, ◌+◌, ◌-◌, ◌<◌, ◌≤◌, List, [], ◌∷◌, ◌++◌, true, false, refl, sym, ap, ◌∙◌, arith, inl, inr}
 use Rattle.std.specs.Prelude.{if◌then◌else◌}
 use Rattle.kr_base.specs.declared.span.Bound.{Bound}
@@ -14,7 +14,7 @@ use Rattle.kr_core.proofs.Bools.{and-left, and-right}
 level-before : (j k : ℕ) → j < k → Before (first_level j) (first_level k)
 level-before j k h = inr (refl, inl h)
 
--- behind a bound that the later ones are behind
+-- after a bound that the later ones are after
 from-level : (span : Span) (a : Bound) (k n : ℕ) → ((m : ℕ) → k ≤ m → is_inside span (first_level m) ≡ true → less a (At (first_level m)) ≡ true) → AscendBetween a (cuts_from span k n) span.upto
 from-level span a k zero h = tt
 from-level span a k (suc n) h =

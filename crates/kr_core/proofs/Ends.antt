@@ -126,7 +126,7 @@ closed-all {R} P es next flag last a (s ∷ ss) e asc h c =
     closed-all P es next flag (Some s) s.upto ss e asc h.1.1.1 c.1 ∙ ap (λ (b : Bound). within b e es) (sym at) in
     ap (λ (xs : List (Entry R)). up_to_mark es s ++ xs) rest ∙ (within-append s.after s.mark e es asc l.low up ∙ ap (λ (b : Bound). within b e es) l.adjoins)
 
--- the end stands where it began, or where the last stop put it, as long as nothing is spent
+-- the end is where it began, or where the last stop put it, as long as nothing is spent
 report-end : (spent flag : Bool) (reach e b : Bound) → (flag ≡ false → e ≡ b) → (spent || flag) ≡ false → (if spent then reach else e) ≡ b
 report-end true flag reach e b h q = absurd (cc (q))
 report-end false flag reach e b h q = h q

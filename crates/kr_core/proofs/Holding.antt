@@ -1,4 +1,4 @@
--- The log tells who holds each segment and where it ends, and a lease is that of the segment as it then stands.
+-- The log says who holds each segment and where it ends, and a lease is that of the segment as it then is.
 use Rattle.std.proofs.Common.{◌≡◌, ◌≢◌, ℕ, ◌+◌, ◌<◌, List, [], ◌∷◌, Bool, true, false, ◌&&◌, not, ◌==◌, cond, refl, sym, ap, ◌∙◌, subst, arith, Option, Some, None}
 use Rattle.std.specs.Prelude.{◌-◌, ◌^◌, nat_lt, nat_le, if◌then◌else◌}
 use Rattle.std.specs.Option.{option_map}

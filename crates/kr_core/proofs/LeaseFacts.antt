@@ -1,4 +1,4 @@
--- Leases are of segments whose mark is a cut: nothing remains behind the end.
+-- Leases are of segments whose mark is a cut: nothing remains after the end.
 use Rattle.std.proofs.Common.{◌≡◌, ℕ, List, Bool, true, false, ◌&&◌, not, ◌∷◌, refl, sym, ap, ◌∙◌, subst, Option, Some, None}
 use Rattle.kr_base.specs.declared.span.Bound.{Bound}
 use Rattle.kr_base.specs.declared.span.Bound.TheVariants.{At, End}

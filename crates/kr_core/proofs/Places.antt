@@ -17,7 +17,7 @@ segment_of_none n (s ∷ ss) h =
       | false ↦ λ q. segment_of_none n ss (omega (arith, q))
     ] h
 
--- what stands at the place is what is found
+-- what is at the place is what is found
 pub segment_of_at : (n : ℕ) (ss : List Segment) (d : Segment) → place_of n ss < length ss → segment_of n ss ≡ Some (get_or ss (place_of n ss) d)
 segment_of_at n [] d h = absurd (omega arith)
 segment_of_at n (s ∷ ss) d h =

@@ -37,7 +37,7 @@ spent_step old seat n reach rows tried true segs e is may changed end =
       ] refl may;
     }
 
--- whether the owner stays, by what remains behind the reach
+-- whether the owner stays, by what remains after the reach
 stays : (reach : Bound) (rows tried : ℕ) (s : Segment) (b : Bool) → not (less reach s.upto) ≡ b → keeps_owner (Some (scanned reach rows tried false s)) ≡ is_owned (cond b None s.owner)
 stays reach rows tried s b h = ap (λ (t : Bool). is_owned (cond t None s.owner)) h
 

@@ -51,7 +51,7 @@ through_none : {R : Type 0} (xs : List (Entry R)) → NoneSpent xs → through_s
 through_none [] h = refl
 through_none {R} (x ∷ xs) h = rw h.0 (ap (λ (l : List (Entry R)). x ∷ l) (through_none xs h.1))
 
--- what comes behind the spent one is cut off
+-- what is after the spent one is cut off
 pub through_ends : {R : Type 0} (b : Bound) (xs ys : List (Entry R)) → EndsSpent b xs → through_spent (xs ++ ys) ≡ xs
 through_ends {R} b xs ys h =
     let last : through_spent (h.last ∷ ys) ≡ h.last ∷ [] = ap (λ (t : Bool). h.last ∷ (if t then [] else through_spent ys)) h.last_spent in

@@ -137,7 +137,7 @@ remains-behind : (reach : Bound) (s : Segment) (b : Bool) → not (less reach s.
 remains-behind reach s true h own = absurd (cc (own))
 remains-behind reach s false h own = not-false (less reach s.upto) h
 
--- what a report says of the entries behind the mark
+-- what a report says of the entries after the mark
 abbrev pub IsTried : {R : Type 0} → Type 0 → List (Entry R) → Segment → Bound → ℕ → Type 0
 IsTried P es s reach tried = P → tried ≡ capped (length (within s.mark reach es))
 

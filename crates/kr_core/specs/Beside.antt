@@ -9,7 +9,7 @@ use Rattle.kr_core.specs.declared.event.Event.{Event}
 use Rattle.kr_core.specs.declared.event.Event.TheVariants.{Take, Steal, Report, GiveUp, Drain, StopAt, Look}
 use Rattle.kr_core.specs.States.{State, is_closed}
 
--- more comes to the piece of the segment of that number; where this ends all, the later ones go
+-- more is added to the piece of the segment of that number; where this ends all, the later ones go
 abbrev pub grown : {M : Type 0} → (M → M → M) → ℕ → M → Bool → List Segment → List M → List M
 grown op n more ends [] xs = []
 grown op n more ends (s ∷ ss) [] = []
@@ -53,7 +53,7 @@ abbrev pub gathered : {M : Type 0} → (M → M → M) → M → List M → M
 gathered op none [] = none
 gathered op none (x ∷ xs) = op x (gathered op none xs)
 
--- The pieces of the segments behind the first measure the entries of their own segment, up to its mark.
+-- The pieces of the segments after the first measure the entries of their own segment, up to its mark.
 abbrev pub Others : {R M : Type 0} → (List (Entry R) → M) → List (Entry R) → List Segment → List M → Type 0
 Others val es [] [] = Unit {0}
 Others val es [] (x ∷ xs) = ⊥

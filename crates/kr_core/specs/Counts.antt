@@ -83,7 +83,7 @@ last_stop b (Look seat ∷ events) = last_stop b events
 abbrev pub AllClosed : State → Type 0
 AllClosed s = Each (λ g. is_closed g ≡ true) s.segments
 
--- What was tried in all are the entries up to the end, and these are all of the span, unless the last stop stands below it.
+-- What was tried in all are the entries up to the end, and these are all of the span, unless the last stop is below it.
 pub record IsListed {R : Type 0} (es : List (Entry R)) (span : Span) (events : List Event) (s : State) : Type 0 where
   pub tried : capped (s.past + sum_by (λ g. g.tried) s.segments) ≡ capped (length (entries_in (At span.after) s.end es))
   pub entries : counted es (At span.after) s ≡ entries_in (At span.after) s.end es

@@ -11,7 +11,7 @@ first_level k = 0 ∷ k ∷ []
 abbrev pub is_inside : Span → List ℕ → Bool
 is_inside span cut = less (At span.after) (At cut) && less (At cut) span.upto
 
--- of so many numbers from k on, those whose cut stands strictly inside the span
+-- of so many numbers from k on, those whose cut is strictly inside the span
 abbrev pub cuts_from : Span → ℕ → ℕ → List (List ℕ)
 cuts_from span k zero = []
 cuts_from span k (suc n) = if is_inside span (first_level k) then first_level k ∷ cuts_from span (k + 1) n else cuts_from span (k + 1) n

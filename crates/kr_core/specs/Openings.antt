@@ -7,12 +7,12 @@ use Rattle.kr_base.specs.Bounds.{less}
 use Rattle.kr_core.specs.declared.segment.Segment.{Segment}
 use Rattle.kr_core.specs.States.{State}
 
--- the cuts ascend strictly from a bound on, and stand below another
+-- the cuts ascend strictly from a bound on, and are below another
 abbrev pub AscendBetween : Bound → List (List ℕ) → Bound → Type 0
 AscendBetween a [] b = Unit {0}
 AscendBetween a (cut ∷ cuts) b = (less a (At cut) ≡ true) × (less (At cut) b ≡ true) × AscendBetween (At cut) cuts b
 
--- the cuts ascend strictly and stand strictly inside the span
+-- the cuts ascend strictly and are strictly inside the span
 abbrev pub AreInside : List (List ℕ) → Span → Type 0
 AreInside cuts span = AscendBetween (At span.after) cuts span.upto
 

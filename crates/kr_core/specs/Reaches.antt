@@ -6,7 +6,7 @@ use Rattle.kr_base.specs.Bounds.{less}
 use Rattle.kr_core.specs.declared.segment.Segment.{Segment}
 use Rattle.kr_core.specs.declared.event.Lease.{Lease}
 
--- whether nothing remains behind the reach
+-- whether nothing remains after the reach
 abbrev pub closes : Bound → Option Segment → Bool
 closes reach None = true
 closes reach (Some s) = not (less reach s.upto)

@@ -34,7 +34,7 @@ abbrev pub segment_of : ℕ → List Segment → Option Segment
 segment_of n [] = None
 segment_of n (s ∷ ss) = if s.number == n then Some s else segment_of n ss
 
--- where it stands
+-- where it is
 abbrev pub place_of : ℕ → List Segment → ℕ
 place_of n [] = 0
 place_of n (s ∷ ss) = if s.number == n then 0 else suc (place_of n ss)

@@ -94,7 +94,7 @@ stopped mark (s ∷ ss) = record s { upto = At mark; owner = None } ∷ []
 
 -- Replies
 
--- the lease of a segment as it stands, whose mark is a cut
+-- the lease of a segment as it is, whose mark is a cut
 abbrev pub IsLease : ℕ → Option Segment → Lease → Type 0
 IsLease seat None lease = ⊥
 IsLease seat (Some s) lease = (lease.seat ≡ seat) × (lease.segment ≡ s.number) × (At lease.mark ≡ s.mark) × (lease.upto ≡ s.upto)
@@ -141,7 +141,7 @@ fits old (Look seat) = true
 abbrev pub after : State → Event → State
 -- the segment's owner is the seat
 after old (Take seat n) = record old { segments = change n (λ s ss. owned (Some seat) s ∷ ss) old.segments }
--- the victim ends at the cut, and directly after it stands the rest
+-- the victim ends at the cut, and the rest is directly after it
 after old (Steal seat victim cut n) = record old { segments = change victim (λ s ss. lowered cut s ∷ (stolen seat cut n s ∷ ss)) old.segments; next = old.next + 1 }
 -- the mark moves to the reach and the counts grow; the segment has no owner where that is its end; a spent candidate ends
 -- the listing there
@@ -162,7 +162,7 @@ after old (Look seat) = old
 
 -- what is answered, where the new state is this
 abbrev pub IsReply : State → Event → Reply → State → Type 0
--- the lease of the segment as it then stands
+-- the lease of the segment as it then is
 IsReply old (Take seat n) reply new = IsLeased seat (segment_of n new.segments) reply
 -- the lease of the rest
 IsReply old (Steal seat victim cut n) reply new = IsLeased seat (option_map (stolen seat cut n) (segment_of victim old.segments)) reply

@@ -56,7 +56,8 @@ pub fn may_steal(segments: &[Segment], victim: u64, cut: &Cut) -> bool
     }
 }
 
-fn counts_fit(reach: &Bound, rows: u64, tried: u64, spent: bool) -> bool
+/// Whether these counts can be those of a part that reached this bound, spent or not.
+pub fn counts_fit(reach: &Bound, rows: u64, tried: u64, spent: bool) -> bool
     ensures { result ≡ (if spent then is_cut reach.now && nat_lt rows tried else nat_le rows tried) }
 {
     if spent {

@@ -31,7 +31,7 @@ pub fn growth_law<R>()
     ensures { GrowthLaw R }
 {}
 
-/// A segment's owner and its end are those that the log tells: who took it or stole it last, where it was cut last.
+/// A segment's owner and its end are those that the log says: who took it or stole it last, where it was cut last.
 pub fn owners_law()
     ensures { OwnersLaw }
 {}

@@ -15,9 +15,11 @@ mod segment;
 
 pub use cutting::{cuts_for, first_level};
 pub use event::{Event, Lease, Reply};
+pub use fits::counts_fit;
 pub use laws::{
     counting_law, exclusive_law, growth_law, kept_law, leases_law, owners_law, replay_law,
     rows_law, worked_run,
 };
 pub use machine::{Core, CoreRefusal};
+pub use opens::end_of;
 pub use segment::Segment;

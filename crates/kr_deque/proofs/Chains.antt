@@ -12,7 +12,7 @@ use Rattle.kr_deque_hands.specs.Pieces.{AllAhead}
 use Rattle.kr_deque_hands.proofs.Covers.{two_parts, Stand, below, same, above, stand}
 use Rattle.kr_deque.proofs.Counts.{IsIn}
 
--- a list of spans that adjoin comes to a bound that isn't before its start
+-- a list of spans that adjoin reaches a bound that isn't before its start
 pub comes : (a b : Bound) (ss : List Span) → AllAhead ss → Adjoins a ss b → less b a ≡ false
 comes a b [] h k = ap (λ (x : Bound). less x a) (sym k) ∙ irreflexive a
 comes a b (s ∷ ss) h k =
@@ -50,7 +50,7 @@ lies a b (t ∷ ss) s h k (inr i) =
     let up : less t.upto a ≡ false = asymmetric a t.upto (ap (λ (x : Bound). less x t.upto) (sym k.0) ∙ h.0) in
     (not_above a t.upto (At s.after) up r.0, r.1)
 
--- they come to their start, or one ends where they come to
+-- they reach their start, or one ends where they get to
 pub last_ends : (a : Bound) (c : List ℕ) (ss : List Span) → Adjoins a ss (At c) → (a ≡ At c) ⊎ (0 < how_many (ends_at c) ss)
 last_ends a c [] k = inl k
 last_ends a c (s ∷ ss) k = elim (last_ends s.upto c ss k.1) [

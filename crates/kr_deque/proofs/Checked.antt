@@ -34,7 +34,7 @@ off_second : (a b : Bool) → b ≡ true → (a && not b) ≡ false
 off_second true b h = rw h refl
 off_second false b h = refl
 
--- what begins behind a cut neither begins nor ends there, and doesn't go over it
+-- what begins after a cut neither begins nor ends there, and doesn't go over it
 begins_later : (d : List ℕ) (z : Span) → less (At d) (At z.after) ≡ true → begins_at d z ≡ false
 begins_later d z h = off_second (not (less (At z.after) (At d))) (less (At d) (At z.after)) h
 

@@ -1,4 +1,4 @@
--- Counting spans at a cut and right behind it.
+-- Counting spans at a cut and right after it.
 use Rattle.std.proofs.Common.{◌≡◌, ◌⊎◌, inl, inr, ℕ, ◌+◌, ◌<◌, List, [], ◌∷◌, ◌++◌, Bool, true, false, ◌&&◌, not, refl, sym, ap, ◌∙◌, subst, arith}
 use Rattle.std.specs.Prelude.{IsPermutation}
 use Rattle.std.specs.List.{sum_by}
@@ -17,7 +17,7 @@ use Rattle.kr_deque.specs.Breaks.{begins_at, ends_at, goes_over}
 use Rattle.kr_deque_hands.specs.Pieces.{AllAhead}
 use Rattle.kr_deque_hands.proofs.Covers.{Stand, below, same, above, stand}
 
--- the first cut behind one
+-- the first cut after one
 abbrev pub next : List ℕ → List ℕ
 next c = c ++ 0 ∷ []
 

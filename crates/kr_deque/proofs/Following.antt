@@ -1,4 +1,4 @@
--- The next piece behind those that adjoin.
+-- The next piece after those that adjoin.
 use Rattle.std.proofs.Common.{◌≡◌, ◌⊎◌, inl, inr, ℕ, suc, ◌+◌, ◌<◌, ◌≤◌, List, [], ◌∷◌, ◌++◌, Bool, true, false, length, take, drop, get_or, refl, sym, ap, ◌∙◌, subst, arith}
 use Rattle.std.specs.Prelude.{IsSortedBy}
 use Rattle.std.proofs.lemmas.Cmp.{nat_list_cmp_total}
@@ -74,7 +74,7 @@ module _ {R : Type 0} where
       ∙ (ap (λ (p : Piece R). is_before (get_or ps (i + j) d).span.after p.span.after) (is ∙ get_or_default ps i x d h) ∙ sorted_far earlier (ranks_by nat_list_cmp_total (λ (p : Piece R). p.span.after)) ps up i (i + j) d le in_range))) z
       (subst (λ (l : List (Piece R)). IsIn z (spans_of l)) (sym (drop_more ps i x h ∙ ap (λ (y : Piece R). y ∷ drop (i + 1) ps) (sym is))) m)
 
-  -- the piece behind those that adjoin refuses them all
+  -- the piece after those that adjoin refuses them all
   pub refused : (asked : Span) (ps : List (Piece R)) (i : ℕ) (x : Piece R) (at : Bound) (r : JoinRefusal) → AllAhead (spans_of ps) → IsSortedBy earlier ps → i < length ps → x ≡ get_or ps i x
       → Adjoins (At asked.after) (spans_of (take i ps)) at → less asked.upto at ≡ false → Follows asked at x.span (Err r) → Refuses asked (spans_of ps) r
   refused asked ps i x at r ahead up h is k low f =
@@ -98,7 +98,7 @@ module _ {R : Type 0} where
       subst (λ (l : List (Piece R)). Adjoins a (spans_of l) x.span.upto) (sym (take_more ps i x h ∙ ap (λ (y : Piece R). take i ps ++ y ∷ []) (sym is)))
       (subst (λ (l : List Span). Adjoins a l x.span.upto) (sym (map-append (λ (p : Piece R). p.span) (take i ps) (x ∷ []))) (adjoins_more a at (spans_of (take i ps)) x.span k e))
 
-  -- behind the last one
+  -- after the last one
   pub ended : (asked : Span) (ps : List (Piece R)) (i : ℕ) (at : Bound) (r : JoinRefusal) → AllAhead (spans_of ps) → length ps ≤ i → Adjoins (At asked.after) (spans_of (take i ps)) at
       → Ends asked at (Err r) → Refuses asked (spans_of ps) r
   ended asked ps i at (Gap c) ahead past k f = gap_last asked (spans_of ps) at c ahead (subst (λ (l : List (Piece R)). Adjoins (At asked.after) (spans_of l) at) (take_all i ps past) k) f.0 f.1

@@ -44,7 +44,7 @@ spent_append {R} (e ∷ es) fs h = go (λ n. spent_append es fs n) (is_spent e.m
     go on true n = absurd (cc (n))
     go on false n = on n
 
--- behind a spent entry nothing is listed
+-- after a spent entry nothing is listed
 stops : {R : Type 0} (es fs : List (Entry R)) (key : List ℕ) → spent_in (through_spent es) ≡ Some key → through_spent (es ++ fs) ≡ through_spent es
 stops [] fs key h = absurd (cc (h))
 stops {R} (e ∷ es) fs key h = go (λ n. stops es fs key n) (is_spent e.mark) refl h

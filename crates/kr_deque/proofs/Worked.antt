@@ -69,7 +69,7 @@ module _ {R : Type 0} where
         let h = some_hand olds i (omega (arith, w, n)) in
         f i h.0 k h.1 e
 
-    -- by place, as a call for each hand tells it
+    -- by place, as a call for each hand says it
     pub worked_each : (olds news : List (Hand R)) → length news ≡ length olds → ((i : ℕ) (d : Hand R) → i < length olds → Works all (slice_index_or olds i d) [] (slice_index_or news i d) []) → AllWorked all olds news
     worked_each olds news n f = record {
       count = n;

@@ -14,7 +14,7 @@ begins_at c s = is_same (At s.after) (At c)
 abbrev pub ends_at : List ℕ → Span → Bool
 ends_at c s = is_same s.upto (At c)
 
--- it begins there or before, and ends behind
+-- it begins there or before, and ends after
 abbrev pub goes_over : List ℕ → Span → Bool
 goes_over c s = not (less (At c) (At s.after)) && less (At c) s.upto
 
@@ -32,11 +32,11 @@ is_double asked spans c = nat_lt 0 (how_many (is_wrong asked spans c) spans)
 abbrev pub is_break : Span → List Span → List ℕ → Bool
 is_break asked spans c = is_gap asked spans c || is_double asked spans c
 
--- no break stands before the cut
+-- no break is before the cut
 abbrev pub NoneBefore : Span → List Span → List ℕ → Type 0
 NoneBefore asked spans c = (d : List ℕ) → less (At d) (At c) ≡ true → is_break asked spans d ≡ false
 
--- a gap or a double stands there, and is the first break
+-- a gap or a double is there, the first break
 abbrev pub Refuses : Span → List Span → JoinRefusal → Type 0
 Refuses asked spans (Gap c) = (is_gap asked spans c ≡ true) × NoneBefore asked spans c
 Refuses asked spans (Double c) = (is_double asked spans c ≡ true) × NoneBefore asked spans c

@@ -9,7 +9,7 @@ use Rattle.kr_deque.specs.declared.joining.JoinRefusal.TheVariants.{Gap, Double,
 use Rattle.kr_survey.specs.Spans.{Adjoins}
 use Rattle.kr_deque.specs.Breaks.{Refuses}
 
--- behind a bound, not above the asked end, the next span begins there and ends at the asked end or before; or it leaves a
+-- after a bound, not above the asked end, the next span begins there and ends at the asked end or before; or it leaves a
 -- gap; or it begins before the bound or ends past the asked end
 abbrev pub Follows : Span → Bound → Span → Result (Unit {0}) JoinRefusal → Type 0
 Follows asked at next (Ok none) = (At next.after ≡ at) × (less asked.upto next.upto ≡ false)
@@ -18,7 +18,7 @@ Follows asked at next (Err (Double c)) =
     (c ≡ next.after) × ((less (At c) at ≡ true) ⊎ ((less asked.upto next.upto ≡ true) × ((at ≡ At c) ⊎ (less at asked.upto ≡ false))))
 Follows asked at next (Err (NoMemory why)) = Unit {0}
 
--- behind the last span: the asked end, or a gap
+-- after the last span: the asked end, or a gap
 abbrev pub Ends : Span → Bound → Result (Unit {0}) JoinRefusal → Type 0
 Ends asked at (Ok none) = at ≡ asked.upto
 Ends asked at (Err (Gap c)) = (at ≡ At c) × (less at asked.upto ≡ true)

@@ -213,7 +213,7 @@ module _ {R : Type 0} where
             omega (arith, a, b, g, h, k);
       }
 
-  -- what is told of the hand is as it was
+  -- what is known of the hand is as it was
   pub works_alike : (all : List (Entry R)) (old new : Hand R) (xs : List Span) → new.number ≡ old.number → new.deque ≡ old.deque → new.next ≡ old.next → new.pieces.items ≡ old.pieces.items → new.left.items ≡ old.left.items
       → Works all old xs new xs
   works_alike all old new xs n d m p l =

@@ -7,7 +7,7 @@ use Rattle.kr_base.specs.Entries.{is_within}
 use Rattle.kr_base.proofs.Bounds.{not_above, not_above_less, asymmetric}
 use Rattle.kr_survey.specs.Spans.{one, how_many}
 
--- how two bounds stand to each other
+-- how two bounds compare
 pub data Stand (a b : Bound) : Type 0 where
   below : less a b ≡ true → less b a ≡ false → Stand a b
   same : less a b ≡ false → less b a ≡ false → Stand a b

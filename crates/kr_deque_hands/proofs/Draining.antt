@@ -157,7 +157,7 @@ draining_all first now before after held d m r =
       none = λ s. (d.none s).1;
     }
 
--- what a call that took nothing tells
+-- what a call that took nothing reports
 pub when_none : {A : Type 0} {P : Type 0} (o : Option A) (Q : A → Type 0) → ((x : A) → o ≡ Some x → ⊥) → MatchOption o P Q → P
 when_none None Q n m = m
 when_none (Some x) Q n m = absurd (n x refl)

@@ -143,7 +143,7 @@ module _ {R : Type 0} where
   length_givens [] = refl
   length_givens (h ∷ hs) = ap suc (length_givens hs)
 
-  -- as many hands as lists behind the first
+  -- as many hands as lists after the first
   pub built_count : (first : List Span) (vs : List (Vec Span Global)) (b : Building R) → IsBuilt (first ∷ lists vs) b → length b.hands.items ≡ length vs
   built_count first vs b h =
       let a = ap (λ (l : List (List Span)). length l) h.lists_are in

@@ -32,14 +32,6 @@ ahead_more : (xs ys : List Span) → AllAhead xs → AllAhead ys → AllAhead (x
 ahead_more [] ys h k = k
 ahead_more (x ∷ xs) ys h k = (h.0, ahead_more xs ys h.1 k)
 
-ahead_front : (xs ys : List Span) → AllAhead (xs ++ ys) → AllAhead xs
-ahead_front [] ys h = tt
-ahead_front (x ∷ xs) ys h = (h.0, ahead_front xs ys h.1)
-
-ahead_back : (xs ys : List Span) → AllAhead (xs ++ ys) → AllAhead ys
-ahead_back [] ys h = h
-ahead_back (x ∷ xs) ys h = ahead_back xs ys h.1
-
 -- the takes of these spans, by one party
 abbrev by : Bool → List Span → List Take
 by who xs = map (λ s. record { by_owner = who; span = s }) xs

@@ -30,7 +30,7 @@ EachAhead (v ∷ vs) = AllAhead v.items × EachAhead vs
 abbrev pub givens : {R : Type 0} → List (Hand R) → List (List Span)
 givens hs = map (λ h. (own h).given) hs
 
--- a hand that is made: of its deque and the one behind it
+-- a hand that is made: of its deque and the one after it
 pub record IsMade {R : Type 0} (fronts : List Front) (i : ℕ) (h : Hand R) : Type 0 where
   pub number : h.number ≡ i
   pub fresh : IsFresh h
@@ -38,7 +38,7 @@ pub record IsMade {R : Type 0} (fronts : List Front) (i : ℕ) (h : Hand R) : Ty
   pub owns : (s : Front) → slice_get fronts i ≡ Some s → stealer_deque s ≡ worker_deque h.deque
   pub steals : (s : Front) (p : Theft) → slice_get fronts (i + 1) ≡ Some s → h.next ≡ Some p → IsPassOf (stealer_deque s) p
 
--- Hands that were made, a deque that waits for its way to the one behind it, and the way to the first one.
+-- Hands that were made, a deque that waits for its way to the one after it, and the way to the first one.
 pub record IsBuilt {R : Type 0} (lists : List (List Span)) (b : Building R) : Type 0 where
   pub count : length b.fronts.items ≡ length b.hands.items + 1
   pub each : (i : ℕ) (h : Hand R) → slice_get b.hands.items i ≡ Some h → IsMade b.fronts.items i h

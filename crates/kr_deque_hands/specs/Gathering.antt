@@ -13,7 +13,7 @@ use Rattle.kr_deque_hands.specs.Logs.{IsRest}
 use Rattle.kr_deque_hands.specs.Hands.{Theft, own, stolen, following, given_at, AllSettled, AllSound, AllDone, Works}
 use Rattle.kr_deque_hands.specs.Building.{Owner}
 
--- All that a deque held was added: the rest behind what the owner and the thief took, each span as often. What came is what the
+-- All that a deque held was added: the rest after what the owner and the thief took, each span as often. What came is what the
 -- owner took, what the thief stole, and that. Of a deque that is shut nothing was added.
 pub record Drains (v : View) (stolen before after : List Span) : Type 0 where
   pub rest : List Span
@@ -76,7 +76,7 @@ abbrev pub last_of : {R : Type 0} → Hand R → List (Hand R) → Hand R
 last_of h [] = h
 last_of h (d ∷ ds) = last_of d ds
 
--- The hands behind one are taken in, and its own finds; its deque is open, and the way to the first one is kept.
+-- The hands after one are taken in, and its own finds; its deque is open, and the way to the first one is kept.
 pub record IsOpen {R : Type 0} (hands rest : List (Hand R)) (old new : Gathered R) (deque : Owner) (first : Option Theft) : Type 0 where
   pub open_hand : Hand R
   pub done : List (Hand R)

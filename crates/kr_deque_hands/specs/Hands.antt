@@ -49,7 +49,7 @@ abbrev pub AllDone : {R : Type 0} → List (Hand R) → Type 0
 AllDone [] = Unit {0}
 AllDone (h ∷ hs) = IsDone h × AllDone hs
 
--- of so many hands, the one behind a hand: behind the last comes hand 0
+-- of so many hands, the one after a hand: after the last comes hand 0
 abbrev pub following : ℕ → ℕ → ℕ
 following n k = if k + 1 == n then 0 else k + 1
 

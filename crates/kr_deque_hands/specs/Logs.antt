@@ -39,7 +39,7 @@ marks_among [] = 0
 marks_among (Whole s ∷ ts) = marks_among ts
 marks_among (Mark k ∷ ts) = 1 + marks_among ts
 
--- of so many pushes each mark has a number below, and nothing lies behind the mark of the last push
+-- of so many pushes each mark has a number below, and nothing lies after the mark of the last push
 abbrev pub Numbered : ℕ → List Task → Type 0
 Numbered n [] = Unit {0}
 Numbered n (Whole s ∷ ts) = Numbered n ts

@@ -83,7 +83,7 @@ impl Lesson<Task, View> for Total {
     ghost fact = { λ v items. KnowsRest v.log items };
 }
 
-/// How many tasks a deque holds, which tells nothing of them.
+/// How many tasks a deque holds, which says nothing of them.
 pub struct Looked;
 
 impl Lesson<Task, View> for Looked {

@@ -26,7 +26,7 @@ pub(crate) fn gate_for(waits: u32) -> Meeting {
     }
 }
 
-/// Whether a count comes to a number within so many turns.
+/// Whether a count reaches a number within so many turns.
 pub(crate) fn comes_to(count: &AtomicU64, number: u64) -> bool {
     for _ in 0..TURNS {
         if count.load(Ordering::SeqCst) >= number {

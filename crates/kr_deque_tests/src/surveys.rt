@@ -78,7 +78,7 @@ impl Survey for Watched {
         most: u32,
         runs: &mut Steps<L>,
     ) -> Result<Part<Cut>, NoMemory> {
-        self.list.scan(after, upto, most, runs)
+        self.scan_with(&mut (), after, upto, most, runs)
     }
 
     fn ascends(&self) {

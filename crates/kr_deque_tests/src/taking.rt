@@ -152,7 +152,7 @@ fn pops(rt: HostRuntime) -> Result<(), Fail> {
     Ok(())
 }
 
-// Whether hand 1 alone does all the work, and comes to its end.
+// Whether hand 1 alone does all the work, and reaches its end.
 fn worked<W: Wait + Abort>(rt: &W, alloc: Global, survey: &Watched) -> Result<bool, NoMemory> {
     let (work, mut hands) = two_hands::<Cut>(rt, alloc)?;
     match hands.pop() {

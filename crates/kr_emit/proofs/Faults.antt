@@ -1,21 +1,17 @@
 -- The rules on builders, class by class and domain by domain.
 use Rattle.std.proofs.Common.{◌≡◌, ℕ, ◌+◌, ◌<◌, ◌≤◌, Bool, true, false, List, length, take, drop, get_or, refl, sym, ap, ◌∙◌, add-one, drop-cons, arith}
-use Rattle.std.specs.Prelude.{◌||◌, flat_map, fold, Option, Some, None}
+use Rattle.std.specs.Prelude.{◌||◌, flat_map, Option, Some, None}
 use Rattle.std.proofs.lemmas.List.{drop_all, take_all}
-use Rattle.std.proofs.lemmas.List.Sums.{fold-append}
 use Rattle.std.proofs.lemmas.List.FromFn.{get_or-range_with_len, length-range_with_len}
 use Rattle.kr_base.specs.declared.place.Place.{Place}
 use Rattle.kr_classes.proofs.Each.{one_each}
 use Rattle.kr_classes.specs.Faults.{fault_at}
 use Rattle.kr_classes_table.specs.Rules.{Fault, least, sooner}
 use Rattle.kr_classes_table.specs.Table.{Table}
-use Rattle.kr_emit_meaning.specs.Buildable.{ClassName, Construction, E1, E2, E3, build_fault, construction_at, elements_at, elements_fault, first_of, is_built, is_counted, name_at, rank_of}
+use Rattle.kr_emit_meaning.specs.Buildable.{ClassName, Construction, E1, E2, E3, build_fault, construction_at, elements_at, first_of, is_built, is_counted, name_at, rank_of}
 use Rattle.kr_emit_meaning.specs.declared.refusal.ElementRule.{ElementRule}
 use Rattle.kr_base.specs.declared.refusal.Fault.{Fault as FaultOf}
-use Rattle.kr_fin.specs.Least.{least as least_of, lesser}
-use Rattle.kr_mean.specs.Program.{Program}
-use Rattle.kr_report_rows.proofs.Fronts.{front_grown}
-use Rattle.kr_value.specs.declared.object.Class.{Class}
+use Rattle.kr_fin.specs.Least.{least as least_of}
 use Rattle.kr_mean.specs.Problem.{ClassDomain, Problem, no_objects, upto}
 
 -- ---- class domains
@@ -49,26 +45,6 @@ pub all_classes : (g : ℕ → List Fault) (n i : ℕ) → n ≤ i → least (fl
 all_classes g n i h = ap (λ ks. least (flat_map g ks)) (take_all i (upto n) (omega (arith, h, length-range_with_len 0 n)))
 
 -- ---- array types
-
-abbrev elements_in : Program → ClassDomain → List (FaultOf ElementRule)
-elements_in program d = elements_fault program d.name d.class
-
--- one class domain more
-pub elements_more : (program : Program) (ds : List ClassDomain) (i : ℕ) (kept new : Option (FaultOf ElementRule)) (name : List ℕ) (class : Class) → i < length ds
-    → kept ≡ fold (lesser rank_of) None (flat_map (elements_in program) (take i ds)) → new ≡ fold (lesser rank_of) kept (elements_fault program name class)
-    → name ≡ (get_or ds i no_objects).name → class ≡ (get_or ds i no_objects).class → new ≡ fold (lesser rank_of) None (flat_map (elements_in program) (take (i + 1) ds))
-elements_more program ds i kept new name class h e n a b =
-    let L = lesser rank_of in
-    let before = flat_map (elements_in program) (take i ds) in
-    let here = elements_in program (get_or ds i no_objects) in
-    n
-    ∙ (ap (λ (k : Option (FaultOf ElementRule)). fold L k (elements_fault program name class)) e
-    ∙ (ap (λ (m : List ℕ). fold L (fold L None before) (elements_fault program m class)) a
-    ∙ (ap (λ (c : Class). fold L (fold L None before) (elements_fault program (get_or ds i no_objects).name c)) b
-    ∙ (sym (fold-append L None before here) ∙ ap (fold L None) (sym (front_grown (elements_in program) ds i no_objects h))))))
-
-pub elements_all : (program : Program) (ds : List ClassDomain) (i : ℕ) (kept : Option (FaultOf ElementRule)) → length ds ≤ i → kept ≡ fold (lesser rank_of) None (flat_map (elements_in program) (take i ds)) → kept ≡ least_of rank_of (flat_map (elements_in program) ds)
-elements_all program ds i kept h e = e ∙ ap (λ (xs : List ClassDomain). fold (lesser rank_of) None (flat_map (elements_in program) xs)) (take_all i ds h)
 
 -- ---- the first broken rule
 

@@ -1,5 +1,4 @@
 pub mod Lines
-pub mod LongTypes
 pub mod FieldsAt
 pub mod Named
 pub mod Faults

@@ -41,7 +41,7 @@ fn name_place(trees: &[Tree], heads: &Heads) -> Option<Place>
 fn last_place(heads: &Heads) -> Option<Place>
     ensures { (files : List Arena) → AreHeads files heads.now → fault_at 2 result ≡ least (flat_map number_fault (option_to_list (slice_get (headings_of (map root files)) MOST_CLASSES))) }
 {
-    match heads.headings().get(63) {
+    match heads.headings().get(76) {
         None => None,
         Some(heading) => Some(heading.place),
     }

@@ -21,7 +21,7 @@ use Rattle.kr_laws_never_stuck.proofs.Parameters.{parameter_found}
 use Rattle.kr_laws_never_stuck.proofs.Programs.{well_typed}
 use Rattle.kr_laws_never_stuck.proofs.Typed.{domains_typed}
 use Rattle.kr_laws_never_stuck.proofs.Unbroken.{Unbroken, unbroken}
-use Rattle.kr_laws_never_stuck.specs.Grown.{AreGrown}
+use Rattle.kr_laws_never_stuck.specs.Grown.{AreGrown, AreProgram}
 use Rattle.kr_laws_never_stuck.specs.Keys.{HasKeys}
 use Rattle.kr_laws_never_stuck.specs.NeverStuck.{IsAccepted}
 use Rattle.kr_laws_never_stuck.specs.WellTyped.{AreFiles}
@@ -38,6 +38,8 @@ use Rattle.kr_space_meaning.specs.Bounds.{bounded, problem_in, problem_of, setti
 use Rattle.kr_space_meaning.specs.Meaning.{faults_of, meaning, unless}
 use Rattle.kr_space_meaning.specs.Order.{Fault, least, space_rank}
 use Rattle.kr_types_meaning.proofs.WellTyped.{well_typed_law}
+use Rattle.kr_laws_shapes.specs.Shapes.{AreClasses}
+use Rattle.kr_laws_shapes.proofs.Predefined.{predefined_shape}
 use Rattle.kr_types_meaning.specs.Typing.{IsWellTyped}
 use Rattle.kr_emit_meaning.specs.Buildable.{array_elements}
 use Rattle.kr_emit_laws.proofs.Numbered.{numbered}
@@ -48,6 +50,10 @@ grown_files : (n : ℕ) (sources : List (List ℕ)) (files : List Tree) → AreG
 grown_files n [] [] g = tt
 grown_files n (bytes ∷ sources) (file ∷ files) g = (file_shape g.0.tokens file g.0.derived, grown_files (n + 1) sources files g.1)
 grown_files n _ _ g = absurd g
+
+program_files : (sources : List (List ℕ)) (files : List Tree) → AreProgram sources files → AreFiles files
+program_files sources [] g = absurd g
+program_files sources (tree ∷ files) g = (subst AreClasses (sym g.0) predefined_shape, grown_files 0 sources files g.1)
 
 -- a document whose problem it is breaks no rule
 record IsPosed (files : List Tree) (document : FinDoc) (mode : Mode) (problem : Problem) : Type 0 where
@@ -92,7 +98,7 @@ suited sources bytes mode problem a =
     let files : List Tree = a.files in
     let p = posed files a.document mode problem a.posed in
     let mine : Problem = problem_of files a.document mode in
-    let shapes : AreFiles files = grown_files 0 sources files a.read in
+    let shapes : AreFiles files = program_files sources files a.read in
     let types : IsWellTyped files = (well_typed_law files).0 a.types in
     let limits = read_limits bytes a.document a.stated in
     let keys : HasKeys (table_of files) = record {

@@ -40,3 +40,4 @@ pub mod Locals
 pub mod TypingBodies
 pub mod Kept
 pub mod TypingBeside
+mod PredefinedDerived

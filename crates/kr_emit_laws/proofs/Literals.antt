@@ -17,9 +17,6 @@ use Rattle.kr_emit_laws.proofs.Creations.{HasValue, is_nil}
 use Rattle.kr_emit_laws.proofs.Expressions.{goes_null, goes_truth}
 use Rattle.kr_emit_laws.proofs.Goes.{Goes, Memory, goes_give, goes_more, goes_node, goes_then}
 
-abbrev Initial : Program → Scope → Tree → Type 0
-Initial program s e = (e ≡ trees.Nil) ⊎ ((is_nil e ≡ false) × HasValue program s e)
-
 -- a number, as it is or under a minus
 negative : (program : Program) (s : Scope) (p : Place) (e : Tree) (z : ℤ) → ((m : Memory) → Goes (value program s e) m (Int z) m 1) → HasValue program s (trees.Unary p Minus e)
 negative program s p e z goes = (

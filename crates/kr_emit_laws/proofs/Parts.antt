@@ -95,9 +95,5 @@ test_keeps p c d more others same rest e =
     let below = append_is_nil c.faults more (below_none p (on_one condition_rule c.typed) (c.faults ++ more) e) in
     ap (λ (z : Judged). test p z others) (same below.0) ∙ ap (test p c) (rest below.1)
 
--- faults of parts that are judged alike
-pub faults_alike : (x y : Judged) → Alike x y → x.faults ≡ [] → y.faults ≡ x.faults
-faults_alike x y same e = ap (λ (z : Judged). z.faults) (same e)
-
 pub append_alike : (xs ys xs2 ys2 : List Fault) → (xs ≡ [] → xs2 ≡ xs) → (ys ≡ [] → ys2 ≡ ys) → xs ++ ys ≡ [] → xs2 ++ ys2 ≡ xs ++ ys
 append_alike xs ys xs2 ys2 f h e = let parts = append_is_nil xs ys e in ap (λ z. z ++ ys2) (f parts.0) ∙ ap (λ z. xs ++ z) (h parts.1)

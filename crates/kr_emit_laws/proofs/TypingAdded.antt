@@ -9,7 +9,7 @@ use Rattle.kr_ast.specs.Tree.{Tree}
 use Rattle.kr_classes_table.specs.Constants.{Known, values_of, constants_in}
 use Rattle.kr_classes_table.specs.Rules.{Fault, break_if, is_name_among, object_methods, repeated, class_fault}
 use Rattle.kr_classes_table.specs.Table.{Heading, Table, Class, Method, Constructor, items, heading_of, headings_from, headings_of, number_from, number_of, outer_of, fields_in, methods_in, constructors_in, class_of, classes_from, class_at, super_of, table_of, constructor_parameters}
-use Rattle.kr_classes_table.proofs.Predefined.{headings_append}
+use Rattle.kr_classes_table.proofs.Headings.{headings_append}
 use Rattle.kr_classes_table.proofs.Tables.{long, past}
 use Rattle.kr_types_meaning.specs.Scopes.{Scope, scope_of, in_class}
 use Rattle.kr_types_meaning.specs.Rules.{ask, fine, is_none_of}

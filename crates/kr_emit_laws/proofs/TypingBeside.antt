@@ -91,7 +91,7 @@ pub addable : (files : List Tree) (problem : Problem) (place : List ℕ → Plac
     → IsAddable files builders_name (methods_tree place front 0 builders)
 addable files problem place front builders same e few =
     let hs = problem.program.table.headings in
-    let parts = append_is_nil (flat_map name_fault hs) (flat_map number_fault (option_to_list (slice_get hs 63))) (names_kept problem e) in
+    let parts = append_is_nil (flat_map name_fault hs) (flat_map number_fault (option_to_list (slice_get hs 76))) (names_kept problem e) in
     record {
       methods = are_methods place front 0 builders;
       apart = apart place front 0 builders [] (omega (arith, few)) (λ j l m. refl);
@@ -100,7 +100,7 @@ addable files problem place front builders same e few =
       set = refl;
       list = refl;
       new = subst (λ (xs : List Heading). AllByRecursion (λ h. bytes_eq builders_name h.name ≡ false) xs) same (all_new hs parts.0);
-      few = subst (λ (xs : List Heading). length xs ≤ 63) same (short hs 63 (no_number (slice_get hs 63) parts.1));
+      few = subst (λ (xs : List Heading). length xs ≤ 76) same (short hs 76 (no_number (slice_get hs 76) parts.1));
     }
 
 headings_are : (files : List Tree) → (table_of files).headings ≡ headings_of files

@@ -28,9 +28,6 @@ use Rattle.kr_emit_laws.proofs.Locals.{locals_of, found_local, new_local}
 
 -- ---- names of locals
 
-abbrev most : ℕ
-most = 9223372036854775809
-
 names_apart : (i j : ℕ) → i < 9223372036854775809 → j < 9223372036854775809 → bytes_eq (local_name i) (local_name j) ≡ true → i ≡ j
 names_apart i j l m e = decimal_injective i j (omega (arith, l)) (omega (arith, m)) (append_cancel_left (codes "o") (decimal i) (decimal j) (names_equal (local_name i) (local_name j) e))
 

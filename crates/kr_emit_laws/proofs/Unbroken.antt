@@ -134,7 +134,7 @@ module _ (t u : Table) (w : List ℕ) (free : IsFree w) (g : IsLarger t u w) (d 
       (λ above. ap (λ z. break_if (not ((if m.is_static then above.is_static else not above.is_static) && z)) 7 m.place) (fits_same m above)))
 
   C8_same : (c : ℕ) (x : Class) → C8 u c x ≡ C8 t c x
-  C8_same c x = ap (λ z. break_if (nat_lt 63 c) 8 x.place ++ past (32 - (length z - length (own_instance_fields x))) (own_instance_fields x)) (fields_of_same t u d more plain acyclic closed c)
+  C8_same c x = ap (λ z. break_if (nat_lt 76 c) 8 x.place ++ past (32 - (length z - length (own_instance_fields x))) (own_instance_fields x)) (fields_of_same t u d more plain acyclic closed c)
 
   -- ---- the new class
 
@@ -167,15 +167,15 @@ module _ (t u : Table) (w : List ℕ) (free : IsFree w) (g : IsLarger t u w) (d 
       each_nil (overrides u (length t.classes) 7 (λ m above. (if m.is_static then above.is_static else not above.is_static) && result_fits u m.result above.result)) d.methods
       (λ m. ap (flat_map (λ (above : Method). break_if (not ((if m.is_static then above.is_static else not above.is_static) && result_fits u m.result above.result)) 7 m.place)) (none_inherited m))
 
-  C8_new : length t.classes ≤ 63 → C8 u (length t.classes) d ≡ []
+  C8_new : length t.classes ≤ 76 → C8 u (length t.classes) d ≡ []
   C8_new l =
-      let few : nat_lt 63 (length t.classes) ≡ false = grind (arith, nat_tests) in
+      let few : nat_lt 76 (length t.classes) ≡ false = grind (arith, nat_tests) in
       ap (λ b. break_if b 8 d.place ++ past (32 - (length (fields_of u (length t.classes)) - length (own_instance_fields d))) (own_instance_fields d)) few
       ∙ (ap (λ (fs : List Field). past (32 - (length (fields_of u (length t.classes)) - length (flat_map (λ (f : Field). if f.is_static then [] else f ∷ []) fs))) (flat_map (λ (f : Field). if f.is_static then [] else f ∷ []) fs)) plain.fields
       ∙ past_none (32 - (length (fields_of u (length t.classes)) - length {A = Field} [])))
 
   pub unbroken_more : (hs : List Heading) → t.classes ≡ classes_from hs 0 hs → AllByRecursion (λ h. bytes_eq d.name h.name ≡ false) hs → bytes_eq d.name (codes "HashSet") ≡ false → bytes_eq d.name (codes "LinkedList") ≡ false
-      → length t.classes ≤ 63 → C2 u (length t.classes) d ≡ [] → repeated 5 [] (map (λ (m : Method). (m.name, m.place)) d.methods) ≡ [] → C6 u (length t.classes) d ≡ [] → AreUnbroken t → AreUnbroken u
+      → length t.classes ≤ 76 → C2 u (length t.classes) d ≡ [] → repeated 5 [] (map (λ (m : Method). (m.name, m.place)) d.methods) ≡ [] → C6 u (length t.classes) d ≡ [] → AreUnbroken t → AreUnbroken u
   unbroken_more hs is names set list few extends methods own h =
       let zero_n : 0 + length t.classes ≡ length t.classes = omega arith in
       let at_n : (rule : ℕ → Class → List Fault) → rule (length t.classes) d ≡ [] → rule (0 + length t.classes) d ≡ [] = λ rule e. subst (λ (j : ℕ). rule j d ≡ []) (sym zero_n) e in

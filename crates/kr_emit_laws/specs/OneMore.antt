@@ -11,6 +11,7 @@ use Rattle.kr_classes_table.specs.Rules.{break_if, is_name_among, object_methods
 use Rattle.kr_classes_table.specs.Table.{Heading, class_of, headings_of, number_of, table_of, items}
 use Rattle.kr_types_meaning.specs.Scopes.{in_class}
 use Rattle.kr_types_meaning.specs.Typing.{judged, outside, type_fault}
+use Rattle.kr_emit_meaning.specs.Buildable.{MOST_CLASSES}
 use Rattle.kr_emit_laws.specs.Larger.{IsLarger}
 
 -- the tree of a file that some tokens spell
@@ -36,7 +37,7 @@ pub record IsAddable (files : List Tree) (name : List ℕ) (members : Tree) : Ty
   pub set : bytes_eq name (codes "HashSet") ≡ false
   pub list : bytes_eq name (codes "LinkedList") ≡ false
   pub new : AllByRecursion (λ h. bytes_eq name h.name ≡ false) (headings_of files)
-  pub few : length (headings_of files) ≤ 63
+  pub few : length (headings_of files) ≤ MOST_CLASSES
 
 abbrev pub file_of : Place → List ℕ → Tree → Tree
 file_of place name members = trees.Cons (trees.Class place name trees.Nil members) trees.Nil

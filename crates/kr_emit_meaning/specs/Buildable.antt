@@ -1,6 +1,6 @@
 -- To be believed: the problems whose structures code can build: where `new C()` sets fields to literals and does nothing else, where
 -- the class of the builders has a name and a number left, and where arrays have elements of types that `new` can name.
-use Rattle.std.specs.Prelude.{ℕ, ◌==◌, Bool, true, false, ◌&&◌, ◌||◌, not, List, [], ◌∷◌, ◌++◌, length, flat_map, nat_lt, bytes_eq, slice_get, Option, Some, None, option_to_list, codes, if◌then◌else◌}
+use Rattle.std.specs.Prelude.{ℕ, ◌+◌, ◌==◌, Bool, true, false, ◌&&◌, ◌||◌, not, List, [], ◌∷◌, ◌++◌, length, flat_map, nat_lt, bytes_eq, slice_get, Option, Some, None, option_to_list, codes, if◌then◌else◌}
 use Rattle.std.proofs.Common.{get_or}
 use Rattle.kr_base.specs.declared.place.Place.{Place}
 use Rattle.kr_base.specs.declared.refusal.Fault.{Fault as FaultOf}
@@ -9,6 +9,7 @@ use Rattle.kr_ast.specs.Tree.{Tree}
 use Rattle.kr_ast.specs.declared.node.UnaryOperator.{UnaryOperator}
 use Rattle.kr_ast.specs.declared.node.UnaryOperator.TheVariants.{Minus}
 use Rattle.kr_classes_table.specs.Types.{JavaType, NumberType, BooleanType, VoidType, ClassType, ArrayType}
+use Rattle.kr_classes_table.specs.Predefined.{PREDEFINED}
 use Rattle.kr_classes_table.specs.Table.{Table, Heading, Field, Constructor, class_at, is_below, own_fields}
 use Rattle.kr_classes_table.specs.Rules.{Fault, break_if, least}
 use Rattle.kr_fin.specs.Least as by
@@ -77,9 +78,9 @@ E1 problem = flat_map (class_faults problem) (upto (length problem.program.table
 abbrev pub builders_name : List ℕ
 builders_name = codes "KoratBuild"
 
--- the most classes beside it
+-- the most classes beside it, predefined ones counted
 abbrev pub MOST_CLASSES : ℕ
-MOST_CLASSES = 63
+MOST_CLASSES = 63 + PREDEFINED
 
 abbrev pub name_fault : Heading → List Fault
 name_fault h = break_if (bytes_eq h.name builders_name) 2 h.place

@@ -25,7 +25,7 @@ use Rattle.kr_emit_text.proofs.Read.{read}
 use Rattle.kr_emit_text.proofs.Sized.{lengths}
 use Rattle.kr_emit_text.proofs.Writable.{printable}
 use Rattle.kr_emit_text.proofs.Written.{writable}
-use Rattle.kr_laws_never_stuck.specs.Grown.{AreGrown}
+use Rattle.kr_laws_never_stuck.specs.Grown.{AreGrown, AreProgram}
 use Rattle.kr_laws_never_stuck.specs.Keys.{HasKeys}
 use Rattle.kr_laws_never_stuck.specs.WellTyped.{AreFiles}
 use Rattle.kr_laws_never_stuck.proofs.Apart as places
@@ -47,6 +47,8 @@ use Rattle.kr_space.proofs.ReadLimits.{read_limits}
 use Rattle.kr_space_meaning.specs.Bounds.{problem_of}
 use Rattle.kr_space_meaning.proofs.Each.{each_weaker}
 use Rattle.kr_space_meaning.proofs.WellFormed.{well_formed}
+use Rattle.kr_laws_shapes.specs.Shapes.{AreClasses}
+use Rattle.kr_laws_shapes.proofs.Predefined.{predefined_shape}
 use Rattle.kr_types_meaning.specs.Typing.{IsWellTyped}
 use Rattle.kr_types_meaning.proofs.WellTyped.{well_typed_law}
 use Rattle.kr_laws_never_stuck.specs.NeverStuck.{IsAccepted}
@@ -63,9 +65,13 @@ grown_files n [] [] g = tt
 grown_files n (bytes ∷ sources) (file ∷ files) g = (file_shape g.0.tokens file g.0.derived, grown_files (n + 1) sources files g.1)
 grown_files n _ _ g = absurd g
 
-keys : (sources : List (List ℕ)) (files : List Tree) → AreGrown 0 sources files → class_fault (table_of files) ≡ None → IsWellTyped files → HasKeys (table_of files)
+program_files : (sources : List (List ℕ)) (files : List Tree) → AreProgram sources files → AreFiles files
+program_files sources [] g = absurd g
+program_files sources (tree ∷ files) g = (subst AreClasses (sym g.0) predefined_shape, grown_files 0 sources files g.1)
+
+keys : (sources : List (List ℕ)) (files : List Tree) → AreProgram sources files → class_fault (table_of files) ≡ None → IsWellTyped files → HasKeys (table_of files)
 keys sources files grown faults types =
-    let shapes = grown_files 0 sources files grown in
+    let shapes = program_files sources files grown in
     record { fields = field_keyed files shapes faults types (places.fields_apart sources files grown); parameters = parameter_found files shapes faults types }
 
 sound : (sources : List (List ℕ)) (bytes : List ℕ) (problem : Problem) → IsAccepted sources bytes Listing problem → build_fault problem ≡ None → IsSound problem

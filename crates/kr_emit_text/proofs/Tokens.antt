@@ -1,7 +1,7 @@
 -- Tokens before a rest of a text.
-use Rattle.std.proofs.Common.{◌≡◌, ℕ, ◌+◌, ◌-◌, ◌^◌, ◌<◌, ◌≤◌, ◌⊎◌, inl, inr, Bool, true, false, ◌&&◌, ◌||◌, ◌==◌, nat_lt, List, [], ◌∷◌, ◌++◌, length, slice_index, refl, sym, ap, subst, ◌∙◌, arith, length-append}
+use Rattle.std.proofs.Common.{◌≡◌, ℕ, ◌+◌, ◌-◌, ◌^◌, ◌<◌, ◌≤◌, ◌⊎◌, inl, inr, true, false, ◌&&◌, List, [], ◌∷◌, ◌++◌, length, slice_index, refl, sym, ap, subst, ◌∙◌, arith, length-append}
 use Rattle.std.specs.Prelude.{codes, decimal}
-use Rattle.std.specs.Char.{is_ascii_alphanumeric, is_ascii_digit, is_ascii_lowercase}
+use Rattle.std.specs.Char.{is_ascii_digit, is_ascii_lowercase}
 use Rattle.std.specs.Str.{IsUtf8, encode_utf8_all}
 use Rattle.std.specs.Str.Parse.{AllDigits}
 use Rattle.std.proofs.lemmas.Str.{encode_ascii, char_from_byte}
@@ -27,31 +27,15 @@ use Rattle.kr_lex.proofs.Longest.{comment_slash, fixed_longest}
 use Rattle.kr_lex.proofs.Lookup.{found_at, none_more}
 use Rattle.kr_lex.proofs.Numbers.{number_byte, long_byte, digit_at, digit_from_value}
 use Rattle.kr_lex.proofs.Shapes.{shape, spelled_utf8}
+use Rattle.kr_shard_laws.proofs.PredefinedNames.{is_word, ascii_run}
 use Rattle.kr_emit_meaning.specs.Buildable.{builders_name}
 use Rattle.kr_emit_text.specs.Printable.{IsIdentifier, IsNumbered}
 
 -- ---- characters
 
-abbrev pub is_word : ℕ → Bool
-is_word b = (is_ascii_alphanumeric b || b == 95) || b == 36
-
 -- no name goes on with this byte
 pub ends : (b : ℕ) (rest : List ℕ) → b < 128 → is_word b ≡ false → EndsWord (b ∷ rest)
 ends b rest low h = no_part_ascii (b ∷ rest) (omega arith) low (part_ascii_is b low ∙ h)
-
-abbrev pub all_word : List ℕ → Bool
-all_word [] = true
-all_word (b ∷ bs) = (nat_lt b 128 && is_word b) && all_word bs
-
--- ASCII characters of names are their own bytes
-pub ascii_run : (bs : List ℕ) → all_word bs ≡ true → AllParts bs × (encode_utf8_all bs ≡ bs)
-ascii_run [] h = (tt, refl)
-ascii_run (b ∷ bs) h =
-    let p = and_parts (nat_lt b 128 && is_word b) (all_word bs) h in
-    let q = and_parts (nat_lt b 128) (is_word b) p.0 in
-    let low : b < 128 = grind (arith, nat_tests) in
-    let r = ascii_run bs p.1 in
-    (((low_scalar b (omega (arith, low)), part_ascii_is b low ∙ q.1), r.0), ap (λ t. t ++ encode_utf8_all bs) (encode_ascii b low) ∙ ap (λ t. b ∷ t) r.1)
 
 -- ---- words
 

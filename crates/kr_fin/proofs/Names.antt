@@ -30,10 +30,6 @@ pub front_more : (cs : List ℕ) (c : ℕ) → is_front (cs ++ c ∷ []) ≡ (is
 front_more [] c = and_true (is_start c)
 front_more (d ∷ cs) c = ap (λ (b : Bool). is_start d && b) (all_more cs c) ∙ and_assoc (is_start d) (list_all is_part cs) (is_part c)
 
-pub empty_more : (cs : List ℕ) (c : ℕ) → is_empty (cs ++ c ∷ []) ≡ false
-empty_more [] c = refl
-empty_more (d ∷ cs) c = refl
-
 pub whole : (cs : List ℕ) → (is_front cs && not (is_empty cs)) ≡ is_name cs
 whole [] = refl
 whole (c ∷ cs) = and_true (is_front (c ∷ cs))

@@ -1,5 +1,5 @@
 -- Carried over, an accepted document stays accepted, with the same problem.
-use Rattle.std.proofs.Common.{◌≡◌, ℕ, ◌==◌, Bool, true, false, ◌||◌, List, [], ◌∷◌, ◌++◌, fold, Option, Some, None, is_none, pos, codes, refl, sym, ap, ◌∙◌, subst}
+use Rattle.std.proofs.Common.{◌≡◌, ℕ, ◌==◌, Bool, true, false, not, ◌&&◌, ◌||◌, List, [], ◌∷◌, ◌++◌, fold, Option, Some, None, is_none, pos, codes, refl, sym, ap, ◌∙◌, subst}
 use Rattle.std.specs.Prelude.{flat_map}
 use Rattle.std.specs.List.{AllByRecursion, list_any}
 use Rattle.std.proofs.lemmas.List.Sums.{fold-append}
@@ -7,6 +7,7 @@ use Rattle.kr_ast.specs.Tree.{Tree}
 use Rattle.kr_base.proofs.ListLemmas.{append_is_nil}
 use Rattle.kr_classes_table.specs.Types.{JavaType}
 use Rattle.kr_classes_table.specs.Arrays.{array_types_of, arrays_in, once}
+use Rattle.kr_classes_table.specs.Predefined.{is_predefined}
 use Rattle.kr_classes_table.specs.Table.{Heading, Table, headings_of, number_of, table_of}
 use Rattle.kr_mean.specs.declared.mode.Mode.{Mode}
 use Rattle.kr_mean.specs.Problem.{Problem}
@@ -21,17 +22,18 @@ use Rattle.kr_fin.proofs.Ordered.{none_ascend}
 use Rattle.kr_fin.specs.Shapes.{counts, have, is_domain_name}
 use Rattle.kr_space_meaning.specs.declared.refusal.SpaceRule.TheVariants.{UnknownName}
 use Rattle.kr_space_meaning.specs.Bounds.{Setting, bounded, declared, problem_in, program_in, setting_of, typed_bound}
-use Rattle.kr_space_meaning.specs.Faults.{S1, arrays_unknown, faults_in, names_unknown, objects_unknown, of_objects, owners_unknown, root_unknown, value_unknown, values_unknown}
+use Rattle.kr_space_meaning.specs.Faults.{S1, arrays_unknown, class_unknown, faults_in, is_unknown, names_predefined, names_unknown, objects_unknown, of_objects, owners_unknown, root_unknown, value_unknown, values_unknown}
 use Rattle.kr_space_meaning.specs.Meaning.{faults_of}
-use Rattle.kr_space_meaning.specs.Names.{array_type}
+use Rattle.kr_space_meaning.specs.Names.{array_type, meant}
 use Rattle.kr_space_meaning.specs.Order.{break_if}
 use Rattle.kr_space_meaning.proofs.Each.{each_flat, each_of_both, none_each, unbroken}
 use Rattle.kr_fin_upgrade.specs.Documents.{IsBound, IsCount, IsDocument, IsItem}
 use Rattle.kr_fin_upgrade.specs.Laws.{AreDomainNames, Poses, UpgradeLaw}
 use Rattle.kr_fin_upgrade.specs.Upgraded.{add_line, all_lines, domain_lines, has_line, line, lines_of, name_lines, up}
 use Rattle.kr_fin_upgrade.proofs.Added.{ascends_folded, declared_folded, each_folded, folded_there, lines_stay}
-use Rattle.kr_fin_upgrade.proofs.Kept.{kept, root_is_known}
+use Rattle.kr_fin_upgrade.proofs.Kept.{kept, neither, root_is_known}
 use Rattle.kr_fin_upgrade.proofs.Meant.{class_is_named}
+use Rattle.kr_fin_upgrade.proofs.OwnRoot.{root_is_own, some_class}
 use Rattle.kr_fin_upgrade.proofs.Stands.{Lined, OfName, OfNames, class_is_known, first_class, halves, names_so, of_domains, of_name, same_name, to_domains, to_name}
 use Rattle.kr_fin_upgrade.proofs.Values.{AreSame, SameItem, SameItems, each_is, each_so, problem_same, second}
 use Rattle.kr_fin_upgrade.proofs.Values as values
@@ -47,11 +49,7 @@ none_any p (x ∷ xs) e = go (p x) refl e (none_any p xs)
 -- a line of a class, with a number of objects within the limit
 record IsGood (hs : List Heading) (c : Count) : Type 0 where
   few : have counts (pos c.count) ≡ true
-  known : is_none (number_of hs c.name) ≡ false
-
-some_class : (o : Option ℕ) → is_none o ≡ false → (k : ℕ) × (o ≡ Some k)
-some_class (Some k) e = (k, refl)
-some_class None e = absurd (cc (e))
+  known : class_unknown hs c.name ≡ false
 
 module _ (hs : List Heading) (d : FinDoc) (named : AreDomainNames hs) (is : IsDocument d) (first : (d.version == 2) ≡ false) where
   abbrev lines : List Count
@@ -61,8 +59,8 @@ module _ (hs : List Heading) (d : FinDoc) (named : AreDomainNames hs) (is : IsDo
   abbrev others : List Count
   others = name_lines d.root ++ (domain_lines d.fields ++ domain_lines d.params)
 
-  own : AllByRecursion (λ c. c.class ≡ c.name) d.objects
-  own = each_so (IsCount false) (λ c. c.class ≡ c.name) d.objects (λ c h. h.named) (subst (λ (b : Bool). AllByRecursion (IsCount b) d.objects) first is.objects)
+  own_classes : AllByRecursion (λ c. c.class ≡ c.name) d.objects
+  own_classes = each_so (IsCount false) (λ c. c.class ≡ c.name) d.objects (λ c h. h.named) (subst (λ (b : Bool). AllByRecursion (IsCount b) d.objects) first is.objects)
 
   classes : AllByRecursion (λ c. c.class ≡ c.name) lines
   classes = each_folded (λ c. c.class ≡ c.name) [] (lines_of d) tt (each_is (λ c. c.name ≡ c.name) (lines_of d) (λ c. refl))
@@ -84,7 +82,7 @@ module _ (hs : List Heading) (d : FinDoc) (named : AreDomainNames hs) (is : IsDo
 
   pub same_objects : declared hs lines ≡ declared hs d.objects
   same_objects =
-      ap (declared hs) (fold-append add_line [] d.objects others ∙ ap (λ (cs : List Count). fold add_line cs others) (lines_stay d.objects is.order.objects own))
+      ap (declared hs) (fold-append add_line [] d.objects others ∙ ap (λ (cs : List Count). fold add_line cs others) (lines_stay d.objects is.order.objects own_classes))
       ∙ declared_folded hs d.objects others no_objects
 
   -- ---- names
@@ -160,11 +158,15 @@ module _ (table : Table) (d : FinDoc) (named : AreDomainNames table.headings) (i
 
   -- ---- each line is a class's
 
+  -- a name that version 1 doesn't refuse as a predefined class's
+  own_name : (n : List ℕ) → names_predefined d n ≡ false → is_predefined n ≡ false
+  own_name n e = ap (λ (b : Bool). not b && is_predefined n) (sym first) ∙ e
+
   known_items : (items : List Item) → list_any (names_unknown table.headings d) items ≡ false → AllByRecursion (OfName (Lined (IsGood table.headings))) items
   known_items items e = each_so (λ i. names_unknown table.headings d i ≡ false) (OfName (Lined (IsGood table.headings))) items one (none_any (names_unknown table.headings d) items e)
     where
       one : (i : Item) → names_unknown table.headings d i ≡ false → OfName (Lined (IsGood table.headings)) i
-      one (Name n) e = λ is. record { few = refl; known = class_is_known table.headings d n first is e }
+      one (Name n) e = λ is. record { few = refl; known = ap (λ (b : Bool). b || is_predefined n) (class_is_known table.headings d n first is (neither (is_unknown (meant table.headings d n)) (names_predefined d n) e).0) ∙ own_name n (neither (is_unknown (meant table.headings d n)) (names_predefined d n) e).1 }
       one (Number z) e = tt
       one (Range from to) e = tt
       one (Truth b) e = tt
@@ -177,11 +179,11 @@ module _ (table : Table) (d : FinDoc) (named : AreDomainNames table.headings) (i
   good_objects : (cs : List Count) → AllByRecursion (IsCount false) cs → objects_unknown table.headings cs ≡ [] → AllByRecursion (IsGood table.headings) cs
   good_objects [] h e = tt
   good_objects (c ∷ cs) h e =
-      let parts = append_is_nil (break_if (is_none (number_of table.headings c.class)) UnknownName (of_objects c.name)) (objects_unknown table.headings cs) e in
-      let known = unbroken (is_none (number_of table.headings c.class)) UnknownName (of_objects c.name) parts.0 in
-      (record { few = h.0.few; known = ap (λ (n : List ℕ). is_none (number_of table.headings n)) (sym h.0.named) ∙ known }, good_objects cs h.1 parts.1)
+      let parts = append_is_nil (break_if (class_unknown table.headings c.class) UnknownName (of_objects c.name)) (objects_unknown table.headings cs) e in
+      let known = unbroken (class_unknown table.headings c.class) UnknownName (of_objects c.name) parts.0 in
+      (record { few = h.0.few; known = ap (class_unknown table.headings) (sym h.0.named) ∙ known }, good_objects cs h.1 parts.1)
 
-  module _ (objects : List (ℕ × Count)) (types : List JavaType) (kept_names : S1 (values.old table types objects (bounded table.headings d.arrays) new_lines d) ≡ []) where
+  module _ (objects : List (ℕ × Count)) (types : List JavaType) (kept_names : S1 (values.old table types objects (bounded table.headings d.arrays) new_lines d) ≡ []) (own_root : is_predefined d.root ≡ false) where
     good_lines : AllByRecursion (IsGood table.headings) (lines_of d)
     good_lines =
         let P : Count → Type 0 = IsGood table.headings in
@@ -191,7 +193,7 @@ module _ (table : Table) (d : FinDoc) (named : AreDomainNames table.headings) (i
         let e4 = append_is_nil (owners_unknown table.headings d.fields) _ e3.1 in
         let e5 = append_is_nil (values_unknown table.headings d (codes "fields.") d.fields) _ e4.1 in
         let known = root_is_known table types objects (bounded table.headings d.arrays) new_lines d are_same first (unbroken (root_unknown table.headings d) UnknownName (codes "root") e1.0) in
-        let root = ap is_none (sym (first_class table.headings d d.root first)) ∙ known in
+        let root = ap (λ (o : Option ℕ). is_none o || is_predefined d.root) (sym (first_class table.headings d d.root first)) ∙ (ap (λ (b : Bool). b || is_predefined d.root) known ∙ own_root) in
         each_of_both P d.objects _ (good_objects d.objects (subst (λ (b : Bool). AllByRecursion (IsCount b) d.objects) first is.objects) e2.0)
         (each_of_both P (name_lines d.root) _ (of_name P d.root (λ _. record { few = refl; known = root }))
         (each_of_both P (domain_lines d.fields) (domain_lines d.params) (of_domains P d.fields (known_domains (codes "fields.") d.fields e5.0)) (of_domains P d.params (known_domains (codes "params.") d.params e5.1))))
@@ -199,14 +201,14 @@ module _ (table : Table) (d : FinDoc) (named : AreDomainNames table.headings) (i
     all_good : AllByRecursion (IsGood table.headings) new_lines
     all_good = each_folded (IsGood table.headings) [] (lines_of d) tt (each_so (IsGood table.headings) (λ c. IsGood table.headings (line c.name c.count)) (lines_of d) (λ c g. record { few = g.few; known = g.known }) good_lines)
 
-    pub classes_known : AllByRecursion (λ c. is_none (number_of table.headings c.class) ≡ false) new_lines
-    classes_known = each_folded (λ c. is_none (number_of table.headings c.class) ≡ false) [] (lines_of d) tt (each_so (IsGood table.headings) (λ c. is_none (number_of table.headings c.name) ≡ false) (lines_of d) (λ c g. g.known) good_lines)
+    pub classes_known : AllByRecursion (λ c. class_unknown table.headings c.class ≡ false) new_lines
+    classes_known = each_folded (λ c. class_unknown table.headings c.class ≡ false) [] (lines_of d) tt (each_so (IsGood table.headings) (λ c. class_unknown table.headings c.name ≡ false) (lines_of d) (λ c g. g.known) good_lines)
 
     -- ---- the document
 
     count_good : (c : Count) → IsGood table.headings c → IsCount true c
     count_good c g =
-        let (k, is) = some_class (number_of table.headings c.name) g.known in
+        let (k, is) = some_class (number_of table.headings c.name) (neither (is_none (number_of table.headings c.name)) (is_predefined c.name) g.known).0 in
         record { few = g.few; named = class_is_named table.headings c.name k named is }
 
     pub document_kept : IsDocument (second new_lines d)
@@ -265,13 +267,21 @@ module _ (files : List Tree) (d : FinDoc) (mode : Mode) (named : AreDomainNames 
   problems_same : problem new ≡ problem old
   problems_same = problem_same table types objects arrays lines_after d same (program_in old) mode
 
+  root_own : S1 old ≡ [] → faults_of files d mode ≡ [] → is_predefined d.root ≡ false
+  root_own names e =
+      let root = append_is_nil (break_if (root_unknown table.headings d) UnknownName (codes "root")) _ names in
+      let objects_are = append_is_nil (objects_unknown table.headings d.objects) _ root.1 in
+      let there = root_is_known table types objects arrays lines_after d same first (unbroken (root_unknown table.headings d) UnknownName (codes "root") root.0) in
+      root_is_own files d mode (own_classes table.headings d named is first) objects_are.0 there e
+
   pub law : faults_of files d mode ≡ [] → Poses files mode (second lines_after d) d
   law e =
       let none : faults_in (problem old) old mode ≡ [] = ap (λ (s : Setting). faults_in (problem s) s mode) (sym setting_old) ∙ e in
       let names = names_old (problem old) mode old none in
-      let known = classes_known table d named is first objects types names in
+      let own = root_own names e in
+      let known = classes_known table d named is first objects types names own in
       record {
-        document_is = document_kept table d named is first objects types names;
+        document_is = document_kept table d named is first objects types names own;
         unbroken =
             ap (λ (s : Setting). faults_in (problem s) s mode) setting_new
             ∙ (ap (λ (p : Problem). faults_in p new mode) problems_same

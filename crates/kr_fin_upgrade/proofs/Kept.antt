@@ -4,7 +4,7 @@ use Rattle.std.specs.Prelude.{flat_map, nat_lt, if◌then◌else◌}
 use Rattle.std.specs.List.{AllByRecursion, list_any}
 use Rattle.kr_base.proofs.ListLemmas.{append_is_nil}
 use Rattle.kr_classes_table.specs.Types.{JavaType}
-use Rattle.kr_classes_table.specs.Table.{Parameter, Table, number_of}
+use Rattle.kr_classes_table.specs.Table.{Parameter, Table}
 use Rattle.kr_mean.specs.declared.mode.Mode.{Mode}
 use Rattle.kr_mean.specs.declared.mode.Mode.TheVariants.{List as Listing, Method as Testing}
 use Rattle.kr_mean.specs.Problem.{Domain, Problem, choices_in, domain_at, slots}
@@ -19,13 +19,17 @@ use Rattle.kr_space_meaning.specs.Names.{Meant, array_type, class_of}
 use Rattle.kr_space_meaning.specs.Order.{Fault, break_if}
 use Rattle.kr_space_meaning.specs.Bounds.{Setting, elements_key, greatest, lengths_of, root_of, tested_parameters, values_of}
 use Rattle.kr_space_meaning.specs.Keys.{field_type, method_at, parameter_type}
-use Rattle.kr_space_meaning.specs.Faults.{S1, S2, S3_S5_S6, S4, S7, S8, S9, array_S2, arrays_unknown, faults_in, fields_unfit, fits, is_instance, is_predicate, is_unfit, is_unknown, meant_fits, names_unknown, no_domain, no_fields, no_params, number_faults, numbers_of, numbers_of_lengths, object_S2, objects_unknown, of_arrays, of_fields, of_objects, of_params, owners_unknown, parameter_S2, params_unfit, root_unknown, value_unknown, values_unknown}
+use Rattle.kr_space_meaning.specs.Faults.{S1, S2, S3_S5_S6, S4, S7, S8, S9, array_S2, arrays_unknown, faults_in, fields_unfit, fits, is_instance, is_predicate, is_unfit, class_unknown, is_unknown, meant_fits, names_predefined, names_unknown, no_domain, no_fields, no_params, number_faults, numbers_of, numbers_of_lengths, object_S2, objects_unknown, of_arrays, of_fields, of_objects, of_params, owners_unknown, parameter_S2, params_unfit, root_unknown, value_unknown, values_unknown}
 use Rattle.kr_fin_upgrade.proofs.Values.{AreSame, SameItem, SameItems, each_so, flat_same, second}
 use Rattle.kr_fin_upgrade.proofs.Values as values
 
 any_same : {A : Type 0} (p q : A → Bool) (xs : List A) → AllByRecursion (λ x. p x ≡ q x) xs → list_any p xs ≡ list_any q xs
 any_same p q [] h = refl
 any_same p q (x ∷ xs) h = ap (λ (b : Bool). b || list_any p xs) h.0 ∙ ap (λ (b : Bool). q x || b) (any_same p q xs h.1)
+
+pub neither : (a b : Bool) → (a || b) ≡ false → (a ≡ false) × (b ≡ false)
+neither false b e = (refl, e)
+neither true b e = absurd (cc (e))
 
 module _ (table : Table) (types : List JavaType) (objects : List (ℕ × Count)) (arrays : List (JavaType × ArrayBound)) (cs : List Count) (d : FinDoc) (same : AreSame table cs d arrays) where
   abbrev old : Setting
@@ -42,23 +46,31 @@ module _ (table : Table) (types : List JavaType) (objects : List (ℕ × Count))
 
   -- ---- names
 
-  unknown_same : (i : Item) → SameItem table cs d i → names_unknown table.headings (second cs d) i ≡ names_unknown table.headings d i
-  unknown_same (Name n) h = meant_by is_unknown n h
-  unknown_same (Number z) h = refl
-  unknown_same (Range from to) h = refl
-  unknown_same (Truth b) h = refl
+  known_kept : (i : Item) → SameItem table cs d i → names_unknown table.headings d i ≡ false → names_unknown table.headings (second cs d) i ≡ false
+  known_kept (Name n) h e =
+      ap (λ (b : Bool). b || false) (meant_by is_unknown n h ∙ (neither (is_unknown (Rattle.kr_space_meaning.specs.Names.meant table.headings d n)) (names_predefined d n) e).0)
+  known_kept (Number z) h e = refl
+  known_kept (Range from to) h e = refl
+  known_kept (Truth b) h e = refl
 
-  unknown_domain : (name : List ℕ) (x : NamedDomain) → SameItems table cs d x.domain → value_unknown table.headings (second cs d) name x ≡ value_unknown table.headings d name x
-  unknown_domain name x h =
+  known_items : (is : List Item) → SameItems table cs d is → list_any (names_unknown table.headings d) is ≡ false → list_any (names_unknown table.headings (second cs d)) is ≡ false
+  known_items [] h e = refl
+  known_items (i ∷ is) h e =
+      let parts = neither (names_unknown table.headings d i) (list_any (names_unknown table.headings d) is) e in
+      ap (λ (b : Bool). b || list_any (names_unknown table.headings (second cs d)) is) (known_kept i h.0 parts.0) ∙ known_items is h.1 parts.1
+
+  known_domain : (name : List ℕ) (x : NamedDomain) → SameItems table cs d x.domain → value_unknown table.headings d name x ≡ [] → value_unknown table.headings (second cs d) name x ≡ []
+  known_domain name x h e =
       ap (λ (b : Bool). break_if b UnknownName (name ++ x.key))
-      (any_same (names_unknown table.headings (second cs d)) (names_unknown table.headings d) x.domain (each_so (SameItem table cs d) (λ i. names_unknown table.headings (second cs d) i ≡ names_unknown table.headings d i) x.domain unknown_same h))
+      (known_items x.domain h (Rattle.kr_space_meaning.proofs.Each.unbroken (list_any (names_unknown table.headings d) x.domain) UnknownName (name ++ x.key) e))
 
-  unknown_domains : (name : List ℕ) (ds : List NamedDomain) → AllByRecursion (λ x. SameItems table cs d x.domain) ds → values_unknown table.headings (second cs d) name ds ≡ values_unknown table.headings d name ds
-  unknown_domains name ds h =
-      flat_same (value_unknown table.headings (second cs d) name) (value_unknown table.headings d name) ds
-      (each_so (λ x. SameItems table cs d x.domain) (λ x. value_unknown table.headings (second cs d) name x ≡ value_unknown table.headings d name x) ds (unknown_domain name) h)
+  known_domains : (name : List ℕ) (ds : List NamedDomain) → AllByRecursion (λ x. SameItems table cs d x.domain) ds → values_unknown table.headings d name ds ≡ [] → values_unknown table.headings (second cs d) name ds ≡ []
+  known_domains name [] h e = refl
+  known_domains name (x ∷ ds) h e =
+      let parts = append_is_nil (value_unknown table.headings d name x) (values_unknown table.headings d name ds) e in
+      ap (λ (fs : List Fault). fs ++ values_unknown table.headings (second cs d) name ds) (known_domain name x h.0 parts.0) ∙ known_domains name ds h.1 parts.1
 
-  objects_known : (ls : List Count) → AllByRecursion (λ c. is_none (number_of table.headings c.class) ≡ false) ls → objects_unknown table.headings ls ≡ []
+  objects_known : (ls : List Count) → AllByRecursion (λ c. class_unknown table.headings c.class ≡ false) ls → objects_unknown table.headings ls ≡ []
   objects_known [] h = refl
   objects_known (c ∷ ls) h = ap (λ (b : Bool). break_if b UnknownName (of_objects c.name) ++ objects_unknown table.headings ls) h.0 ∙ objects_known ls h.1
 
@@ -70,10 +82,15 @@ module _ (table : Table) (types : List JavaType) (objects : List (ℕ × Count))
       ++ (values_unknown table.headings document (codes "fields.") d.fields
       ++ values_unknown table.headings document (codes "params.") d.params))
 
-  other_same : other_names (second cs d) ≡ other_names d
-  other_same =
-      ap (λ (fs : List Fault). arrays_unknown table.headings d.arrays ++ (owners_unknown table.headings d.fields ++ (fs ++ values_unknown table.headings (second cs d) (codes "params.") d.params))) (unknown_domains (codes "fields.") d.fields same.fields)
-      ∙ ap (λ (fs : List Fault). arrays_unknown table.headings d.arrays ++ (owners_unknown table.headings d.fields ++ (values_unknown table.headings d (codes "fields.") d.fields ++ fs))) (unknown_domains (codes "params.") d.params same.params)
+  other_kept : other_names d ≡ [] → other_names (second cs d) ≡ []
+  other_kept e =
+      let after_arrays = append_is_nil (arrays_unknown table.headings d.arrays) _ e in
+      let after_owners = append_is_nil (owners_unknown table.headings d.fields) _ after_arrays.1 in
+      let values = append_is_nil (values_unknown table.headings d (codes "fields.") d.fields) (values_unknown table.headings d (codes "params.") d.params) after_owners.1 in
+      ap (λ (fs : List Fault). fs ++ (owners_unknown table.headings d.fields ++ (values_unknown table.headings (second cs d) (codes "fields.") d.fields ++ values_unknown table.headings (second cs d) (codes "params.") d.params))) after_arrays.0
+      ∙ (ap (λ (fs : List Fault). fs ++ (values_unknown table.headings (second cs d) (codes "fields.") d.fields ++ values_unknown table.headings (second cs d) (codes "params.") d.params)) after_owners.0
+      ∙ (ap (λ (fs : List Fault). fs ++ values_unknown table.headings (second cs d) (codes "params.") d.params) (known_domains (codes "fields.") d.fields same.fields values.0)
+      ∙ known_domains (codes "params.") d.params same.params values.1))
 
   -- the root is known to version 1
   pub root_is_known : (d.version == 2) ≡ false → root_unknown table.headings d ≡ false → is_none (class_of table.headings d d.root) ≡ false
@@ -88,13 +105,13 @@ module _ (table : Table) (types : List JavaType) (objects : List (ℕ × Count))
       ap (λ (o : Option ℕ). is_none o && (false || is_none (array_type table.headings d.root))) same.root
       ∙ ap (λ (b : Bool). b && (false || is_none (array_type table.headings d.root))) h
 
-  names_kept : (d.version == 2) ≡ false → AllByRecursion (λ c. is_none (number_of table.headings c.class) ≡ false) cs → S1 old ≡ [] → S1 new ≡ []
+  names_kept : (d.version == 2) ≡ false → AllByRecursion (λ c. class_unknown table.headings c.class ≡ false) cs → S1 old ≡ [] → S1 new ≡ []
   names_kept first known e =
       let parts = append_is_nil (break_if (root_unknown table.headings d) UnknownName (codes "root")) (objects_unknown table.headings d.objects ++ other_names d) e in
       let others = (append_is_nil (objects_unknown table.headings d.objects) (other_names d) parts.1).1 in
       let root = root_known (root_is_known first (Rattle.kr_space_meaning.proofs.Each.unbroken (root_unknown table.headings d) UnknownName (codes "root") parts.0)) in
       ap (λ (b : Bool). break_if b UnknownName (codes "root") ++ (objects_unknown table.headings cs ++ other_names (second cs d))) root
-      ∙ (ap (λ (fs : List Fault). fs ++ other_names (second cs d)) (objects_known cs known) ∙ (other_same ∙ others))
+      ∙ (ap (λ (fs : List Fault). fs ++ other_names (second cs d)) (objects_known cs known) ∙ other_kept others)
 
   -- ---- domains
 
@@ -185,7 +202,7 @@ module _ (table : Table) (types : List JavaType) (objects : List (ℕ × Count))
   others_kept : (problem : Problem) (mode : Mode) → others problem new mode ≡ others problem old mode
   others_kept problem mode = in_turn (domains_kept mode) (in_turn (counts_kept problem) (in_turn types_kept (in_turn predicate_kept (in_turn (method_kept mode) slots_kept))))
 
-  pub kept : (problem : Problem) (mode : Mode) → (d.version == 2) ≡ false → AllByRecursion (λ c. is_none (number_of table.headings c.class) ≡ false) cs → faults_in problem old mode ≡ [] → faults_in problem new mode ≡ []
+  pub kept : (problem : Problem) (mode : Mode) → (d.version == 2) ≡ false → AllByRecursion (λ c. class_unknown table.headings c.class ≡ false) cs → faults_in problem old mode ≡ [] → faults_in problem new mode ≡ []
   unfolding faults_in
   kept problem mode first known e =
       let parts = append_is_nil (S1 old) (others problem old mode) e in

@@ -13,4 +13,5 @@ pub mod Added
 pub mod Values
 pub mod Kept
 pub mod Stands
+pub mod OwnRoot
 pub mod Carries

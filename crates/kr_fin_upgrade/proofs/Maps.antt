@@ -1,7 +1,5 @@
 -- Names in a map, and the object domains that they stand for.
-use Rattle.std.proofs.Common.{◌≡◌, ℕ, ◌+◌, ◌<◌, Bool, true, false, ◌||◌, cond, List, [], ◌∷◌, ◌++◌, length, get_or, drop, fold, Some, is_some, String, Global, Ordering, Less, Equal, Greater, nat_cmp, is_eq, string_bytes, refl, sym, ap, ◌∙◌}
-use Rattle.std.specs.Prelude.{flat_map}
-use Rattle.std.proofs.lemmas.List.{drop_more}
+use Rattle.std.proofs.Common.{◌≡◌, ℕ, ◌+◌, Bool, true, false, ◌||◌, cond, List, [], ◌∷◌, ◌++◌, fold, Some, is_some, String, Global, Ordering, Less, Equal, Greater, nat_cmp, is_eq, string_bytes, refl, sym, ap, ◌∙◌}
 use Rattle.std.proofs.lemmas.List.Sums.{fold-append}
 use Rattle.std.specs.Cmp.Lexicographic.{slice_cmp}
 use Rattle.std.specs.Map.{lookup}
@@ -40,14 +38,6 @@ added_old cs name n b e t = ap (λ (x : Bool). cond x cs (put_line cs name n)) (
 
 pub added_new : (cs new : List Count) (name : List ℕ) (n : ℕ) (b : Bool) → b ≡ has_line cs name → b ≡ false → new ≡ put_line cs name n → new ≡ add_line cs (line name n)
 added_new cs new name n b e f k = k ∙ ap (λ (x : Bool). cond x cs (put_line cs name n)) (sym f ∙ e)
-
--- one item more of a list whose items have lines
-pub lines_next : {A : Type 0} (f : A → List Count) (xs : List A) (i : ℕ) (x : A) (old new : List Count) → i < length xs → x ≡ get_or xs i x → new ≡ fold add_line old (f x)
-    → fold add_line old (flat_map f (drop i xs)) ≡ fold add_line new (flat_map f (drop (i + 1) xs))
-lines_next f xs i x old new h e n =
-    ap (λ (ys : List _). fold add_line old (flat_map f ys)) (drop_more xs i x h)
-    ∙ (fold-append add_line old (f (get_or xs i x)) (flat_map f (drop (i + 1) xs))
-    ∙ ap (λ (a : List Count). fold add_line a (flat_map f (drop (i + 1) xs))) (ap (λ (y : _). fold add_line old (f y)) (sym e) ∙ sym n))
 
 pub all_added : (d : FinDoc) (old first second third fourth : List Count) → first ≡ fold add_line old d.objects → second ≡ fold add_line first (name_lines d.root) → third ≡ fold add_line second (domain_lines d.fields) → fourth ≡ fold add_line third (domain_lines d.params)
     → fourth ≡ fold add_line old (lines_of d)

@@ -164,9 +164,6 @@ table_whole d h =
     ∙ (ap (λ (ms : Members). whole d (count_members d.version d.objects) (bound_members d.arrays) ms (domains_table d.params)) (in_order (λ (x : NamedDomain). x.key) (λ x. domain_data x.domain) d.fields h.order.fields)
     ∙ ap (λ (ms : Members). whole d (count_members d.version d.objects) (bound_members d.arrays) (domain_members d.fields) ms) (in_order (λ (x : NamedDomain). x.key) (λ x. domain_data x.domain) d.params h.order.params))))
 
-true_not_false : true ≡ false → ⊥
-true_not_false e = absurd (cc (e))
-
 two_is : (v : ℕ) → (v == 2) ≡ true → 2 ≡ v
 two_is v e = grind (arith, nat_tests)
 

@@ -14,7 +14,7 @@ use kr_fin::FinDoc;
 use std::alloc::Global;
 use toml::{Table, Value};
 
-/// Puts what stands before the tables.
+/// Writes what comes before the tables.
 #[tactic(auto, unfolding(crate::specs::Upgraded::up))]
 fn put_head(alloc: Global, table: &mut Table, document: &FinDoc) -> Result<(), NoMemory>
     requires { document.now.fuel ≤ 1000000000 }

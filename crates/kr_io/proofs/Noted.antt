@@ -1,4 +1,4 @@
--- Of the real files no bytes are told.
+-- Of the real files no bytes are known.
 use Rattle.std.proofs.Common.{◌≡◌, ℕ, List, None, take, IfOk, IfSome}
 use Rattle.std.specs.Prelude.{Result, Ok, Err, Vec}
 use Rattle.std.specs.declared.alloc.Global.{Global}

@@ -113,8 +113,8 @@ fn read_through<S: Read>(
     Ok(bytes)
 }
 
-/// The first bytes that a reader gives, at most so many. Of an opened file the kit tells no bytes, so that the contract of
-/// `DiskFiles` tells none either: that `read_file` calls this on the file that it opens, only tests show.
+/// The first bytes that a reader gives, at most so many. Of an opened file the kit knows no bytes, so that the contract of
+/// `DiskFiles` knows none either: that `read_file` calls this on the file that it opens, only tests show.
 pub fn read_front<S: Read>(
     alloc: Global,
     source: &mut S,

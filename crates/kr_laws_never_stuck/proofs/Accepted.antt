@@ -33,10 +33,12 @@ use Rattle.kr_laws_safety.proofs.Heaps.{same_type}
 use Rattle.kr_laws_safety.specs.Typed.{IsTypedProgram}
 use Rattle.kr_laws_safety.specs.Tested.{IsPredicate, HasContracts}
 use Rattle.kr_space.proofs.ReadLimits.{read_limits}
-use Rattle.kr_laws_never_stuck.specs.Grown.{AreGrown}
+use Rattle.kr_laws_never_stuck.specs.Grown.{AreGrown, AreProgram}
 use Rattle.kr_laws_never_stuck.proofs.Apart as places
 use Rattle.kr_laws_never_stuck.specs.Keys.{HasKeys}
 use Rattle.kr_laws_never_stuck.proofs.Typed.{domains_typed, is_posed, object_class, root_domain_is, root_numbered, rooted_by, rules_of}
+use Rattle.kr_laws_shapes.proofs.Predefined.{predefined_shape}
+use Rattle.kr_laws_shapes.specs.Shapes.{AreClasses}
 use Rattle.kr_laws_never_stuck.specs.WellTyped.{AreFiles, IsNeverStuck}
 use Rattle.kr_laws_never_stuck.proofs.Programs.{well_typed, never_stuck as runs_never_stuck}
 use Rattle.kr_laws_never_stuck.specs.TypedContracts.{HasContract}
@@ -54,6 +56,10 @@ grown_files : (n : ℕ) (sources : List (List ℕ)) (files : List Tree) → AreG
 grown_files n [] [] g = tt
 grown_files n (bytes ∷ sources) (file ∷ files) g = (file_shape g.0.tokens file g.0.derived, grown_files (n + 1) sources files g.1)
 grown_files n _ _ g = absurd g
+
+program_files : (sources : List (List ℕ)) (files : List Tree) → AreProgram sources files → AreFiles files
+program_files sources [] g = absurd g
+program_files sources (tree ∷ files) g = (subst AreClasses (sym g.0) predefined_shape, grown_files 0 sources files g.1)
 
 -- ---- the problem
 
@@ -100,9 +106,9 @@ predicate_found program c e = go (method_named program.table c (codes "repOk")) 
 
 -- ---- the whole
 
-module _ (sources : List (List ℕ)) (files : List Tree) (grown : AreGrown 0 sources files) (faults : class_fault (table_of files) ≡ None) (types : IsWellTyped files) where
+module _ (sources : List (List ℕ)) (files : List Tree) (grown : AreProgram sources files) (faults : class_fault (table_of files) ≡ None) (types : IsWellTyped files) where
   shapes : AreFiles files
-  shapes = grown_files 0 sources files grown
+  shapes = program_files sources files grown
 
   keys : HasKeys (table_of files)
   keys = record {

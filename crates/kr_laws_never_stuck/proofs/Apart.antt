@@ -1,5 +1,5 @@
 -- Declarators, fields and `\old`s have places of their own, and fields have names.
-use Rattle.std.proofs.Common.{◌≡◌, ℕ, ◌+◌, ◌<◌, ◌≤◌, ◌⊎◌, inl, inr, Bool, true, false, List, [], ◌∷◌, ◌++◌, refl, ap, arith}
+use Rattle.std.proofs.Common.{◌≡◌, ℕ, ◌+◌, ◌<◌, ◌≤◌, ◌⊎◌, inl, inr, Bool, true, false, List, [], ◌∷◌, ◌++◌, refl, ap, ◌∙◌, arith}
 use Rattle.std.specs.Prelude.{flat_map, bytes_eq, codes}
 use Rattle.std.specs.List.{AllByRecursion}
 use Rattle.std.proofs.lemmas.Bool.{cases_eq}
@@ -10,8 +10,9 @@ use Rattle.kr_lex.specs.declared.kind.Kind.TheVariants as kinds
 use Rattle.kr_ast.specs.Tree as trees
 use Rattle.kr_ast.specs.Tree.{Tree}
 use Rattle.kr_classes_table.specs.Nodes.{nodes}
+use Rattle.kr_classes_table.specs.Predefined.{predefined}
 use Rattle.kr_classes_table.specs.Table.{Field, table_of}
-use Rattle.kr_laws_never_stuck.specs.Grown.{IsGrown, AreGrown}
+use Rattle.kr_laws_never_stuck.specs.Grown.{IsGrown, AreGrown, AreProgram}
 use Rattle.kr_laws_never_stuck.specs.Apart.{one_at, node_at, nodes_at, all_fields, fields_at, ApartLaw, FieldsLaw}
 use Rattle.kr_lex.specs.Cursors.{one_if}
 use Rattle.kr_laws_never_stuck.proofs.Weights as weights
@@ -70,12 +71,22 @@ module _ (p : Place) where
       go (inr d) r = omega (arith, weights.append declared held (nodes file) (flat_map nodes files), file_elsewhere n bytes file g.0 d, r)
   files_once n _ _ g = absurd g
 
+  predefined_none : W (nodes predefined) ≡ 0
+  unfolding predefined
+  predefined_none = refl
+
+  pub program_once : (sources : List (List ℕ)) (files : List Tree) → AreProgram sources files → W (flat_map nodes files) ≤ 1
+  program_once sources [] g = absurd g
+  program_once sources (tree ∷ files) g =
+      let none : W (nodes tree) ≡ 0 = ap (λ (t : Tree). W (nodes t)) g.0 ∙ predefined_none in
+      omega (arith, weights.append declared held (nodes tree) (flat_map nodes files), none, files_once 0 sources files g.1)
+
   fields_are : (fs : List Field) → F declared held fs ≡ fields_at p fs
   fields_are [] = refl
   fields_are (f ∷ fs) = omega (arith, fields_are fs)
 
 pub apart : ApartLaw
-apart sources files g p = omega (arith, weight_is p (flat_map nodes files), files_once p 0 sources files g)
+apart sources files g p = omega (arith, weight_is p (flat_map nodes files), program_once p sources files g)
 
 -- ---- names
 
@@ -101,6 +112,16 @@ files_named n (bytes ∷ sources) (file ∷ files) g =
     omega (arith, weights.append named none (nodes file) (flat_map nodes files), weights.file_less named none d.tokens file d.derived, tokens_stars d.tokens, no_stars d.spelled.1, files_named (n + 1) sources files g.1)
 files_named n _ _ g = absurd g
 
+predefined_named : weights.weight named none (nodes predefined) ≡ 0
+unfolding predefined
+predefined_named = refl
+
+program_named : (sources : List (List ℕ)) (files : List Tree) → AreProgram sources files → weights.weight named none (flat_map nodes files) ≡ 0
+program_named sources [] g = absurd g
+program_named sources (tree ∷ files) g =
+    let first : weights.weight named none (nodes tree) ≡ 0 = ap (λ (t : Tree). weights.weight named none (nodes t)) g.0 ∙ predefined_named in
+    omega (arith, weights.append named none (nodes tree) (flat_map nodes files), first, files_named 0 sources files g.1)
+
 all_named : (fs : List Field) → F named none fs ≡ 0 → AllByRecursion (λ f. bytes_eq f.name (codes "*") ≡ false) fs
 all_named [] e = tt
 all_named (f ∷ fs) e = (go (bytes_eq f.name (codes "*")) refl, all_named fs (omega (arith, e)))
@@ -111,6 +132,6 @@ all_named (f ∷ fs) e = (go (bytes_eq f.name (codes "*")) refl, all_named fs (o
 
 pub fields_apart : FieldsLaw
 fields_apart sources files g = record {
-  places = λ p. omega (arith, fields_are p (all_fields (table_of files)), fields_less (declared p) (held p) files, files_once p 0 sources files g);
-  names = all_named (all_fields (table_of files)) (omega (arith, fields_less named none files, files_named 0 sources files g));
+  places = λ p. omega (arith, fields_are p (all_fields (table_of files)), fields_less (declared p) (held p) files, program_once p sources files g);
+  names = all_named (all_fields (table_of files)) (omega (arith, fields_less named none files, program_named sources files g));
 }

@@ -8,7 +8,7 @@ use Rattle.kr_ast.specs.Tree.{Tree}
 use Rattle.kr_classes_table.specs.Nodes.{nodes}
 use Rattle.kr_classes_table.specs.Table.{Table, Field, table_of}
 use Rattle.kr_classes_table.specs.Constants.{is_at_place}
-use Rattle.kr_laws_never_stuck.specs.Grown.{AreGrown}
+use Rattle.kr_laws_never_stuck.specs.Grown.{AreProgram}
 
 -- 1 for a place that is this one
 abbrev pub one_at : Place → Place → ℕ
@@ -26,7 +26,7 @@ nodes_at p [] = 0
 nodes_at p (t ∷ ts) = node_at p t + nodes_at p ts
 
 abbrev pub ApartLaw : Type 0
-ApartLaw = (sources : List (List ℕ)) (files : List Tree) → AreGrown 0 sources files → (p : Place) → nodes_at p (flat_map nodes files) ≤ 1
+ApartLaw = (sources : List (List ℕ)) (files : List Tree) → AreProgram sources files → (p : Place) → nodes_at p (flat_map nodes files) ≤ 1
 
 -- ---- fields
 
@@ -43,4 +43,4 @@ pub record AreApart (table : Table) : Type 0 where
   pub names : AllByRecursion (λ f. bytes_eq f.name (codes "*") ≡ false) (all_fields table)
 
 abbrev pub FieldsLaw : Type 0
-FieldsLaw = (sources : List (List ℕ)) (files : List Tree) → AreGrown 0 sources files → AreApart (table_of files)
+FieldsLaw = (sources : List (List ℕ)) (files : List Tree) → AreProgram sources files → AreApart (table_of files)

@@ -10,14 +10,14 @@ use Rattle.kr_mean.specs.Space.{space_of, IsVector}
 use Rattle.kr_fin.specs.declared.document.FinDoc.{FinDoc}
 use Rattle.kr_fin.specs.Meaning.{meaning as document_meant}
 use Rattle.kr_space_meaning.specs.Meaning.{meaning as problem_meant}
-use Rattle.kr_laws_never_stuck.specs.Grown.{AreGrown}
+use Rattle.kr_laws_never_stuck.specs.Grown.{AreProgram}
 use Rattle.kr_laws_never_stuck.specs.WellTyped.{IsNeverStuck}
 
--- The sources are these trees, which break no class rule and no typing rule; the bytes of the finitization are a document that breaks
+-- The trees of the program, of the predefined classes and of the sources, are these, which break no class rule and no typing rule; the bytes of the finitization are a document that breaks
 -- no rule beside them, and this is their problem.
 pub record IsAccepted (sources : List (List ℕ)) (bytes : List ℕ) (mode : Mode) (problem : Problem) : Type 0 where
   pub files : List Tree
-  pub read : AreGrown 0 sources files
+  pub read : AreProgram sources files
   pub classes : class_fault (table_of files) ≡ None
   pub types : type_fault files ≡ None
   pub document : FinDoc

@@ -63,7 +63,7 @@ wider word h = record { some = h.some; digits = h.digits; no_leading_zero = h.no
 pub long_some : (text : List ℕ) → IsLongNumber text → 1 < length text
 long_some text h = omega (arith, h.number.some, length-take-le (length text - 1) text (omega arith))
 
--- and the suffix behind its digits
+-- and the suffix after its digits
 pub long_text : (text : List ℕ) → IsLongNumber text → text ≡ before_suffix text ++ slice_index text (length text - 1) ∷ []
 long_text text h =
     let l = long_some text h in

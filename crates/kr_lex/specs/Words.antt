@@ -35,7 +35,7 @@ before_suffix text = take (length text - 1) text
 abbrev pub IsSuffix : ℕ → Type 0
 IsSuffix b = (b ≡ 76) ⊎ (b ≡ 108)
 
--- `L` or `l` behind a number whose value fits a `long` after a minus sign
+-- `L` or `l` after a number whose value fits a `long` after a minus sign
 pub record IsLongNumber (text : List ℕ) : Type 0 where
   pub some : 0 < length text
   pub suffix : IsSuffix (slice_index text (length text - 1))

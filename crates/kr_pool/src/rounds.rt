@@ -24,7 +24,7 @@ pub struct Rounds<R, N: Run<R>, D: Ledger> {
 }
 
 fn any_gave_up<R, N: Run<R>>(hands: &[Hand<R, N>]) -> bool
-    ensures { result ≡ list_any (λ h. is_some h.seat.refused) hands.now }
+    ensures { result ≡ list_any (λ h. is_some h.refused) hands.now }
 {
     for hand in hands {
         if hand.gave_up() {
@@ -35,7 +35,7 @@ fn any_gave_up<R, N: Run<R>>(hands: &[Hand<R, N>]) -> bool
 }
 
 fn all_gave_up<R, N: Run<R>>(hands: &[Hand<R, N>]) -> bool
-    ensures { result ≡ list_all (λ h. is_some h.seat.refused) hands.now }
+    ensures { result ≡ list_all (λ h. is_some h.refused) hands.now }
 {
     for hand in hands {
         if !hand.gave_up() {
@@ -115,14 +115,14 @@ impl<R: Drop + Send, N: Run<R> + Send + Sync, D: Ledger + Send + Sync> Rounds<R,
 
     /// Whether some seat's worker was refused memory.
     pub fn any_marked(&self) -> bool
-        ensures { result ≡ (self.now.lead.1 || list_any (λ h. is_some h.seat.refused) self.now.others.items) }
+        ensures { result ≡ (self.now.lead.1 || list_any (λ h. is_some h.refused) self.now.others.items) }
     {
         self.lead.gave_up() || any_gave_up(self.others.as_slice())
     }
 
     /// Whether every seat's worker was refused memory.
     pub fn all_marked(&self) -> bool
-        ensures { result ≡ (self.now.lead.1 && list_all (λ h. is_some h.seat.refused) self.now.others.items) }
+        ensures { result ≡ (self.now.lead.1 && list_all (λ h. is_some h.refused) self.now.others.items) }
     {
         self.lead.gave_up() && all_gave_up(self.others.as_slice())
     }

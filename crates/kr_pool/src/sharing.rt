@@ -23,8 +23,8 @@ fn is_last<R: Drop + Send, N: Run<R> + Send + Sync, D: Ledger + Send + Sync>(
     rounds: &Rounds<R, N, D>,
     came: Came,
 ) -> bool
-    ensures more { came.room ≡ More → result ≡ (came.all || ((rounds.now.lead.1 && list_all (λ h. is_some h.seat.refused) rounds.now.others.items)
-        || (came.nothing && (rounds.now.lead.1 || list_any (λ h. is_some h.seat.refused) rounds.now.others.items)))) }
+    ensures more { came.room ≡ More → result ≡ (came.all || ((rounds.now.lead.1 && list_all (λ h. is_some h.refused) rounds.now.others.items)
+        || (came.nothing && (rounds.now.lead.1 || list_any (λ h. is_some h.refused) rounds.now.others.items)))) }
     ensures full { came.room ≡ Full → result ≡ true }
 {
     match came.room {

@@ -1,4 +1,4 @@
--- A log that is one of some entries is one of any others with the same keys and marks of the same kinds: no event tells a row.
+-- A log that is one of some entries is one of any others with the same keys and marks of the same kinds: no event has a row.
 use Rattle.std.proofs.Common.{◌≡◌, ℕ, suc, ◌+◌, List, [], ◌∷◌, ◌++◌, Bool, true, false, cond, length, refl, sym, ap, ◌∙◌, subst, Option, Some, None}
 use Rattle.kr_base.specs.declared.span.Bound.{Bound}
 use Rattle.kr_base.specs.declared.span.Bound.TheVariants.{At}

@@ -141,10 +141,6 @@ first-through false e xs ys zs h = (through_spent zs, through_append xs zs (none
 first-through {R} true e xs [] zs h = ([], through_ends e xs zs (subst (λ (l : List (Entry R)). EndsSpent e l) (append-nil xs) h) ∙ sym (append-nil xs))
 first-through true e xs (y ∷ ys) zs h = (through_spent zs, through_append xs zs (ends-first xs y ys h.before h.last h.split h.none_before))
 
-no-rows : {R : Type 0} (xs ys : List R) → xs ++ ys ≡ [] → ys ≡ []
-no-rows [] ys h = h
-no-rows (x ∷ xs) ys h = absurd (cc (h))
-
 cut-out : {R : Type 0} (before rows rest whole : List R) (d : ℕ) → whole ≡ (before ++ rows) ++ rest → length before ≡ d → rows ≡ take (length rows) (drop d whole)
 cut-out {R} before rows rest whole d is count =
     let tail : drop d whole ≡ rows ++ rest = ap (λ (l : List R). drop d l) (is ∙ append_assoc before rows rest) ∙ drop_at before (rows ++ rest) d count in

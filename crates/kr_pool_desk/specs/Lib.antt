@@ -7,7 +7,6 @@ pub mod Traces
 pub mod Laying
 pub mod Limits
 pub mod Stops
-pub mod Refusals
 pub mod Costs
 pub mod Observed
 pub mod Seats

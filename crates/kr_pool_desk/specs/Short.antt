@@ -28,7 +28,7 @@ AreShortKeys (e ∷ es) = IsShort e.key × AreShortKeys es
 abbrev pub IsShortSegment : Segment → Type 0
 IsShortSegment s = IsShortBound s.mark × IsShortBound s.upto
 
--- the cut, the reach or the mark that an event tells
+-- the cut, the reach or the mark that an event has
 abbrev pub IsShortEvent : Event → Type 0
 IsShortEvent (Take seat n) = Unit {0}
 IsShortEvent (Steal seat victim cut n) = IsShort cut

@@ -28,7 +28,7 @@ ghost use Rattle.kr_pool_desk.specs.Limits.{IsWanted, KeepsWindow, begins_within
 ghost use Rattle.kr_pool_desk.specs.Draining.{last_rows, rows_kept};
 ghost use Rattle.kr_pool_desk.specs.Laying.{LaysOut};
 ghost use Rattle.kr_pool_desk.specs.Seats.{calls_of};
-ghost use Rattle.kr_pool_desk.specs.Observed.{ObservesFinished};
+ghost use Rattle.kr_pool_desk.specs.Observed.{ObservesDrain};
 
 use crate::crew::Run;
 use crate::seat::Seat;
@@ -165,13 +165,12 @@ impl<R: Drop, N: Run<R>, D: Ledger> Desk<R, N, D> {
         ensures kept { IfOk result (λ r. rows_kept self.new.0 + length r.0 ≤ rows_kept self.old.0) }
         ensures counted { IfOk result (λ r. tap.new.amount ≡ tap.old.amount + length r.0) }
         ensures finished { IfOk result (λ r. r.1 ≡ all_closed self.new.0.core) }
-        ensures observed { IfOk result (λ r. ObservesFinished N.all N.span N.cuts N.opening N.workers tap.new.amount r.1) }
+        ensures observed { IfOk result (λ r. ObservesDrain N.all N.span N.cuts N.opening N.workers seat.old.calls.amount seat.new.calls.amount tap.new.amount r.0 r.1) }
         ensures last { IfOk result (λ r. r.1 ≡ true → tap.new.amount ≡ length (rows_of (listed_in N.all N.span))) }
         ensures unchanged { OnErr result (self.new.0 ≡ self.old.0) }
         ensures uncounted { OnErr result (tap.new.amount ≡ tap.old.amount) }
         ensures parts { tap.new.parts ≡ tap.old.parts }
         ensures number { seat.new.number ≡ seat.old.number }
-        ensures refused { seat.new.refused ≡ seat.old.refused }
     {
         self.rows.audit(tap);
         match self.board.drain() {

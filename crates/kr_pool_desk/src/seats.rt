@@ -29,13 +29,11 @@ pub(crate) fn seats_for<N: Crew>(
         let calls = all.split_off(1, 0);
         seats.push(Seat {
             number: workers - i,
-            refused: None,
             calls,
         })?;
     }
     seats.push(Seat {
         number: 0,
-        refused: None,
         calls: all,
     })?;
     Ok(seats)

@@ -13,7 +13,7 @@ ghost use Rattle.kr_pool_desk.specs.Leasing.{IsLeaseOf, Reports};
 ghost use Rattle.kr_pool_desk.specs.Short.{AreShortEvents, IsShortBound, IsShortRun};
 ghost use Rattle.kr_pool_desk.specs.Limits.{KeepsWindow, begins_within};
 ghost use Rattle.kr_pool_desk.specs.Seats.{calls_of, numbers_below, numbers_of};
-ghost use Rattle.kr_pool_desk.specs.Observed.{ObservesReport, ObservesLease, ObservesFinished};
+ghost use Rattle.kr_pool_desk.specs.Observed.{ObservesReport, ObservesLease, ObservesDrain};
 
 use crate::crew::Run;
 use crate::desk::Desk;
@@ -118,7 +118,7 @@ impl<R: Drop, N: Run<R>, D: Ledger> Shared<R, N, D> {
         requires some { 0 < tap.old.parts }
         ensures rows { IfOk result (λ r. r.0 ≡ take (length r.0) (drop tap.old.amount (rows_of (listed_in N.all N.span)))) }
         ensures counted { IfOk result (λ r. tap.new.amount ≡ tap.old.amount + length r.0) }
-        ensures observed { IfOk result (λ r. ObservesFinished N.all N.span N.cuts N.opening N.workers tap.new.amount r.1) }
+        ensures observed { IfOk result (λ r. ObservesDrain N.all N.span N.cuts N.opening N.workers seat.old.calls.amount seat.new.calls.amount tap.new.amount r.0 r.1) }
         ensures last { IfOk result (λ r. r.1 ≡ true → tap.new.amount ≡ length (rows_of (listed_in N.all N.span))) }
         ensures uncounted { OnErr result (tap.new.amount ≡ tap.old.amount) }
         ensures parts { tap.new.parts ≡ tap.old.parts }

@@ -66,7 +66,7 @@ fn list<S: Survey<Row = Cut> + Sync, G: Gate + Sync, W: Threads + Wait + Sync + 
     list_shared(rt, alloc, survey, span, workers, gate)
 }
 
-// Four keys by two workers, where so many scans are refused memory: whether that is the listing.
+// Four keys by two workers, where so many scans are refused memory: whether that is the listing, and no key was scanned twice.
 fn four<W: Threads + Wait + Sync + Abort>(
     rt: &W,
     alloc: Global,
@@ -74,7 +74,10 @@ fn four<W: Threads + Wait + Sync + Abort>(
 ) -> Result<Result<bool, NoMemory>, NoMemory> {
     let survey = looked_at(keys(rt, alloc, 4, 9)?, refused, 0);
     match list(rt, alloc, &survey, 2, &OpenGate) {
-        Ok(listing) => Ok(Ok(is_listing(&listing, 4, 4))),
+        Ok(listing) => {
+            let once = survey.scanned.load(Ordering::SeqCst) == 4;
+            Ok(Ok(once && is_listing(&listing, 4, 4)))
+        }
         Err(why) => Ok(Err(why)),
     }
 }

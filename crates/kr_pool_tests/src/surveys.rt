@@ -13,7 +13,7 @@ use std::thread::yield_now;
 /// The most turns that somebody waits for somebody else.
 pub(crate) const TURNS: u32 = 1 << 30;
 
-/// Whether a count comes to a number within so many turns.
+/// Whether a count reaches a number within so many turns.
 pub(crate) fn comes_to(count: &AtomicU64, number: u64) -> bool {
     for _ in 0..TURNS {
         if count.load(Ordering::SeqCst) >= number {
@@ -84,7 +84,7 @@ impl Survey for Watched {
         most: u32,
         runs: &mut Steps<L>,
     ) -> Result<Part<Cut>, NoMemory> {
-        self.list.scan(after, upto, most, runs)
+        self.scan_with(&mut (), after, upto, most, runs)
     }
 
     fn ascends(&self) {

@@ -1,10 +1,14 @@
 // A worker's seat, the part that a full board gave back, and the lease under which it goes on.
-ghost use Rattle.std.specs.Prelude.{◌≡◌, ◌+◌, ◌<◌, ◌≤◌, true, length, vec_len, vec_capacity, IfOk, None, is_some, map, reverse};
+ghost use Rattle.std.specs.Prelude.{◌≡◌, ◌+◌, ◌<◌, ◌≤◌, true, false, length, vec_len, vec_capacity, IfOk, None, is_some, map, reverse};
+ghost use Rattle.std.specs.List.{list_any};
+ghost use Rattle.std.specs.Option.{ForSome};
 ghost use Rattle.kr_base.specs.Bounds.{less};
 ghost use Rattle.kr_base.specs.declared.span.Bound.TheVariants.{At};
 ghost use Rattle.kr_board.specs.Parts.{IsPart};
 ghost use Rattle.kr_pool_desk.specs.Short.{IsShortBound, IsShortRun};
+ghost use Rattle.kr_pool_workers.specs.Refusals.{whose};
 
+use crate::refusal::Refusal;
 use crate::stint::Stint;
 use kr_base::NoMemory;
 use kr_board::Lease;
@@ -130,33 +134,47 @@ impl<R, N: Run<R>> Open<R, N> {
     }
 }
 
-/// A worker's seat, what it kept, and the lease under which it goes on, if it has one between two parts. Only this crate marks a
-/// seat, and no body here has two hands; what is kept goes into the next stint.
+/// A worker's seat; the refusal of memory that its own worker met, after which it works no more; what it kept; and the lease under
+/// which it goes on, if it has one between two parts. What is kept goes into the next stint.
 #[derive(Drop)]
 pub struct Hand<R, N: Run<R>> {
     pub(crate) seat: Seat<N>,
+    refused: Option<Refusal>,
     kept: Option<Kept<R, N>>,
     pub(crate) open: Option<Open<R, N>>,
+    pub ghost own: { ForSome refused (λ r. whose r ≡ seat.number) },
 }
 
 impl<R, N: Run<R>> Hand<R, N> {
-    /// A seat, with nothing kept.
+    /// A seat whose worker wasn't refused memory, with nothing kept.
     pub fn new(seat: Seat<N>) -> Self
         ensures seat { result.seat ≡ seat }
+        ensures unmarked { result.refused ≡ None }
         ensures none { result.kept ≡ None }
     {
         Hand {
             seat,
+            refused: None,
             kept: None,
             open: None,
         }
     }
 
-    /// Whether the seat keeps a refusal of memory.
+    /// Whether the hand keeps a refusal of memory. It is one that a call of its own worker answered.
     pub fn gave_up(&self) -> bool
-        ensures { result ≡ is_some self.now.seat.refused }
+        ensures kept { result ≡ is_some self.now.refused }
+        ensures own { ForSome self.now.refused (λ r. whose r ≡ self.now.seat.number) }
     {
-        self.seat.gave_up()
+        self.refused.is_some()
+    }
+
+    /// Keeps what a call of the hand's worker answered.
+    pub(crate) fn refuse(&mut self, why: NoMemory)
+        ensures marked { is_some self.new.refused ≡ true }
+        ensures seat { self.new.seat ≡ self.old.seat }
+        ensures kept { self.new.kept ≡ self.old.kept }
+    {
+        self.refused = Some(Refusal::of(self.seat.number, why));
     }
 }
 
@@ -191,6 +209,7 @@ impl<R: Drop, N: Run<R>> Hand<R, N> {
     {
         let Hand {
             seat,
+            refused: _,
             kept: _,
             open: _,
         } = self;
@@ -198,13 +217,14 @@ impl<R: Drop, N: Run<R>> Hand<R, N> {
     }
 }
 
-/// The seats from the last to the first, with nothing kept. The seats' place is left, empty.
+/// The seats from the last to the first, with nothing kept; no worker was refused memory. The seats' place is left, empty.
 pub fn hands_of<R: Drop, N: Run<R>>(
     alloc: Global,
     seats: &mut Vec<Seat<N>>,
 ) -> Result<Vec<Hand<R, N>>, NoMemory>
     ensures count { IfOk result (λ hands. length hands.items ≡ length seats.old.items) }
     ensures seats { IfOk result (λ hands. reverse (map (λ h. h.seat) hands.items) ≡ seats.old.items) }
+    ensures unmarked { IfOk result (λ hands. list_any (λ h. is_some h.refused) hands.items ≡ false) }
     ensures none { IfOk result (λ hands. length seats.new.items ≡ 0) }
     ensures room { vec_capacity seats.old ≤ vec_capacity seats.new }
 {

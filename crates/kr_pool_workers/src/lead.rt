@@ -2,7 +2,7 @@
 ghost use Rattle.std.specs.Prelude.{◌≡◌, ◌+◌, ◌<◌, true, false, length, take, drop, IfOk, IfSome, OnErr, is_some};
 ghost use Rattle.kr_survey.specs.Scans.{rows_of};
 ghost use Rattle.kr_survey.specs.Listings.{listed_in};
-ghost use Rattle.kr_pool_desk.specs.Observed.{ObservesFinished};
+ghost use Rattle.kr_pool_desk.specs.Observed.{ObservesDrain};
 
 use crate::hand::Hand;
 use crate::leading::{Leading, scratch_for};
@@ -16,7 +16,7 @@ use std::sync::Wait;
 use std::sync::ledger::{Blank, Ledger, Share};
 
 /// The caller's seat, and the share by which rows are drained. Contracts see how many rows were handed out, whether a call of the
-/// caller's own worker was refused memory, and whether a part is kept outside of a stint.
+/// caller's own worker was refused memory, whether a part is kept outside of a stint, and how many calls the seat logged.
 #[derive(Drop)]
 pub struct Lead<R, N: Run<R>, D: Ledger> {
     hand: Hand<R, N>,
@@ -26,9 +26,9 @@ pub struct Lead<R, N: Run<R>, D: Ledger> {
 impl<R, N: Run<R>, D: Ledger> Model for Lead<R, N, D> {
     ghost use Rattle.std.specs.Prelude.{ℕ, Bool, ◌≡◌, ◌<◌, is_some};
 
-    ghost Value = { ℕ × Bool × Bool };
+    ghost Value = { ℕ × Bool × Bool × ℕ };
 
-    ghost view = { λ l. (l.tap.amount, is_some l.hand.seat.refused, is_some l.hand.kept) };
+    ghost view = { λ l. (l.tap.amount, is_some l.hand.refused, is_some l.hand.kept, l.hand.seat.calls.amount) };
 
     ghost invariant = { λ l. (l.tap.parts ≡ D.parts) × (0 < l.tap.parts) };
 }
@@ -37,7 +37,7 @@ impl<R: Drop, N: Run<R>, D: Ledger> Lead<R, N, D> {
     pub fn new(seat: Seat<N>, tap: Share<D>) -> Self
         requires tap { (tap.parts ≡ D.parts) × (0 < tap.parts) }
         ensures amount { result.0 ≡ tap.amount }
-        ensures mark { result.1 ≡ is_some seat.refused }
+        ensures unmarked { result.1 ≡ false }
     {
         Lead {
             hand: Hand::new(seat),
@@ -100,6 +100,7 @@ impl<R: Drop, N: Run<R>, D: Ledger> Lead<R, N, D> {
     }
 
     /// The next rows are handed out, with whether these were the last. It may wait for the lock.
+    #[tactic(auto, using(crate::proofs::Marking::own_along))]
     pub fn drain<W: Wait>(
         &mut self,
         rt: &W,
@@ -107,7 +108,7 @@ impl<R: Drop, N: Run<R>, D: Ledger> Lead<R, N, D> {
     ) -> Result<(Rows<R>, bool), NoMemory>
         ensures rows { IfOk result (λ r. r.0 ≡ take (length r.0) (drop self.old.0 (rows_of (listed_in N.all N.span)))) }
         ensures given { IfOk result (λ r. self.new.0 ≡ self.old.0 + length r.0) }
-        ensures observed { IfOk result (λ r. ObservesFinished N.all N.span N.cuts N.opening N.workers self.new.0 r.1) }
+        ensures observed { IfOk result (λ r. ObservesDrain N.all N.span N.cuts N.opening N.workers self.old.3 self.new.3 self.new.0 r.0 r.1) }
         ensures last { IfOk result (λ r. r.1 ≡ true → self.new.0 ≡ length (rows_of (listed_in N.all N.span))) }
         ensures refused { OnErr result (self.new.0 ≡ self.old.0) }
         ensures kept { self.new.2 ≡ self.old.2 }

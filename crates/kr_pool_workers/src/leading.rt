@@ -38,7 +38,7 @@ pub fn scratch_for<R: Drop, N: Run<R>, S: Survey<Row = R>>(
     match survey.scratch() {
         Ok(scratch) => Some(scratch),
         Err(why) => {
-            hand.seat.refuse(why);
+            hand.refuse(why);
             None
         }
     }
@@ -55,6 +55,7 @@ impl Leading {
     }
 
     // The lease under which the seat goes on, or one that it takes now. It passes the gate once after each take.
+    #[tactic(auto, using(crate::proofs::Marking::own_along))]
     fn next_lease<R: Drop, N: Run<R>, D: Ledger, G: Gate, W: Wait>(
         &mut self,
         rt: &W,
@@ -63,7 +64,7 @@ impl Leading {
         gate: &G,
     ) -> Option<Lease>
         ensures lease { IfSome result (IsLeaseOf (IsShortRun N.all N.span N.cuts) hand.new.seat.number) }
-        ensures observed { ObservesNext N.all N.span N.cuts N.opening N.workers N.limit hand.old.seat.number hand.old.seat.calls.amount hand.new.seat.calls.amount hand.old.open (is_some hand.new.seat.refused) result }
+        ensures observed { ObservesNext N.all N.span N.cuts N.opening N.workers N.limit hand.old.seat.number hand.old.seat.calls.amount hand.new.seat.calls.amount hand.old.open (is_some hand.new.refused) result }
         ensures kept { hand.new.kept ≡ hand.old.kept }
     {
         if let Some(open) = hand.open.take() {
@@ -74,7 +75,7 @@ impl Leading {
         }
         match shared.take_now(rt, &mut hand.seat) {
             Err(why) => {
-                hand.seat.refuse(why);
+                hand.refuse(why);
                 None
             }
             Ok(None) => None,
@@ -88,6 +89,7 @@ impl Leading {
 
     // Hands in the part that was kept, if that has room now, or else scans one and hands it in; none where there was nothing to
     // do.
+    #[tactic(auto, using(crate::proofs::Marking::own_along))]
     fn next_turn<
         R: Drop,
         N: Run<R>,
@@ -162,7 +164,7 @@ impl Leading {
             None => return false,
             Some(Turn::Go(lease)) => hand.open = Some(Open::new(lease)),
             Some(Turn::Full) => {}
-            Some(Turn::Refused(why)) => hand.seat.refuse(why),
+            Some(Turn::Refused(why)) => hand.refuse(why),
             Some(Turn::Done) => {
                 hand.open = match self.next_lease(rt, shared, hand, gate) {
                     None => None,

@@ -4,6 +4,7 @@
 mod hand;
 mod lead;
 mod leading;
+mod refusal;
 mod scanning;
 mod stint;
 mod turns;

@@ -191,6 +191,7 @@ fn work_on<
 }
 
 // A stint of the seat, whose runs are counted.
+#[tactic(auto, using(crate::proofs::Marking::own_along))]
 fn work_counted<
     R: Drop,
     N: Run<R>,
@@ -232,7 +233,7 @@ pub fn work_at<R: Drop, N: Run<R>, D: Ledger, S: Survey<Row = R>, G: Gate, W: Wa
 )
     requires survey { S.all survey.now ≡ N.all }
     ensures number { hand.new.seat.number ≡ hand.old.seat.number }
-    ensures marked { is_some hand.old.seat.refused ≡ true → hand.new ≡ hand.old }
+    ensures marked { is_some hand.old.refused ≡ true → hand.new ≡ hand.old }
 {
     shared.enter(rt);
     if !hand.gave_up() {
@@ -248,7 +249,7 @@ pub fn work_at<R: Drop, N: Run<R>, D: Ledger, S: Survey<Row = R>, G: Gate, W: Wa
             Course::Done => {}
             Course::Held => {}
             Course::Leave => {}
-            Course::Refused(why) => hand.seat.refuse(why),
+            Course::Refused(why) => hand.refuse(why),
         }
     }
     shared.leave(rt);

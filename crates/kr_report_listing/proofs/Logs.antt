@@ -63,7 +63,7 @@ module _ {K : Type 0} (taken : K → Option (List ℕ)) (faults : K → ℕ) (P 
       let rows = rows_of (lines_in Q S span) in
       absurd (omega (arith, few, rows_long P Q S span s, e, length_less ends.0 rows, ends.2.1))
 
-  -- with one only behind more rows than the limit
+  -- with one only after more rows than the limit
   past : (end : End) (log : List Event) → EndsLogged (WritesLines taken faults) (lines_in Q S span) workers log w from b out end → IsLogOf (entries_by (line_of Q) (all_entries S)) span workers (Some limit) end log
       → are_shared workers log ≡ false → limit < drained log
   past (Whole tried spent) log ends is stop = absurd (true≢false (sym (is.unstopped refl) ∙ stop))

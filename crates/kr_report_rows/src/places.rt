@@ -119,7 +119,7 @@ pub(crate) struct Stretch {
 /// No slots.
 const NOWHERE: Stretch = Stretch { first: 0, count: 0 };
 
-/// Where the slots of an object stand; of one that isn't there nowhere.
+/// Where the slots of an object are; nowhere, where it isn't there.
 pub(crate) fn stretch_of(layout: &Layout, object: Object) -> Stretch
     ensures are { IsStretch (bare layout.now) (object_of object) result }
     ensures few { result.count ≤ 2 ^ 32 }

@@ -1,16 +1,20 @@
 // Statements whose flows are known at once, one level above another: what is deeper isn't known.
 ghost use Rattle.std.specs.Prelude.{IfSome};
-ghost use Rattle.kr_mean.specs.Steps.{bind, give};
+ghost use Rattle.kr_mean.specs.Operators.{operated_alone as alone_step};
+ghost use Rattle.kr_mean.specs.Steps.{bind, give, say};
 ghost use Rattle.kr_mean.specs.Meaning.{choose};
 ghost use Rattle.kr_code.specs.declared.code.Code.{Code};
 ghost use Rattle.kr_code.specs.Doing.{all_at, flow_of};
 ghost use Rattle.kr_code.specs.Tables.{listed};
 ghost use Rattle.kr_run_state.specs.declared.world.World.{World};
+ghost use Rattle.kr_run_known.specs.Knowing.{Knows};
 ghost use Rattle.kr_run_lookahead.specs.Flows.{KnowsFlow, otherwise as otherwise_flow};
 
-use kr_code::{Code, Nodes, Statement};
-use kr_mean::Flow;
-use kr_run_known::{look_at, statement_at};
+use crate::leaving::literal_returned;
+use crate::passing::operated_alone;
+use kr_code::{Code, Expression, Nodes, Statement};
+use kr_mean::{Flow, UnaryOperation};
+use kr_run_known::{Known, expression_at, look_at, statement_at};
 use kr_run_state::World;
 use kr_value::Value;
 
@@ -89,6 +93,56 @@ fn all<L: Follow>(code: &Code, world: &World, nodes: Nodes, fuel: u64) -> Option
     None
 }
 
+/// An operator with its operand, after its unit.
+#[inline(always)]
+fn unary(
+    code: &Code,
+    world: &World,
+    operation: UnaryOperation,
+    operand: u32,
+    fuel: u64,
+) -> Option<Known>
+    ensures { IfSome result (λ k. Knows code.now world.now fuel k (λ d. bind (d.value operand) (λ v. say (alone_step operation v)))) }
+{
+    match look_at(code, world, operand, fuel) {
+        None => None,
+        Some(found) => operated_alone(code, world, operation, found.value, found.fuel),
+    }
+}
+
+/// The value of a condition: of a negation the operand is looked at, so that the negation itself costs little.
+#[inline(always)]
+fn condition_of(code: &Code, world: &World, node: u32, fuel: u64) -> Option<Known>
+    ensures { IfSome result (λ k. Knows code.now world.now fuel k (λ d. d.value node)) }
+{
+    if fuel == 0 {
+        return None;
+    }
+    match expression_at(code, node) {
+        None => None,
+        Some(expression) => match expression {
+            Expression::Unary { operation, operand } => {
+                unary(code, world, *operation, *operand, fuel - 1)
+            }
+            _ => look_at(code, world, node, fuel),
+        },
+    }
+}
+
+/// A statement that a condition chooses: a literal that it returns is found at once.
+#[inline(always)]
+fn taken<L: Follow>(code: &Code, world: &World, node: u32, fuel: u64) -> Option<Led>
+    ensures { IfSome result (λ l. KnowsFlow code.now world.now fuel l (λ d. d.exec node)) }
+{
+    match literal_returned(code, node, fuel) {
+        Some(known) => Some(Led {
+            flow: Flow::Gave(known.value),
+            fuel: known.fuel,
+        }),
+        None => L::follow(code, world, node, fuel),
+    }
+}
+
 /// One of two statements.
 #[inline(always)]
 fn branch<L: Follow>(
@@ -101,10 +155,10 @@ fn branch<L: Follow>(
 ) -> Option<Led>
     ensures { IfSome result (λ l. KnowsFlow code.now world.now fuel l (λ d. bind (d.value condition) (λ v. choose v (d.exec then) (otherwise_flow d otherwise)))) }
 {
-    match look_at(code, world, condition, fuel) {
+    match condition_of(code, world, condition, fuel) {
         None => None,
         Some(found) => match found.value {
-            Value::Bool(true) => L::follow(code, world, then, found.fuel),
+            Value::Bool(true) => taken::<L>(code, world, then, found.fuel),
             Value::Bool(false) => match otherwise {
                 None => leads(Flow::Next, found.fuel),
                 Some(node) => L::follow(code, world, node, found.fuel),
@@ -145,18 +199,27 @@ fn flow_in<L: Follow>(code: &Code, world: &World, statement: &Statement, fuel: u
     }
 }
 
-/// Where a node leads as a statement from so much fuel, where that is known at once.
-#[inline(always)]
-pub(crate) fn known_flow(code: &Code, world: &World, node: u32, fuel: u64) -> Option<Led>
-    ensures { IfSome result (λ l. KnowsFlow code.now world.now fuel l (λ d. d.exec node)) }
-{
-    <Over<Over<Over<Over<Nothing>>>>>::follow(code, world, node, fuel)
-}
-
-/// Likewise of statements, one after another.
+/// Where statements lead, one after another, from so much fuel, where that is known at once.
 #[inline(always)]
 pub(crate) fn known_flow_of(code: &Code, world: &World, nodes: Nodes, fuel: u64) -> Option<Led>
     ensures { IfSome result (λ l. KnowsFlow code.now world.now fuel l (λ d. all_at d (listed code.now nodes))) }
 {
     all::<Over<Over<Over<Nothing>>>>(code, world, nodes, fuel)
+}
+
+/// Likewise of a node as a statement. It is mostly a block, whose statements are followed without a call for the block.
+#[inline(always)]
+pub(crate) fn known_flow(code: &Code, world: &World, node: u32, fuel: u64) -> Option<Led>
+    ensures { IfSome result (λ l. KnowsFlow code.now world.now fuel l (λ d. d.exec node)) }
+{
+    if fuel == 0 {
+        return None;
+    }
+    match statement_at(code, node) {
+        None => None,
+        Some(statement) => match statement {
+            Statement::Block(nodes) => known_flow_of(code, world, *nodes, fuel - 1),
+            _ => <Over<Over<Over<Over<Nothing>>>>>::follow(code, world, node, fuel),
+        },
+    }
 }

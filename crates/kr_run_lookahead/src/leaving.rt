@@ -1,5 +1,6 @@
 // A value leaves bodies: it passes frames that need neither the locals nor `this`, which are those of a caller then.
-ghost use Rattle.std.specs.Prelude.{◌≡◌, ℕ, suc, IfSome, drop};
+ghost use Rattle.std.specs.Prelude.{◌≡◌, ℕ, suc, IfSome, drop, true};
+ghost use Rattle.kr_value.specs.declared.value.Value.{Value as Argument};
 ghost use Rattle.kr_mean.specs.declared.flow.Flow.TheVariants as flows;
 ghost use Rattle.kr_run_lookahead.specs.declared.leaving.Point.TheVariants as points;
 ghost use Rattle.kr_code.specs.declared.code.Code.{Code};
@@ -70,7 +71,7 @@ fn literal_at(code: &Code, node: u32) -> Option<Value>
 
 /// The literal that a statement returns, if it is such a `return`: its two units are spent.
 #[inline(always)]
-fn literal_returned(code: &Code, node: u32, fuel: u64) -> Option<Known>
+pub(crate) fn literal_returned(code: &Code, node: u32, fuel: u64) -> Option<Known>
     ensures { IfSome result (λ k. (d : Doing) (s : State) → IsMeaning code.now d → s.fuel ≡ fuel → d.exec node s ≡ give (flows.Gave k.value) (record s { fuel = k.fuel })) }
 {
     if fuel < 2 {
@@ -163,6 +164,38 @@ fn pass_on(code: &Code, waiting: &Waiting, stand: Stand) -> Option<Stand>
     }
 }
 
+/// Whether a frame is of a statement in a body, which ends where the body gives a value.
+#[inline(always)]
+fn is_in_body(waiting: &Waiting) -> bool
+    ensures { result ≡ true → (code : Code) (u : Argument) (n : ℕ) → PassesOn code waiting.now (record { point = points.Gives u; fuel = n }) (record { point = points.Gives u; fuel = n }) }
+{
+    match waiting {
+        Waiting::Flow(_) => true,
+        Waiting::Scope(_) => true,
+        _ => false,
+    }
+}
+
+/// Where a body ends, below so many frames or further down: the value that it gives passes the frames between them.
+#[inline(always)]
+fn body_end(stack: &Stack, depth: usize) -> usize
+    ensures { (code : Code) (u : Argument) (n : ℕ) (v : Argument) → TellsAt code (drop result stack.now) (record { point = points.Gives u; fuel = n }) v → TellsAt code (drop depth stack.now) (record { point = points.Gives u; fuel = n }) v }
+{
+    let mut at = depth;
+    'frames: while at < stack.len() {
+        match stack.frame_at(at) {
+            None => return at,
+            Some(waiting) => {
+                if !is_in_body(waiting) {
+                    return at;
+                }
+                at += 1;
+            }
+        }
+    }
+    at
+}
+
 /// The value that the run gives where the frames below so many receive the value of a body.
 pub(crate) fn left_ahead(
     code: &Code,
@@ -177,7 +210,7 @@ pub(crate) fn left_ahead(
         point: Point::Gives(given),
         fuel,
     };
-    let mut at = depth;
+    let mut at = body_end(stack, depth);
     'frames: while at < stack.len() {
         match stack.frame_at(at) {
             None => return None,

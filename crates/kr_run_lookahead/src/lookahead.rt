@@ -1,5 +1,9 @@
 // How a run goes on from a step that reads.
-ghost use Rattle.std.specs.Prelude.{◌≡◌, ◌∷◌, List, drop, IfSome, Ok};
+ghost use Rattle.std.specs.Prelude.{◌≡◌, ◌<◌, ◌∷◌, List, drop, length, IfSome, Ok};
+ghost use Rattle.kr_value.specs.declared.object.Spot.TheVariants.{Field};
+ghost use Rattle.kr_value.specs.declared.value.Value.TheVariants.{Ref as Reference};
+ghost use Rattle.kr_mean.specs.Steps.{load as load_step};
+ghost use Rattle.kr_code.specs.Steps.{load_named as load_named_step};
 ghost use Rattle.kr_code.specs.declared.code.Code.{Code};
 ghost use Rattle.kr_code.specs.Doing.{Doing, IsMeaning};
 ghost use Rattle.kr_run_frames.specs.Frame.{Frame};
@@ -17,8 +21,8 @@ use crate::passing::{flow_from, flow_onward, value_from};
 use kr_code::Code;
 use kr_mean::Flow;
 use kr_run_frames::{FlowFrame, Stack, TestFrame, ValueFrame, Waiting};
-use kr_run_state::{Action, World, element, load_named};
-use kr_value::Value;
+use kr_run_state::{Action, World, class_of, element, load_named, made_number};
+use kr_value::{Class, Obj, SlotPlace, Spot, Value};
 
 /// A value passes a frame that makes a value of it.
 #[inline(always)]
@@ -143,6 +147,48 @@ fn value_ahead(code: &Code, world: &mut World, stack: &Stack, given: Value) -> O
     Some(value)
 }
 
+/// A field of a candidate, which is read, if there is memory.
+#[inline(always)]
+fn candidate_field(world: &mut World, object: Obj, at: u32) -> Option<Value>
+    requires { object < length world.old.candidates }
+    ensures agrees { IfSome result (λ v. Agrees (Ok v) world.new world.old (λ x. load_step (Reference object) (Field at) (state_at world.old x))) }
+    ensures only { OnlyReads world.old world.new }
+{
+    let Some(value) = world.candidates.read(object, Spot::Field(at)) else {
+        return None;
+    };
+    match world.reads.note(SlotPlace::At(object, Spot::Field(at))) {
+        Ok(()) => Some(value),
+        Err(_) => None,
+    }
+}
+
+/// The field of a name, or an array's length, if it can be read: a run pauses before it reads a candidate, so a candidate's
+/// field costs little here, and one of what the run has made isn't looked for.
+#[inline(always)]
+#[tactic(auto, unfolding(kr_mean::specs::Steps::bind))]
+fn load(code: &Code, world: &mut World, name: u32, object: Value) -> Option<Value>
+    ensures agrees { IfSome result (λ v. Agrees (Ok v) world.new world.old (λ x. load_named_step code.now name object (state_at world.old x))) }
+    ensures only { OnlyReads world.old world.new }
+{
+    match object {
+        Value::Ref(number) => match class_of(world, number) {
+            Class::Object(class) => match code.position(name, class) {
+                Some(at) => match made_number(world, number) {
+                    None => candidate_field(world, number, at),
+                    Some(_) => None,
+                },
+                None => None,
+            },
+            _ => match load_named(code, world, name, object) {
+                Ok(value) => Some(value),
+                Err(_) => None,
+            },
+        },
+        _ => None,
+    }
+}
+
 /// A value is read, of a field or an element, if it can be.
 #[inline(always)]
 #[tactic(auto, unfolding(kr_mean::specs::Steps::bind))]
@@ -151,10 +197,7 @@ fn read(code: &Code, world: &mut World, action: Action) -> Option<Value>
     ensures only { OnlyReads world.old world.new }
 {
     match action {
-        Action::Load(name, object) => match load_named(code, world, name, object) {
-            Ok(value) => Some(value),
-            Err(_) => None,
-        },
+        Action::Load(name, object) => load(code, world, name, object),
         Action::Element(array, index) => match element(world, array, index) {
             Ok(value) => Some(value),
             Err(_) => None,

@@ -33,7 +33,7 @@ fn loaded(code: &Code, world: &World, name: u32, object: Value, fuel: u64) -> Op
 
 /// An operator with its operand.
 #[inline(always)]
-fn operated_alone(
+pub(crate) fn operated_alone(
     code: &Code,
     world: &World,
     operation: UnaryOperation,

@@ -1,4 +1,4 @@
--- Shards that were read, put together, are what their files come to.
+-- Shards that were read, put together, are what their files give.
 use Rattle.std.proofs.Common.{◌≡◌, ℕ, ◌+◌, List, [], ◌∷◌, ◌++◌, map, refl, sym, ap, ap₂, ◌∙◌, arith}
 use Rattle.std.specs.Prelude.{Option, Some, None, option_map, Result, Ok, Err, codes, decimal}
 use Rattle.std.specs.List.{sum_by}

@@ -1,5 +1,5 @@
 -- Rows of shards, one shard after another.
-use Rattle.std.proofs.Common.{◌≡◌, ℕ, zero, suc, ◌+◌, ◌-◌, ◌^◌, List, [], ◌∷◌, ◌++◌, append_assoc, length, map, min, take, drop, refl, sym, ap, ◌∙◌, arith}
+use Rattle.std.proofs.Common.{◌≡◌, ℕ, zero, suc, ◌+◌, ◌-◌, ◌^◌, List, [], ◌∷◌, ◌++◌, append_assoc, map, min, take, drop, refl, sym, ap, ◌∙◌, arith}
 use Rattle.std.specs.Prelude.{Option, Some, None, slice_get}
 use Rattle.std.specs.List.{sum_by}
 use Rattle.std.proofs.lemmas.List.Sums.{sum_by-cons}
@@ -27,10 +27,6 @@ sum_next (x ∷ all) (suc i) rows e =
 
 pub capped_more : (before now sum next more : ℕ) → before ≡ capped sum → now ≡ min (before + more) (2 ^ 64 - 1) → next ≡ sum + more → now ≡ capped next
 capped_more before now sum next more p q e = omega arith
-
-pub all_taken : (all : List RowLines) → take (length all) all ≡ all
-all_taken [] = refl
-all_taken (x ∷ all) = ap (λ (l : List RowLines). x ∷ l) (all_taken all)
 
 -- ---- their bytes
 

@@ -1,4 +1,4 @@
--- To be believed: what files of shards come to: they are read in order, and each is checked before the next is read.
+-- To be believed: what files of shards give: they are read in order, and each is checked before the next is read.
 use Rattle.std.specs.Prelude.{◌≡◌, ℕ, ◌≤◌, ◌⊎◌, List, [], ◌∷◌, length, nat_le, Option, Some, None, IfSome, option_and_then, option_map, Result, Ok, Err, slice_index_or, if◌then◌else◌}
 use Rattle.kr_report.specs.Reports.{Answer, line_answer}
 use Rattle.kr_report.specs.Texts.{memory_text}
@@ -42,7 +42,7 @@ shards_in held (name ∷ names) = option_and_then (λ bytes. and_later (judged n
 
 -- ---- together
 
--- Want of memory is no fault of shards.
+-- Being out of memory is no fault of shards.
 abbrev pub fault_line : List (List ℕ) → MergeRefusal → List ℕ
 fault_line names (Overlap number) = overlap_text (slice_index_or names number [])
 fault_line names (Gap to from) = gap_text to from

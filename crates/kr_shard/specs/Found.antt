@@ -95,7 +95,7 @@ HasReadAll held faults last names files files' (Err (Read file)) = FailsToRead h
 
 -- ---- What is found
 
--- what shards come to together
+-- what shards give together
 abbrev pub JoinsShards : List Shard → Result Merged MergeStop → Type 0
 JoinsShards shards (Ok merged) = (names : List (List ℕ)) → joined_of names shards ≡ merged_answer merged
 JoinsShards shards (Err (Refused fault)) = (names : List (List ℕ)) → joined_of names shards ≡ line_answer 9 (fault_text names fault)

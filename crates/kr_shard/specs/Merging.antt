@@ -1,4 +1,4 @@
--- To be believed: what shards come to that are put together.
+-- To be believed: what shards give that are put together.
 use Rattle.kr_base.specs.Causes.{capped}
 use Rattle.std.specs.Prelude.{◌≡◌, ℕ, ◌+◌, ◌-◌, ◌^◌, List, [], ◌∷◌, Bool, map, min, Option, Some, None, Result, Ok, Err, is_some, if◌then◌else◌}
 use Rattle.std.specs.List.{sum_by}

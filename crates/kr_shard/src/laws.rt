@@ -1,4 +1,4 @@
-// What holds of the listings that files of shards come to.
+// What holds of the listings that files of shards give.
 ghost use Rattle.kr_shard.specs.Files.{OneMerge};
 
 /// Files of shards have at most one answer.

@@ -1,4 +1,4 @@
-// The listing that shards come to, written.
+// Writes the listing that shards give.
 ghost use Rattle.std.specs.Prelude.{◌≡◌, ◌++◌, codes, map};
 ghost use Rattle.std.specs.List.{sum_by};
 ghost use Rattle.kr_base.specs.Causes.{capped};

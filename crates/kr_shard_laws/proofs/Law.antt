@@ -1,4 +1,4 @@
--- Shards of spans that adjoin come to the one listing.
+-- Shards of spans that adjoin give the one listing.
 use Rattle.std.proofs.Common.{◌≡◌, ℕ, ◌+◌, ◌-◌, ◌*◌, ◌<◌, ◌≤◌, ◌^◌, Bool, true, false, List, [], ◌∷◌, ◌++◌, map, length, min, refl, sym, ap, ◌∙◌, subst, arith, decimal, Option, Some, None}
 use Rattle.std.specs.Prelude.{Result, Ok, codes, filter, if◌then◌else◌, nat_lt}
 use Rattle.std.specs.List.{AllByRecursion, sum_by}

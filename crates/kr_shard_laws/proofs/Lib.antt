@@ -19,4 +19,5 @@ pub mod Tested
 pub mod Lengths
 pub mod Tokens
 pub mod Derived
+pub mod PredefinedNames
 pub mod SourceNames

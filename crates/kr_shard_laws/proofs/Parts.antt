@@ -81,7 +81,7 @@ none_within b (e ∷ es) = go (less b (At e.key)) (none_within b es)
     go true rest = rest
     go false rest = rest
 
--- shards come to these entries
+-- shards give these entries
 pub record AddUp (problem : Problem) (gs : List Given) (all : List (Entry Row)) : Type 0 where
   pub bytes : lines (map bytes_in (through_spent gs)) ≡ lines (map (row_text problem) (rows_in all))
   pub key : spent_in gs ≡ spent_key all
@@ -134,7 +134,7 @@ module _ (problem : Problem) (es : List (Entry Row)) (listing : IsListing proble
           let own : length (rows_in (of_span s)) ≤ MOST_BYTES = few.0 in
           omega (arith, n, own, rest)
 
-  -- ---- what shards come to
+  -- ---- what shards give
 
   unfoldable pub shard_made : Span → Shard
   shard_made s = made problem s (of_span s)

@@ -1,15 +1,17 @@
 -- The names of classes, fields and parameters in files that were read, and how many contract lines a method has.
-use Rattle.std.proofs.Common.{ℕ, ◌+◌, ◌≤◌, Bool, true, false, List, [], ◌∷◌, length, Some, None, arith}
+use Rattle.std.proofs.Common.{ℕ, ◌+◌, ◌≤◌, Bool, true, false, List, [], ◌∷◌, length, Some, None, sym, subst, arith}
 use Rattle.std.specs.Prelude.{flat_map}
 use Rattle.std.specs.List.{AllByRecursion}
 use Rattle.kr_ast.specs.Tree as trees
 use Rattle.kr_ast.specs.Tree.{Tree}
+use Rattle.kr_classes_table.specs.Predefined.{Predefined, listed_before, predefined, predefined_classes}
 use Rattle.kr_classes_table.specs.Table.{Field, Heading, Method, classes_from, declared_in, fields_in, heading_of, headings_from, headings_of, items, methods_in, parameters_in, table_of, with_nested}
 use Rattle.kr_laws_never_stuck.specs.Apart.{all_fields}
-use Rattle.kr_laws_never_stuck.specs.Grown.{IsGrown, AreGrown}
+use Rattle.kr_laws_never_stuck.specs.Grown.{IsGrown, AreGrown, AreProgram}
 use Rattle.kr_shard_laws.specs.Names.{ContractLinesLaw, IsIdentifier, NamesLaw, all_methods}
 use Rattle.kr_shard_laws.proofs.Tokens.{all_names}
 use Rattle.kr_shard_laws.proofs.Lengths.{tokens_few}
+use Rattle.kr_shard_laws.proofs.PredefinedNames.{predefined_names}
 use Rattle.kr_shard_laws.proofs.Derived.{AllItems, IsDeclared, IsParameter, Named, of_file}
 use Rattle.kr_space_meaning.proofs.Each.{each_of_both, each_weaker}
 
@@ -106,13 +108,27 @@ module _ (most : ℕ) where
       (of_items file (of_file IsIdentifier most d.tokens file d.derived (all_names d.spelled.1) (omega (arith, short.0, tokens_few d.spelled.1)))) (of_files (n + 1) sources files short.1 g.1)
   of_files n _ _ short g = absurd g
 
+  of_predefined : (k : ℕ) (cs : List Predefined) → AllByRecursion (λ c. IsIdentifier c.name) cs → AllByRecursion (Named IsIdentifier most false) (items (listed_before k cs trees.Nil))
+  of_predefined k [] h = tt
+  of_predefined k (c ∷ cs) h = ((h.0, tt), of_predefined (k + 1) cs h.1)
+
+  predefined_named : AllByRecursion (Named IsIdentifier most false) (items predefined)
+  unfolding predefined
+  predefined_named = of_predefined 0 predefined_classes predefined_names
+
+  of_program : (sources : List (List ℕ)) (files : List Tree) → AllByRecursion (λ bytes. length bytes ≤ most) sources → AreProgram sources files → AllByRecursion (Named IsIdentifier most false) (flat_map items files)
+  of_program sources [] short g = absurd g
+  of_program sources (tree ∷ files) short g =
+      each_of_both (Named IsIdentifier most false) (items tree) (flat_map items files)
+      (subst (λ (t : Tree). AllByRecursion (Named IsIdentifier most false) (items t)) (sym g.0) predefined_named) (of_files 0 sources files short g.1)
+
   heading_names : (hs : List Heading) → AllByRecursion IsHeading hs → AllByRecursion (λ h. IsIdentifier h.name) hs
   unfolding IsHeading
   heading_names [] h = tt
   heading_names (x ∷ xs) h = (h.0.0, heading_names xs h.1)
 
-  headings : (sources : List (List ℕ)) (files : List Tree) → AllByRecursion (λ bytes. length bytes ≤ most) sources → AreGrown 0 sources files → AllByRecursion IsHeading (headings_of files)
-  headings sources files short g = of_headings 0 (flat_map items files) (of_files 0 sources files short g)
+  headings : (sources : List (List ℕ)) (files : List Tree) → AllByRecursion (λ bytes. length bytes ≤ most) sources → AreProgram sources files → AllByRecursion IsHeading (headings_of files)
+  headings sources files short g = of_headings 0 (flat_map items files) (of_program sources files short g)
 
 -- ---- all sources
 

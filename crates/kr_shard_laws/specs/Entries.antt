@@ -54,6 +54,6 @@ LinesLaw = (problem : Problem) → MakesLines problem → (e : Entry Row) → Is
 abbrev pub EntriesLaw : Type 0
 EntriesLaw = (problem : Problem) → problem.mode ≡ Listing → MakesLines problem → IsListing problem (all_entries problem)
 
--- What sources and the bytes of a finitization come to, for a listing or a test, is such a problem.
+-- What sources and the bytes of a finitization give, for a listing or a test, is such a problem.
 abbrev pub AcceptedLinesLaw : Type 0
 AcceptedLinesLaw = (sources : List (List ℕ)) (bytes : List ℕ) (mode : Mode) (problem : Problem) → IsAccepted sources bytes mode problem → MakesLines problem

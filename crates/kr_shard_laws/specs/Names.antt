@@ -7,7 +7,7 @@ use Rattle.kr_lex.specs.Words.{IsName}
 use Rattle.kr_ast.specs.Tree.{Tree}
 use Rattle.kr_classes_table.specs.Table.{Method, Table, headings_of, table_of}
 use Rattle.kr_laws_never_stuck.specs.Apart.{all_fields}
-use Rattle.kr_laws_never_stuck.specs.Grown.{AreGrown}
+use Rattle.kr_laws_never_stuck.specs.Grown.{AreProgram}
 
 -- a name that is no keyword, nor `true`, `false` or `null`
 pub record IsIdentifier (text : List ℕ) : Type 0 where
@@ -24,8 +24,8 @@ pub record AreNamed (files : List Tree) : Type 0 where
   pub parameters : AllByRecursion (λ m. AllByRecursion (λ p. IsIdentifier p.name) m.parameters) (all_methods (table_of files))
 
 abbrev pub NamesLaw : Type 0
-NamesLaw = (sources : List (List ℕ)) (files : List Tree) → AreGrown 0 sources files → AreNamed files
+NamesLaw = (sources : List (List ℕ)) (files : List Tree) → AreProgram sources files → AreNamed files
 
 -- no method has more contract lines than a source may have bytes
 abbrev pub ContractLinesLaw : Type 0
-ContractLinesLaw = (most : ℕ) (sources : List (List ℕ)) (files : List Tree) → AllByRecursion (λ bytes. length bytes ≤ most) sources → AreGrown 0 sources files → AllByRecursion (λ m. length m.contracts ≤ most) (all_methods (table_of files))
+ContractLinesLaw = (most : ℕ) (sources : List (List ℕ)) (files : List Tree) → AllByRecursion (λ bytes. length bytes ≤ most) sources → AreProgram sources files → AllByRecursion (λ m. length m.contracts ≤ most) (all_methods (table_of files))

@@ -13,11 +13,11 @@ use Rattle.kr_shard.specs.Files.{MOST_BYTES}
 use Rattle.kr_shard_laws.specs.Spans.{Adjoin, IsInAnyOrder}
 use Rattle.kr_shard_laws.specs.Theorem.{ComesTo}
 
--- The entries of a problem that sources and the bytes of a finitization come to are those of a listing.
+-- The entries of a problem that sources and the bytes of a finitization give are those of a listing.
 abbrev pub ListingLaw : Type 0
 ListingLaw = (sources : List (List ℕ)) (bytes : List ℕ) (problem : Problem) → IsAccepted sources bytes Listing problem → IsListing problem (all_entries problem)
 
--- From 1 to 64 texts of at most 16 MiB that `shard` writes of spans of such a problem that adjoin, in any order, come to what `list`
+-- From 1 to 64 texts of at most 16 MiB that `shard` writes of spans of such a problem that adjoin, in any order, give what `list`
 -- writes of the whole.
 abbrev pub AcceptedShardsLaw : Type 0
 AcceptedShardsLaw = (sources : List (List ℕ)) (bytes : List ℕ) (problem : Problem) (spans given : List Span) (after : List ℕ) (upto : Bound) →

@@ -16,7 +16,7 @@ use Rattle.kr_shard_laws.specs.Listings.{IsListing, listing_in, shard_text}
 use Rattle.kr_shard.specs.Files.{MOST_BYTES}
 use Rattle.kr_shard_laws.specs.Spans.{Adjoin, IsInAnyOrder}
 
--- Texts are read as shards, which adjoin, and come to this answer.
+-- Texts are read as shards, which adjoin, and give this answer.
 pub record ComesTo (texts : List (List ℕ)) (answer : Answer) : Type 0 where
   pub shards : List Shard
   pub are : map shard_of texts ≡ map Ok shards
@@ -24,7 +24,7 @@ pub record ComesTo (texts : List (List ℕ)) (answer : Answer) : Type 0 where
   pub bytes : bytes_of (joined_answer (in_order (numbered 0 shards))) ≡ bytes_of answer
   pub status : (joined_answer (in_order (numbered 0 shards))).status ≡ answer.status
 
--- From 1 to 64 texts of at most 16 MiB that `shard` writes of spans that adjoin, in any order, come to the listing of the whole.
+-- From 1 to 64 texts of at most 16 MiB that `shard` writes of spans that adjoin, in any order, give the listing of the whole.
 abbrev pub ShardLaw : Type 0
 ShardLaw = (problem : Problem) (es : List (Entry Row)) (spans given : List Span) (after : List ℕ) (upto : Bound) →
     IsListing problem es → 1 ≤ length spans → length spans ≤ 64 → Adjoin (At after) spans upto → IsInAnyOrder spans given →

@@ -1,7 +1,7 @@
 -- The rules part by part.
-use Rattle.std.proofs.Common.{◌≡◌, ℕ, zero, suc, ◌+◌, ◌==◌, nat_lt, List, [], ◌∷◌, ◌++◌, length, map, get_or, Option, fold, refl, ap, sym, ◌∙◌, arith}
+use Rattle.std.proofs.Common.{◌≡◌, ℕ, zero, suc, ◌+◌, ◌==◌, nat_lt, List, [], ◌∷◌, ◌++◌, length, map, get_or, Option, fold, refl, ap, sym, ◌∙◌}
 use Rattle.std.specs.Prelude.{codes, flat_map}
-use Rattle.std.proofs.lemmas.List.{length-append, length-map, map-append}
+use Rattle.std.proofs.lemmas.List.{map-append}
 use Rattle.std.proofs.lemmas.List.Sums.{fold-append}
 use Rattle.kr_ast.specs.Tree.{Tree}
 use Rattle.kr_classes_table.specs.Types.{JavaType}
@@ -96,14 +96,6 @@ counts_are files document mode objects arrays counts o e c =
     ∙ (domain_counts setting
     ∙ (ap (λ (os : List (ℕ × Count)). object_counts os ++ map (λ a. a.1.count) setting.arrays) (sym o)
     ∙ (ap (λ (bs : List (JavaType × ArrayBound)). object_counts objects ++ map (λ a. a.1.count) bs) (sym e) ∙ sym c)))
-
--- how many domains there are
-pub domains_long : (setting : Setting) → length (domains_of setting) ≡ length setting.objects + length setting.arrays
-domains_long setting =
-    let l = length-append (map (object_domain setting) setting.objects) (map (array_class_domain setting) setting.arrays) in
-    let a = length-map setting.objects (object_domain setting) in
-    let b = length-map setting.arrays (array_class_domain setting) in
-    omega (arith, l, a, b)
 
 count_got : (ds : List problems.ClassDomain) (d : ℕ) → (get_or ds d no_objects).count ≡ get_or (counts_of ds) d 0
 count_got [] d = refl

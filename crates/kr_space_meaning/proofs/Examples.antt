@@ -1,5 +1,6 @@
 -- The examples, by computing.
 use Rattle.std.proofs.Common.{refl}
+use Rattle.kr_classes_table.specs.Predefined.{predefined}
 use Rattle.kr_classes_table.specs.Table.{table_of}
 use Rattle.kr_space_meaning.specs.Names.{array_type, class_of, meant}
 use Rattle.kr_space_meaning.specs.Bounds.{setting_of, width_for, root_domain, problem_in}
@@ -22,7 +23,7 @@ problems = record {
 }
 
 pub refusals : Refusals
-unfolding table_of array_type class_of meant setting_of width_for root_domain problem_in faults_in
+unfolding predefined table_of array_type class_of meant setting_of width_for root_domain problem_in faults_in
 refusals = record {
   root_unknown = refl;
   class_unknown = refl;
@@ -35,6 +36,10 @@ refusals = record {
   no_values = refl;
   empty_range = refl;
   no_objects_named = refl;
+  predefined_beside = refl;
+  predefined_objects = refl;
+  predefined_name = refl;
+  predefined_root = refl;
   no_root_objects = refl;
   unfit_number = refl;
   unfit_truth = refl;

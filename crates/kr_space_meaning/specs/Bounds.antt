@@ -103,7 +103,7 @@ meant_values setting name (names.Objects c) = all_of (object_number 0 setting.ob
 meant_values setting name (names.Arrays t) = all_of (bound_number (length setting.objects) setting.arrays t)
 meant_values setting name Unknown = []
 
--- the width at which a domain's numbers are made: values have none, so one stands for each type
+-- the width at which a domain's numbers are made: values have none, so it is the same for each type
 unfoldable pub width_for : Option JavaType → Width
 width_for t = Bits32
 

@@ -4,6 +4,7 @@ use Rattle.kr_ast.specs.declared.node.BinaryOperator.TheVariants.{Equal}
 use Rattle.kr_ast.specs.Tree as trees
 use Rattle.kr_ast.specs.Tree.{Tree, Nil}
 use Rattle.kr_ast.specs.declared.node.Primitive.TheVariants.{Int as IntName, Boolean as BooleanName}
+use Rattle.kr_classes_table.specs.Predefined.{with_predefined}
 use Rattle.kr_classes_table.specs.Types.{JavaType, int_type, BooleanType, ArrayType}
 use Rattle.kr_value.specs.declared.value.Value.TheVariants.{Int, Bool as TruthValue, Null}
 use Rattle.kr_value.specs.declared.object.Class.TheVariants.{Object, Array}
@@ -122,6 +123,10 @@ shown (Some fault) = Some (rule_code fault.rule, fault.item)
 
 abbrev pub refused : List Tree → FinDoc → Mode → Option (Text × Text)
 refused classes document mode = shown (least (faults_of (files classes) document mode))
+
+-- the same of a program with the predefined classes
+abbrev pub refused_beside : List Tree → FinDoc → Mode → Option (Text × Text)
+refused_beside classes document mode = shown (least (faults_of (with_predefined (files classes)) document mode))
 
 abbrev pub broken : Text → Text → Option (Text × Text)
 broken rule item = Some (rule, item)
@@ -254,6 +259,11 @@ pub record Refusals : Type 0 where
   pub no_values : refused (node ∷ []) (node_with []) Listing ≡ broken (codes "S3") (codes "fields.N.next")
   pub empty_range : refused with_heir (of_heir one_heir (Range (pos 2) (pos 1) ∷ []) (name (codes "R") ∷ [])) Listing ≡ broken (codes "S3") (codes "fields.Base.a")
   pub no_objects_named : refused with_heir (of_heir (objects (codes "R") 1 ∷ []) (Number (pos 0) ∷ []) (name (codes "Base") ∷ [])) Listing ≡ broken (codes "S3") (codes "fields.R.b")
+  -- predefined classes are no classes of a finitization
+  pub predefined_beside : refused_beside (node ∷ []) two_nodes Listing ≡ None
+  pub predefined_objects : refused_beside (node ∷ []) (plain_document (codes "N") (objects (codes "N") 1 ∷ objects (codes "Throwable") 1 ∷ []) []) Listing ≡ broken (codes "S1") (codes "objects.Throwable")
+  pub predefined_name : refused_beside (node ∷ []) (node_with (name (codes "Throwable") ∷ [])) Listing ≡ broken (codes "S1") (codes "fields.N.next")
+  pub predefined_root : refused_beside (node ∷ []) (record two_nodes { root = codes "Throwable" }) Listing ≡ broken (codes "S3") (codes "this")
   pub no_root_objects : refused (node ∷ []) (plain_document (codes "N") [] []) Listing ≡ broken (codes "S3") (codes "this")
   pub unfit_number : refused (node ∷ []) (node_with (Number (pos 0) ∷ [])) Listing ≡ broken (codes "S4") (codes "fields.N.next")
   pub unfit_truth : refused with_heir (of_heir one_heir (Truth true ∷ []) (name (codes "R") ∷ [])) Listing ≡ broken (codes "S4") (codes "fields.Base.a")

@@ -5,6 +5,7 @@ use Rattle.std.specs.Int.Signed.{le_z}
 use Rattle.std.specs.List.{list_any}
 use Rattle.kr_classes_table.specs.Numbers.{is_within}
 use Rattle.kr_classes_table.specs.Types.{JavaType, NumberType, BooleanType, ClassType, is_same, is_reference}
+use Rattle.kr_classes_table.specs.Predefined.{is_predefined}
 use Rattle.kr_classes_table.specs.Table.{Table, Heading, Parameter, Method, fields_of, number_of, is_assignable}
 use Rattle.kr_mean.specs.Collections.{is_same_value}
 use Rattle.kr_mean.specs.declared.mode.Mode.{Mode}
@@ -45,8 +46,12 @@ abbrev pub is_unknown : Meant → Bool
 is_unknown Unknown = true
 is_unknown m = false
 
+-- the name is a predefined class's, of which no domain has objects; in version 2 names are those of object domains
+abbrev pub names_predefined : FinDoc → Text → Bool
+names_predefined document name = not (names_domains document) && is_predefined name
+
 abbrev pub names_unknown : List Heading → FinDoc → Item → Bool
-names_unknown hs document (Name name) = is_unknown (meant hs document name)
+names_unknown hs document (Name name) = is_unknown (meant hs document name) || names_predefined document name
 names_unknown hs document item = false
 
 -- the root is a class in version 1, and an object domain or an array type in version 2
@@ -59,8 +64,12 @@ abbrev pub owner_unknown : List Heading → Text → Bool
 owner_unknown hs key =
     if is_elements key then is_none (array_type hs (owner_part key)) else is_none (number_of hs (owner_part key))
 
+-- no class of the files has the name
+abbrev pub class_unknown : List Heading → Text → Bool
+class_unknown hs name = is_none (number_of hs name) || is_predefined name
+
 abbrev pub objects_unknown : List Heading → List Count → List Fault
-objects_unknown hs counts = flat_map (λ c. break_if (is_none (number_of hs c.class)) UnknownName (of_objects c.name)) counts
+objects_unknown hs counts = flat_map (λ c. break_if (class_unknown hs c.class) UnknownName (of_objects c.name)) counts
 
 abbrev pub arrays_unknown : List Heading → List ArrayBound → List Fault
 arrays_unknown hs bounds = flat_map (λ b. break_if (is_none (array_type hs b.name)) UnknownName (of_arrays b.name)) bounds

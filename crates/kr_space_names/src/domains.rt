@@ -1,22 +1,24 @@
 // Rule S1 in the domains of fields, elements and parameters.
-ghost use Rattle.std.specs.Prelude.{◌≡◌, IfOk, OnOk, fold, map, position};
+ghost use Rattle.std.specs.Prelude.{◌≡◌, ◌||◌, IfOk, OnOk, fold, map, position};
 ghost use Rattle.std.specs.List.{list_any};
 ghost use Rattle.kr_ast.specs.Arena.{root};
 ghost use Rattle.kr_fin.specs.Shapes.{is_dot};
 ghost use Rattle.kr_classes_table.specs.Table.{headings_of};
 ghost use Rattle.kr_classes_names.specs.Shown.{AreHeads};
 ghost use Rattle.kr_space_meaning.specs.Keys.{is_elements as names_elements, name_part as part_behind, owner_part as part_before};
-ghost use Rattle.kr_space_meaning.specs.Faults.{names_unknown, owner_unknown, owners_unknown, value_unknown, values_unknown};
+ghost use Rattle.kr_space_meaning.specs.Names.{meant};
+ghost use Rattle.kr_space_meaning.specs.Faults.{is_unknown, names_predefined, names_unknown, owner_unknown, owners_unknown, value_unknown, values_unknown};
 ghost use Rattle.kr_space_meaning.specs.Order.{lesser};
 ghost use Rattle.kr_classes_names.specs.Types.{Extends};
 ghost use Rattle.kr_space_names.specs.Meanings.{is_nothing};
 
-use crate::meaning::{Meaning, meaning_of};
+use crate::meaning::{Meaning, meaning_of, names_domains};
 use crate::names::item_of;
 use crate::written::array_type;
 use kr_ast::Tree;
 use kr_base::NoMemory;
 use kr_classes_names::{Heads, Types};
+use kr_classes_table::is_predefined;
 use kr_fin::{FinDoc, Item, Least, NamedDomain};
 use kr_space_meaning::SpaceRule;
 use std::alloc::Global;
@@ -102,7 +104,7 @@ pub(crate) fn owner_names(
 }
 
 /// Whether a name is meaningless.
-fn is_unknown(meaning: Meaning) -> bool
+fn is_meaningless(meaning: Meaning) -> bool
     ensures { result ≡ is_nothing meaning }
 {
     match meaning {
@@ -113,8 +115,26 @@ fn is_unknown(meaning: Meaning) -> bool
     }
 }
 
-/// Whether a value is a meaningless name.
+/// Whether a name is meaningless, or that of a predefined class, of which no domain has objects.
 #[tactic(auto, using(crate::proofs::Meanings::nothing_is))]
+fn is_name_unknown(
+    alloc: Global,
+    types: &mut Types,
+    trees: &[Tree],
+    heads: &Heads,
+    document: &FinDoc,
+    name: &[u8],
+) -> Result<bool, NoMemory>
+    requires { AreHeads trees.now heads.now }
+    ensures is { IfOk result (λ b. b ≡ is_unknown (meant (headings_of (map root trees.now)) document.now name.now) || names_predefined document.now name.now) }
+    ensures extends { Extends types.old types.new }
+{
+    let _ = trees;
+    let meaning = meaning_of(alloc, types, heads, document, name)?;
+    Ok(is_meaningless(meaning) || (!names_domains(document) && is_predefined(name)))
+}
+
+/// Whether a value is such a name.
 fn is_value_unknown(
     alloc: Global,
     types: &mut Types,
@@ -129,13 +149,14 @@ fn is_value_unknown(
 {
     let _ = trees;
     match item {
-        Item::Name(name) => Ok(is_unknown(meaning_of(
+        Item::Name(name) => is_name_unknown(
             alloc,
             types,
+            trees,
             heads,
             document,
             name.as_str().as_bytes(),
-        )?)),
+        ),
         Item::Number(_) => Ok(false),
         Item::Range(..) => Ok(false),
         Item::Truth(_) => Ok(false),

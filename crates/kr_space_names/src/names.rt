@@ -1,10 +1,10 @@
 // Rule S1: names that no class and no array type has.
-ghost use Rattle.std.specs.Prelude.{◌≡◌, ◌++◌, IfOk, OnOk, codes, flat_map, fold, map, string_bytes};
-ghost use Rattle.kr_ast.specs.Arena.{root};
+ghost use Rattle.std.specs.Prelude.{◌≡◌, ◌++◌, List, IfOk, OnOk, codes, flat_map, fold, map, string_bytes};
+ghost use Rattle.kr_ast.specs.Arena.{Arena, root};
 ghost use Rattle.kr_classes_table.specs.Table.{headings_of};
 ghost use Rattle.kr_classes_names.specs.Shown.{AreHeads};
 ghost use Rattle.kr_space_meaning.specs.Order.{break_if, lesser};
-ghost use Rattle.kr_space_meaning.specs.Faults.{arrays_unknown, objects_unknown, root_unknown};
+ghost use Rattle.kr_space_meaning.specs.Faults.{arrays_unknown, class_unknown, objects_unknown, root_unknown};
 ghost use Rattle.kr_classes_names.specs.Types.{Extends};
 
 use crate::meaning::{class_of, names_domains};
@@ -12,6 +12,7 @@ use crate::written::array_type;
 use kr_ast::Tree;
 use kr_base::NoMemory;
 use kr_classes_names::{Heads, Types};
+use kr_classes_table::is_predefined;
 use kr_fin::{ArrayBound, Count, FinDoc, Least};
 use kr_space_meaning::SpaceRule;
 use std::alloc::Global;
@@ -67,7 +68,14 @@ pub(crate) fn root_name(
     }
 }
 
-/// The class of each object domain is one.
+/// Whether no class of the files has this name.
+fn is_class_unknown(heads: &Heads, name: &[u8]) -> bool
+    ensures { (files : List Arena) → AreHeads files heads.now → result ≡ class_unknown (headings_of (map root files)) name.now }
+{
+    heads.number_of(name).is_none() || is_predefined(name)
+}
+
+/// The class of each object domain is one of the files.
 pub(crate) fn object_names(
     least: &mut Least<SpaceRule>,
     trees: &[Tree],
@@ -79,7 +87,7 @@ pub(crate) fn object_names(
 {
     let _ = trees;
     for count in counts {
-        if heads.number_of(count.class.as_str().as_bytes()).is_none() {
+        if is_class_unknown(heads, count.class.as_str().as_bytes()) {
             let item = item_of(least.alloc(), "objects.", count.name.as_str())?;
             least.note(SpaceRule::UnknownName, item.as_str())?;
         }

@@ -1,4 +1,4 @@
--- Keys each of which stands before the next one ascend.
+-- Keys each of which is before the next one ascend.
 use Rattle.std.proofs.Common.{◌≡◌, ℕ, List, [], ◌∷◌, true, refl}
 use Rattle.std.proofs.lemmas.Bool.{and_parts, and_from}
 use Rattle.kr_base.specs.declared.entry.Entry.{Entry}

@@ -52,7 +52,7 @@ pub last-more : {R : Type 0} (b : Bound) (w : List (Entry R)) (e : Entry R) → 
 last-more b [] e = refl
 last-more b (x ∷ w) e = last-more (At x.key) w e
 
--- the walk up to an entry of which there is no more to walk behind it
+-- the walk up to an entry of which there is no more to walk after it
 pub take-here : {A : Type 0} (w : List A) (e : A) (m : ℕ) (rest : List A) → length w < m → (rest ≡ []) ⊎ (length w + 1 ≡ m) → take m (w ++ e ∷ rest) ≡ w ++ e ∷ []
 take-here [] e zero rest h o = absurd (omega arith)
 take-here {A} [] e (suc m) rest h (inl o) = ap (λ (l : List A). e ∷ take m l) o ∙ ap (λ (l : List A). e ∷ l) (take_all m [] (omega arith))

@@ -24,7 +24,7 @@ is_stopped m w = any_spent w || (length w == m)
 abbrev pub walk : {R : Type 0} → Bound → Bound → ℕ → List (Entry R) → List (Entry R)
 walk a b m es = take m (through_spent (within a b es))
 
--- nothing of a list is up to a key that stands before all of it
+-- nothing of a list is up to a key that is before all of it
 none_after : {R : Type 0} (a : Bound) (k : List ℕ) (es : List (Entry R)) → AllAfter k es → within a (At k) es ≡ []
 none_after a k [] h = refl
 none_after {R} a k (e ∷ es) h =
@@ -109,7 +109,7 @@ stops {R} a b m (e ∷ es) asc h =
       | false ↦ λ q s. skip a b e es (walk a b (suc m) es) q asc (stops a b m es asc.1 s)
     ] refl h
 
--- one that wasn't comes to the end
+-- one that wasn't reaches the end
 last : {R : Type 0} (e : Entry R) (xs : List (Entry R)) → ((n : ℕ) → is_stopped (suc n) (take (suc n) (through_spent xs)) ≡ false → take (suc n) (through_spent xs) ≡ xs)
     → (n : ℕ) (t : Bool) → is_spent e.mark ≡ t → is_stopped (suc n) (e ∷ take n (if t then [] else through_spent xs)) ≡ false → e ∷ take n (if t then [] else through_spent xs) ≡ e ∷ xs
 last {R} e xs on n true q s =

@@ -29,7 +29,7 @@ impl Model for ListSurvey {
     ghost invariant = { λ s. Ascends s.entries.items };
 }
 
-// Whether each key stands before the next one, from a key on.
+// Whether each key is before the next one, from a key on.
 fn ascends_from(first: &Cut, entries: &[Entry<Cut>]) -> bool
     ensures { result ≡ ascends_from first.now entries.now }
 {

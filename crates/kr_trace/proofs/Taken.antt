@@ -1,4 +1,4 @@
--- A file that is longer than is checked is told by one byte more.
+-- A file that is longer than is checked is recognized by one byte more.
 use Rattle.std.proofs.Common.{◌≡◌, ◌∙◌, ℕ, ◌+◌, ◌^◌, ◌<◌, ◌≤◌, ◌⊎◌, inl, inr, List, Bool, true, false, length, take, refl, sym, ap, subst, arith, nat_lt}
 use Rattle.std.specs.Prelude.{Option, Some, None, IfSome, Result, Ok, Err, if◌then◌else◌}
 use Rattle.std.proofs.lemmas.List.{length-take, take_all}

@@ -1,16 +1,16 @@
 // The machine of a board, with its segments found by number.
-ghost use Rattle.std.specs.Prelude.{◌≡◌, ◌<◌, ◌+◌, ◌&&◌, true, IfOk, OnOk, IfSome, IfNone, if◌then◌else◌, nat_le, nat_lt};
+ghost use Rattle.std.specs.Prelude.{◌≡◌, ◌<◌, ◌+◌, true, IfOk, OnOk, IfSome, IfNone};
 ghost use Rattle.std.specs.List.{list_all, sum_by};
-ghost use Rattle.kr_base.specs.Bounds.{is_cut, is_same};
+ghost use Rattle.kr_base.specs.Bounds.{is_same};
 ghost use Rattle.kr_base.specs.Causes.{capped};
 ghost use Rattle.kr_core.specs.Cutting.{cuts_for};
-ghost use Rattle.kr_core.specs.Openings.{end_of, opening};
+ghost use Rattle.kr_core.specs.Openings.{opening};
 ghost use Rattle.kr_core.specs.States.{is_closed, segment_of};
 ghost use Rattle.kr_core.specs.Steps.{after, fits, may_give_up, may_report, may_steal, may_stop, may_take};
 
 use crate::chain::Chain;
 use kr_base::{Bound, Cut, NoMemory, Span};
-use kr_core::{Event, Segment, cuts_for};
+use kr_core::{Event, Segment, counts_fit, cuts_for, end_of};
 use std::alloc::Global;
 use std::marker::Model;
 
@@ -33,16 +33,6 @@ fn may_steal(chain: &Chain, victim: u64, cut: &Cut) -> bool
         Some(segment) => {
             segment.is_owned() && segment.mark.is_below_cut(cut) && segment.upto.is_above_cut(cut)
         }
-    }
-}
-
-fn counts_fit(reach: &Bound, rows: u64, tried: u64, spent: bool) -> bool
-    ensures { result ≡ (if spent then is_cut reach.now && nat_lt rows tried else nat_le rows tried) }
-{
-    if spent {
-        reach.is_cut() && rows < tried
-    } else {
-        rows <= tried
     }
 }
 
@@ -92,17 +82,6 @@ fn may_stop(chain: &Chain, mark: &Cut) -> bool
     match chain.first() {
         None => false,
         Some(segment) => is_at(&segment.mark, mark),
-    }
-}
-
-/// Where the span ends: no lower than where it begins.
-fn end_of(span: &Span) -> Result<Bound, NoMemory>
-    ensures { IfOk result (λ end. end ≡ end_of span.now) }
-{
-    if span.upto.is_above_cut(&span.after) {
-        span.upto.try_clone()
-    } else {
-        Ok(Bound::At(span.after.try_clone()?))
     }
 }
 

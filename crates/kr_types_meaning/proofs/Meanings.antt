@@ -5,6 +5,7 @@ use Rattle.kr_ast.specs.declared.node.BinaryOperator.TheVariants.{Add, Less}
 use Rattle.kr_ast.specs.Tree as trees
 use Rattle.kr_ast.specs.Tree.{Nil}
 use Rattle.kr_classes_table.specs.Types.{int_type, BooleanType, NullType, ClassType, SetType, ListType, ArrayType, InferredType}
+use Rattle.kr_classes_table.specs.Predefined.{predefined, with_predefined}
 use Rattle.kr_classes_table.specs.Table.{table_of, class_at, ancestors, fields_of, field_named, method_named, constructor_parameters, is_assignable, are_related}
 use Rattle.kr_classes_table.specs.Nodes.{nodes}
 use Rattle.kr_classes_table.specs.Arrays.{array_types_of, array_number}
@@ -190,12 +191,12 @@ second_outer : refusal nested_in_second ≡ None
 unfolding table_of class_fault is_constant evaluated constant_width values_of judged type_fault
 second_outer = refl
 
-most_classes : refusal (list_of (classes_on 1 64) ∷ []) ≡ None
-unfolding table_of class_fault is_constant evaluated constant_width values_of judged type_fault
+most_classes : refusal (with_predefined (list_of (classes_on 1 64) ∷ [])) ≡ None
+unfolding predefined table_of class_fault is_constant evaluated constant_width values_of judged type_fault
 most_classes = refl
 
-too_many_classes : refusal (list_of (classes_on 1 66) ∷ []) ≡ Some (class_rule_at 8 0 65 7)
-unfolding table_of class_fault is_constant evaluated constant_width values_of judged type_fault
+too_many_classes : refusal (with_predefined (list_of (classes_on 1 66) ∷ [])) ≡ Some (class_rule_at 8 0 65 7)
+unfolding predefined table_of class_fault is_constant evaluated constant_width values_of judged type_fault
 too_many_classes = refl
 
 object_methods : map (λ f. f.place.line) (flat_map (C6 (table_of kept_methods) 0) (table_of kept_methods).classes) ≡ 1 ∷ 2 ∷ 3 ∷ 4 ∷ 5 ∷ 6 ∷ []

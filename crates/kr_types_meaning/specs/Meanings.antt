@@ -8,6 +8,7 @@ use Rattle.kr_ast.specs.declared.node.StepOperator.TheVariants.{IncrementBefore}
 use Rattle.kr_ast.specs.Tree as trees
 use Rattle.kr_ast.specs.Tree.{Tree, Nil}
 use Rattle.kr_classes_table.specs.Types.{int_type, BooleanType, NullType, ClassType, SetType, ListType, ArrayType, InferredType}
+use Rattle.kr_classes_table.specs.Predefined.{with_predefined}
 use Rattle.kr_classes_table.specs.Table.{Table, Class, table_of, class_at, ancestors, fields_of, field_named, method_named, constructor_parameters, is_assignable, are_related}
 use Rattle.kr_classes_table.specs.Rules.{C6}
 use Rattle.kr_classes_table.specs.Nodes.{nodes}
@@ -275,9 +276,9 @@ pub record Meanings : Type 0 where
   pub no_outer_method : refusal method_of_outer ≡ Some (type_rule_at 24 0 2 4)
   pub outer_numbers : map (λ d. d.outer) (table_of nested_in_second).classes ≡ None ∷ Some 0 ∷ None ∷ Some 2 ∷ []
   pub second_outer : refusal nested_in_second ≡ None
-  -- 64 classes are taken, and no more
-  pub most_classes : refusal (list_of (classes_on 1 64) ∷ []) ≡ None
-  pub too_many_classes : refusal (list_of (classes_on 1 66) ∷ []) ≡ Some (class_rule_at 8 0 65 7)
+  -- 64 classes beside the predefined ones are taken, and no more
+  pub most_classes : refusal (with_predefined (list_of (classes_on 1 64) ∷ [])) ≡ None
+  pub too_many_classes : refusal (with_predefined (list_of (classes_on 1 66) ∷ [])) ≡ Some (class_rule_at 8 0 65 7)
   -- names that are kept
   pub object_methods : map (λ f. f.place.line) (flat_map (C6 (table_of kept_methods) 0) (table_of kept_methods).classes) ≡ 1 ∷ 2 ∷ 3 ∷ 4 ∷ 5 ∷ 6 ∷ []
   pub collection_name : refusal (list_of (trees.Class (at 0 1 7) (codes "LinkedList") Nil Nil ∷ []) ∷ []) ≡ Some (class_rule_at 1 0 1 7)

@@ -13,7 +13,7 @@ use kr_base::NoMemory;
 use kr_classes_names::Index;
 use std::alloc::Global;
 
-/// Of each name by its number the place behind its newest local, 0 where there is none; of each binding that was entered what that
+/// Of each name by its number the place after its newest local, 0 where there is none; of each binding that was entered what that
 /// was before it, for its name. Where a place isn't reached through the bindings that were entered, all of it is lost.
 #[derive(Drop)]
 pub(crate) struct Newest {
@@ -136,7 +136,7 @@ impl Newest {
         Ok(())
     }
 
-    /// Notes the binding of that name, which is the next one and stands upon the place.
+    /// Notes the binding of that name, the next one after the place.
     fn note(&mut self, name: &[u8]) -> Result<(), NoMemory>
         requires { length self.old.outer.items + 1 < 2 ^ 32 }
         ensures noted { OnOk result (self.new.is_lost ≡ false → IsEntered self.old self.new name.now) }

@@ -1,4 +1,6 @@
-use Rattle.std.proofs.Common.{List, ℕ, ap, sym, subst, ◌∙◌}
+use Rattle.std.proofs.Common.{◌≡◌, List, ℕ, ap, sym, subst, ◌∙◌}
+use Rattle.std.specs.Prelude.{slice_index}
+use Rattle.std.proofs.lemmas.List.{get_or-set_same}
 use Rattle.kr_iso.specs.Objects.{shown}
 use Rattle.kr_mean.specs.Space.{IsVector, space_of}
 use Rattle.kr_space_layout.specs.Bounds.{bare}
@@ -20,3 +22,8 @@ renew-requires-clause-heap c = record { old = c.args.vector.now; index = c.args.
 
 pub returns-in-None-clause-heap : goal.returns-in-None-clause-heap
 returns-in-None-clause-heap c = c.requires.heap ∙ sym (heap_without (bare c.args.layout.now) c.args.vector.now c.args.slot c.args.index c.requires.well c.set.new.self c.set.ensures (sym c.owner.ensures ∙ ap shown c.in-None.is))
+
+pub renew-requires-clause-index : goal.renew-requires-clause-index
+renew-requires-clause-index c =
+    subst (λ (u : List ℕ). c.args.index ≡ slice_index u c.args.slot) (sym c.set.ensures)
+    (sym (get_or-set_same c.args.vector.now c.args.slot c.args.index 0 (in_vector (bare c.args.layout.now) c.args.vector.now c.args.slot c.requires.vector c.requires.slot).slot))

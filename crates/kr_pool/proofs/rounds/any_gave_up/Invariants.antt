@@ -3,4 +3,4 @@ use Rattle.std.specs.List.{list_any}
 use Rattle.kr_pool.proofs.rounds.any_gave_up.Given as goal
 
 abbrev pub invariant-loop-hand : goal.invariant-loop-hand
-invariant-loop-hand g l = list_any (λ h. is_some h.seat.refused) l.hands ≡ list_any (λ h. is_some h.seat.refused) (drop l.hand-index l.hands)
+invariant-loop-hand g l = list_any (λ h. is_some h.refused) l.hands ≡ list_any (λ h. is_some h.refused) (drop l.hand-index l.hands)

@@ -11,7 +11,7 @@ pub returns-in-Bool-true : goal.returns-in-Bool-true
 returns-in-Bool-true g c =
     let code = c.args.code.now in
     let w = c.args.world.now in
-    value_then code w c.args.fuel c.in-Some.found (Truth true) c.follow.result (λ (d : Doing). d.value c.args.condition) (λ (d : Doing) (v : Value). choose v (d.exec c.args.then) (otherwise d c.args.otherwise)) (search rules) c.in-Some.ensures c.follow.ensures
+    value_then code w c.args.fuel c.in-Some.found (Truth true) c.taken.result (λ (d : Doing). d.value c.args.condition) (λ (d : Doing) (v : Value). choose v (d.exec c.args.then) (otherwise d c.args.otherwise)) (search rules) c.in-Some.ensures c.taken.ensures
 
 pub returns-in-None-otherwise : goal.returns-in-None-otherwise
 returns-in-None-otherwise g c =
@@ -27,6 +27,6 @@ returns-in-Some-otherwise g c =
     let code = c.args.code.now in
     let w = c.args.world.now in
     let found = c.in-Some.found in
-    let r = c.follow-in-Some-otherwise.result in
+    let r = c.follow.result in
     value_then code w c.args.fuel found (Truth false) r (λ (d : Doing). d.value c.args.condition) (λ (d : Doing) (v : Value). choose v (d.exec c.args.then) (otherwise d c.args.otherwise)) (search rules) c.in-Some.ensures
-    (otherwise_as code w found.fuel r c.args.otherwise (Some c.in-Some-otherwise.node) c.in-Some-otherwise.is c.follow-in-Some-otherwise.ensures)
+    (otherwise_as code w found.fuel r c.args.otherwise (Some c.in-Some-otherwise.node) c.in-Some-otherwise.is c.follow.ensures)

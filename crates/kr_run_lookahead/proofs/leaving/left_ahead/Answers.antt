@@ -15,3 +15,6 @@ returns-in-Comes c =
     let fs = c.args.stack.now in
     let all : length fs ≤ c.frames.at = search arith in
     told_last c.args.code.now (drop c.args.depth fs) (drop c.frames.at fs) (record { point = points.Gives c.args.given; fuel = c.args.fuel }) c.frames.stand c.in-Comes.value c.frames.invariant (none_below c.frames.at fs all) c.in-Comes.is
+
+pub frames-init : goal.frames-init
+frames-init c = c.body_end-at.ensures c.args.code.now c.args.given c.args.fuel

@@ -79,4 +79,13 @@ returns-in-Ok-clause-observed g c =
     let given = returns-in-Ok-clause-counted g c in
     let at = c.audit.ensures.whole c.requires.whole in
     let d = c.self.invariant.2 in
-    record { board = c.drain.new.self; calls = c.add.new.self.total; run = whole.0; given = omega (arith, more, given, at, d); finished_is = c.is_finished-finished.ensures }
+    let b = c.add.ensures.total in let e = c.add.ensures.amount in
+    record {
+      old = c.self.inside.board;
+      new = c.drain.new.self;
+      call = record { before = c.self.inside.calls.total; now = c.add.new.self.total; old_run = c.self.invariant.0; new_run = whole.0; counted = omega (arith, b, e) };
+      front = c.in-Ok.ensures.rows;
+      event = c.in-Ok.ensures.event;
+      given = omega (arith, more, given, at, d);
+      finished_is = c.is_finished-finished.ensures;
+    }

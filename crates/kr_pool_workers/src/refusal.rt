@@ -1,6 +1,6 @@
 // Out of memory, as a call of a seat's worker answered it.
 ghost use Rattle.std.specs.Prelude.{◌≡◌};
-ghost use Rattle.kr_pool_desk.specs.Refusals.{whose};
+ghost use Rattle.kr_pool_workers.specs.Refusals.{whose};
 
 use kr_base::NoMemory;
 

@@ -1,9 +1,8 @@
--- Predefined classes come after those of the files.
-use Rattle.std.proofs.Common.{◌≡◌, sym, ap, ◌∙◌, ℕ, ◌+◌, List, [], ◌∷◌, ◌++◌, length, append_assoc, append-nil, length-append, zero-add, arith}
+-- Headings of lists of items one after the other.
+use Rattle.std.proofs.Common.{◌≡◌, sym, ap, ◌∙◌, ℕ, ◌+◌, List, [], ◌∷◌, ◌++◌, length, append_assoc, length-append, arith}
 use Rattle.std.specs.Prelude.{None}
 use Rattle.kr_ast.specs.Tree.{Tree}
 use Rattle.kr_classes_table.specs.Table.{headings_from, heading_of, with_nested}
-use Rattle.kr_classes_table.specs.Laws.{PredefinedLaw}
 
 -- headings of more items come after those of earlier ones
 pub headings_append : (k : ℕ) (ts us : List Tree) → headings_from k (ts ++ us) ≡ headings_from k ts ++ headings_from (k + length (headings_from k ts)) us
@@ -13,7 +12,3 @@ headings_append k (t ∷ ts) us =
     let rest = headings_from (k + length own) ts in
     let e : k + length own + length rest ≡ k + length (own ++ rest) = omega (arith, length-append own rest) in
     ap (λ hs. own ++ hs) (headings_append (k + length own) ts us ∙ ap (λ n. rest ++ headings_from n us) e) ∙ sym (append_assoc own rest (headings_from (k + length (own ++ rest)) us))
-
-pub predefined_law : PredefinedLaw
-predefined_law own [] = sym (append-nil (headings_from 0 own))
-predefined_law own (t ∷ ts) = headings_append 0 own (t ∷ ts) ∙ ap (λ k. headings_from 0 own ++ headings_from k (t ∷ ts)) (zero-add (length (headings_from 0 own)))

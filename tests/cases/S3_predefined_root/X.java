@@ -1,0 +1,1 @@
+class N { N next; boolean repOk() { return true; } }

@@ -1,0 +1,2 @@
+class N { N next; boolean repOk() { return true; } }
+class Full extends RuntimeException { }
