@@ -12,7 +12,7 @@
 # `out of memory`; or, as long as it is the program's own words that are refused memory, with status 8 and no line. It stops
 # with status 1 at the first run that doesn't. It proves nothing. A malloc of its own, which is loaded before the C
 # library's, refuses. It needs bash 5, a C compiler as cc, and the program (run ./korat once); a listing of the cell has some
-# 300 allocations. Several workers don't always make as many allocations, nor in the same order: what is said holds of each run.
+# 500 allocations. Several workers don't always make as many allocations, nor in the same order: what is said holds of each run.
 top="$(cd "$(dirname "$(readlink -f "$0")")/.." && pwd)"
 refuse_as=one
 if [ "${1-}" = --as ]; then

@@ -3,7 +3,7 @@
 
     tests/programs.py [COUNT [SEED]]        20 programs and seed 1 where it isn't said
 
-Each program is a class with a predicate, other methods, constants, and a method under test with a contract. A copy of it, in which
+Each program is a class with a predicate, other methods, constants, and a method under test with a contract; it throws and catches. A copy of it, in which
 each node adds its unit to a counter when it is entered, runs on the virtual machine, on each structure and arguments within the
 bounds. `list` and `test` have to end as that says: with the method's results, which are written into one `ensures` more; and with
 the very rows where the fuel is just enough for all, and where it is just too little for some. KORAT names the program; KEEP
@@ -20,6 +20,10 @@ OPERATORS = ["+", "-", "*", "/", "%", "&", "|", "^", "<<", ">>", ">>>"]
 SHIFTS = ("<<", ">>", ">>>")
 STEPS = ["{}++", "{}--", "++{}", "--{}"]
 NUMBERS = ("int", "long")
+# The classes of exceptions, each with the one above it. A constructor of `Odd` and `Low` takes an int.
+ABOVE = {"Exception": None, "RuntimeException": "Exception", "NullPointerException": "RuntimeException", "ArithmeticException": "RuntimeException",
+         "IndexOutOfBoundsException": "RuntimeException", "ArrayIndexOutOfBoundsException": "IndexOutOfBoundsException",
+         "NegativeArraySizeException": "RuntimeException", "IllegalStateException": "RuntimeException", "Odd": "IllegalStateException", "Low": "Odd"}
 passed = failed = 0
 verdicts = collections.Counter()
 
@@ -42,6 +46,13 @@ class Box {
     long u = U.n(U.u(), 3);
     Box(int a, long b) { U.u(); U.u(); w = U.n(U.u(), a); U.u(); U.u(); u += U.n(U.u(), b); }
 }
+class Odd extends IllegalStateException {
+    int n;
+    Odd(int a) { U.u(); U.u(); n = U.n(U.u(), a); }
+}
+class Low extends Odd {
+    Low(int a) { super(U.n(U.u2(), a)); }
+}
 public class A {
     static final int[] V = { $v };
     static final long[] W = { $w };
@@ -58,6 +69,7 @@ $tested
 $conditions
     String test($x_kind x, $y_kind y, StringBuilder value) {
         String at = "check-trap ";
+$old_names
         try {
 $olds
             at = "trap ";
@@ -69,7 +81,15 @@ $olds
 $checks
             return "pass";
         } catch (RuntimeException e) {
-            return at + e.getClass().getSimpleName();
+            if (!at.equals("trap ") || !($fits)) return at + e.getClass().getSimpleName();
+            try {
+                U.u2();
+                if (!repOk()) return "repOk";
+$signals
+                return "pass";
+            } catch (RuntimeException f) {
+                return "check-trap " + f.getClass().getSimpleName();
+            }
         }
     }
     static A of(int i, int j, int[] key) {
@@ -117,6 +137,17 @@ $checks
     }
 }
 """)
+
+
+def is_below(name, above):
+    while name and name != above:
+        name = ABOVE[name]
+    return name == above
+
+
+def related(name):
+    """The classes that an object of this one may be of."""
+    return [other for other in ABOVE if is_below(name, other) or is_below(other, name)]
 
 
 def count(well, name):
@@ -307,6 +338,9 @@ class Program:
             array = self.array(scope, kind, depth - 1)
             if array:
                 return node("{}[{}]", array, self.index(scope, depth - 1))
+        caught = scope.of("Odd") + scope.of("Low")
+        if choice == 10 and kind == "int" and caught and self.often(0.6):
+            return node("{}.n", node(self.pick(caught)))
         if choice == 10:
             part = self.array(scope, self.pick(NUMBERS), depth - 1) if kind == "int" and self.often(0.5) else None
             if part:
@@ -340,6 +374,10 @@ class Program:
             return node("({} " + operator + " {})", self.truth(scope, depth - 1), self.truth(scope, depth - 1))
         if choice == 7:
             return node("(!{})", self.truth(scope, depth - 1))
+        caught = [(name, of) for name, of, _ in scope.names if of in ABOVE]
+        if choice >= 8 and caught and self.often(0.6):
+            name, of = self.pick(caught)
+            return node("({} instanceof " + self.pick(related(of)) + ")", node(name))
         names = scope.of("long[]") + scope.of("int[]")
         if choice == 8 and names:
             return node("({} " + self.pick(["==", "!="]) + " {})", node(self.pick(names)), node("null"))
@@ -365,7 +403,11 @@ class Program:
         return name, join("    " + kind + " " + name + " = {};", with_unit(value))
 
     def statement(self, scope, depth, result, in_loop):
-        choice = self.chance.randint(0, 17)
+        choice = self.chance.randint(0, 21)
+        if choice == 18 or choice == 19 and depth <= 0:
+            return [self.guarded(scope, join("throw {};", self.thrown(scope)))]
+        if choice >= 19 and depth > 0:
+            return self.attempt(scope, depth, result, in_loop)
         if choice <= 3:
             kind = self.pick(["int", "long", "long", "boolean"])
             return [self.local(scope, kind, self.into(scope, kind, 3))[1]]
@@ -409,6 +451,33 @@ class Program:
             made = self.call(scope, self.pick(scope.methods), 3)
             return [statement("{}", Text(made.plain + ";", "U.u(); " + made.counted + ";"))]
         return [statement(";")]
+
+    def thrown(self, scope, kinds=None):
+        """What is thrown: a new object, of such a class, a caught one, or null."""
+        caught = [name for name, of, _ in scope.names if of in ABOVE and of != "Exception"]
+        if caught and self.often(0.5):
+            return node(self.pick(caught))
+        if self.often(0.1):
+            return Text("null", "U.n(U.u(), (RuntimeException) null)")
+        name = self.pick(kinds or [name for name in ABOVE if name != "Exception"] + ["Odd", "Low"])
+        return node(f"new {name}({{}})", self.value(scope, "int", 1)) if name in ("Odd", "Low") else node(f"new {name}()")
+
+    def attempt(self, scope, depth, result, in_loop):
+        """A `try` with one to three of `catch`, none of which is below one before it."""
+        kinds = []
+        for kind in self.chance.choices(list(ABOVE), k=self.pick([1, 1, 2, 3])):
+            if not any(is_below(kind, one) for one in kinds):
+                kinds.append(kind)
+        made = [Text("    try {", "    U.u(); try { U.u();"), *self.statements(scope.inner(), self.chance.randint(0, 2), depth - 1, result, in_loop)]
+        if self.often(0.6):
+            fitting = [name for name in ABOVE if name != "Exception" and any(is_below(name, kind) for kind in kinds)]
+            made.append(self.guarded(scope, join("throw {};", self.thrown(scope, fitting))))
+        for kind in kinds:
+            inner, name = scope.inner(), self.fresh()
+            inner.names.append((name, kind, False))
+            head = f"    }} catch ({kind} {name}) {{"
+            made += [Text(head, head + " U.u2();"), *self.statements(inner, self.chance.randint(0, 2), depth - 1, result, in_loop)]
+        return made + [Text("    }")]
 
     def guarded(self, scope, last):
         """A statement under a condition, so that what follows is reached."""
@@ -502,15 +571,32 @@ class Program:
         self.requires = [node("({} | {})", node("({} < {})", node("x"), node("y")), self.truth(scope, 2))] if self.often(0.3) else []
         self.kind, self.olds = self.pick(NUMBERS), []
         self.ensures = [self.postcondition(scope) for _ in range(chance.randint(0, 2))]
+        self.signals = []
+        for _ in range(self.pick([0, 0, 1, 2])):
+            kind, name = self.pick(list(ABOVE) + ["Exception", "RuntimeException"]), self.fresh() if self.often(0.7) else None
+            inner = scope.inner()
+            if name:
+                inner.names.append((name, kind, False))
+            condition = self.truth(inner, 3)
+            if self.often(0.3):
+                of = self.pick(NUMBERS)
+                old = self.value(scope, of, 2)
+                part = Text(f"\\old({old.plain})", f"U.n(U.u(), old{len(self.olds)})")
+                self.olds.append((of, old))
+                condition = node("({} " + self.pick(["|", "&"]) + " {})", node("({} <= {})", part, self.number(scope, 1)), condition)
+            self.signals.append((kind, name, condition))
         self.tested = self.body(Scope(parameters + fields, methods), chance.randint(1, 4), self.kind)
 
     # ---- files
 
     def source(self, value_condition=None):
         text = ["class Box {", "  int w;", "  long u = 3;", "  Box(int a, long b) { w = a; u += b; }", "}"]
+        text += ["class Odd extends IllegalStateException {", "  int n;", "  Odd(int a) { n = a; }", "}"]
+        text += ["class Low extends Odd {", "  Low(int a) { super(a); }", "}"]
         text += ["class A {", "  int v;", "  long w;", f"  {self.element}[] d;"]
         text += [line.plain for line in self.lines]
         text += [f"  //@ requires {one.plain};" for one in self.requires] + [f"  //@ ensures {one.plain};" for one in self.ensures]
+        text += [f"  //@ signals ({kind}{' ' + name if name else ''}) {one.plain};" for kind, name, one in self.signals]
         if value_condition:
             text += value_condition[0]
         text += [f"  {self.kind} m({self.x_kind} x, {self.y_kind} y) {{"] + [line.plain for line in self.tested] + ["  }"]
@@ -537,13 +623,19 @@ class Program:
         conditions += [f"    boolean r{n}({parameters}) {{ return {one.counted}; }}" for n, one in enumerate(self.requires)]
         conditions += [f"    boolean e{n}({parameters}, {self.kind} result{olds}) {{ return {one.counted}; }}"
                        for n, one in enumerate(self.ensures)]
+        conditions += [f"    boolean s{n}({parameters}, {kind} {name or 'thrown'}{olds}) {{ return {one.counted}; }}"
+                       for n, (kind, name, one) in enumerate(self.signals)]
         keys = [[]] + [[place, *chosen] for place, length in enumerate(self.lengths) for chosen in itertools.product(range(2), repeat=length)]
         return COPY.substitute(
             package=package, x_kind=self.x_kind, y_kind=self.y_kind, kind=self.kind, element=self.element, v=many(self.v, "int"),
             w=many(self.w, "long"), x=many(self.x, self.x_kind), y=many(self.y, self.y_kind), elements=many(self.elements, self.element),
             members=lines(line.counted for line in self.lines), tested=lines(line.counted for line in self.tested), conditions=lines(conditions),
-            olds=lines(f"            {kind} old{n} = o{n}(x, y);" for n, kind in enumerate(kinds)),
+            old_names=lines(f"        {kind} old{n} = 0;" for n, kind in enumerate(kinds)),
+            olds=lines(f"            old{n} = o{n}(x, y);" for n in range(len(kinds))),
             checks=lines(f'            if (!e{n}(x, y, result{names})) return "ensures {n + 1}";' for n in range(len(self.ensures))),
+            fits=" || ".join(f"(Object) e instanceof {kind}" for kind, _, _ in self.signals) or "false",
+            signals=lines(f'                if ((Object) e instanceof {kind} && !s{n}(x, y, ({kind}) (Object) e{names})) return "signals {n + 1}";'
+                          for n, (kind, _, _) in enumerate(self.signals)),
             keys=", ".join(f"{{ {', '.join(map(str, key))} }}" for key in keys),
             requires=" && ".join(f"a.r{n}(X[x], Y[y])" for n in range(len(self.requires))) or "true")
 
@@ -642,7 +734,7 @@ def judge(number, program, truth, folder, chance):
     os.makedirs(folder)
     much = 100000
     values = [(key, value) for key, _, _, _, value in truth.tests if value]
-    verdicts.update(verdict.split(" ")[0] if verdict.startswith("ensures") else verdict for _, _, verdict, _, _ in truth.tests)
+    verdicts.update(verdict.split(" ")[0] if verdict.startswith(("ensures", "signals")) else verdict for _, _, verdict, _, _ in truth.tests)
     write(f"{folder}/A.java", program.source())
     write(f"{folder}/fin.toml", program.finitization(much))
     compare(name, ["list", "fin.toml", "A.java"], folder, truth.listing(much))

@@ -85,7 +85,7 @@ contract_form() {
     local word
     word=$(sed -nE 's|^//@[ \t]*([A-Za-z_]*).*|\1|p' <<<"$1")
     case $word in
-    requires | ensures) case $1 in *"/*"*) echo "/*" ;; *) echo ";" ;; esac ;;
+    requires | ensures | signals) case $1 in *"/*"*) echo "/*" ;; *) echo ";" ;; esac ;;
     *) echo "${word:-NAME}" ;;
     esac
 }
@@ -129,7 +129,7 @@ say_guess() {
         token=$(contract_form "$6") kind=$token
         [[ ! $token =~ ^[A-Za-z_]+$ ]] || kind=NAME
         ;;
-    P1 | P2 | T1 | T3) ;;
+    P1 | P2 | C2 | T1 | T3) ;;
     *) return ;;
     esac
     guessed=$(guess "$rule" "$token" "$kind" "$3")

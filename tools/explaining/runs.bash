@@ -69,7 +69,7 @@ explain_comments() {
         [ -f "$source" ] && [ -r "$source" ] || continue
         awk -v name="$source" '
             index($0, "/*@") { inside = 1 }
-            inside && match($0, /(requires|ensures)[ \t].*/) {
+            inside && match($0, /(requires|ensures|signals)[ \t].*/) {
                 text = substr($0, RSTART)
                 sub(/[ \t]*@?\*\/.*/, "", text); sub(/[ \t\r;]*$/, ";", text)
                 print "warning: " name ":" NR ": a comment `/*@ .. @*/` isn\047t read; in its place a line before the method: `//@ " text "`"

@@ -50,6 +50,7 @@ guess() {
                 gsub(/^ +| +$/, "", item[i])
                 gsub(/a name/, "NAME", item[i])
                 gsub(/a number/, "NUMBER", item[i])
+                gsub("\001", "|", item[i])
             }
             return n
         }

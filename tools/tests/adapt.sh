@@ -133,7 +133,14 @@ rewrites 'boolean repOk() { int n = 0; switch (v) { case 1: n++; case 2: n++; br
 rewrites 'boolean repOk() { return switch (v) { case 1, 2 -> true; default -> false; }; }' '1 2'
 rewrites 'enum Kind { A, B } Kind kind() { return v == 1 ? Kind.B : Kind.A; } boolean repOk() { switch (kind()) { case A: return false; default: return kind().ordinal() == 1; } }' '1'
 rewrites 'boolean repOk() { assert v > 0; if (v == 2) throw new IllegalStateException("two"); return true; }' '1 3'
+rewrites 'boolean repOk() { if (v > 0) assert v != 2; else return false; return true; }' '1 3'
+rewrites 'boolean repOk() { try { assert v != 1; return 6 / v > 2; } catch (ArithmeticException e) { return true; } catch (StackOverflowError e) { return true; } }' '0 2'
+rewrites 'boolean repOk() { try { if (v == 1) throw new Error(); return 6 / v > 2; } catch (IllegalStateException e) { return true; } catch (Error e) { return v == 1; } }' '1 2'
 rewrites 'boolean repOk() { try { return 6 / v > 2; } catch (ArithmeticException e) { return false; } }' '1 2'
+rewrites 'boolean repOk() { try { return 6 / v > 2; } catch (ArithmeticException e) { return true; } }' '0 1 2'
+rewrites 'int take(int x) throws Exception { if (x == 0) throw new ConcurrentModificationException("none"); return 6 / (x - 1); } boolean repOk() { try { return take(v) == 6; } catch (IllegalStateException | ConcurrentModificationException e) { return true; } catch (Exception e) { return v == 1; } }' '0 1 2'
+rewrites 'static class Full extends IllegalStateException { Full(String m) { super(m); } } static class Other extends Full { int at; Other(int at) { super("at"); this.at = at; } } int take(int x) { if (x == 1) throw new Full("full"); if (x > 1) throw new Other(x); return 0; } boolean repOk() { try { take(v); return false; } catch (Other e) { return e.at == 3; } catch (Full e) { return true; } }' '1 3'
+rewrites 'boolean repOk() { RuntimeException kept = null; try { if (v > 1) kept = new NoSuchElementException(); if (v > 0) throw kept; } catch (NullPointerException e) { return true; } catch (NoSuchElementException e) { return e == kept && v == 3; } catch (StackOverflowError e) { return true; } return false; }' '1 3'
 rewrites 'boolean repOk() { Set<Integer> s = new HashSet<>(); for (int i = 0; i < 3; i++) s.add(i % 2); return s.size() == v && s.contains(0); }' '2'
 rewrites 'boolean repOk() { Deque<Integer> d = new ArrayDeque<>(); d.push(1); d.push(2); d.addLast(3); return d.pop() == 2 && d.peekLast() == v && d.poll() == 1; }' '3'
 rewrites 'boolean repOk() { Queue<Cell> q = new LinkedList<>(); q.offer(this); return q.poll() == this && q.poll() == null; }' '0 1 2 3'
@@ -167,6 +174,9 @@ rewrites 'static class A { int a; A() { a = 1; } A(int a) { this.a = a; } } stat
 # The adapted classes are Java still.
 javac -nowarn -d classes made/*/Cell.java 2>javac.err
 count $? "an adapted class is no Java: $(head -n 1 javac.err)"
+
+# An error isn't caught as an exception, though javac takes no Throwable without `throws`.
+rewrites 'boolean repOk() { try { assert v != 1; return 6 / v > 2; } catch (RuntimeException e) { return v == 0; } catch (Error e) { return true; } }' '0 1 2'
 
 # Arrays of a counted type that the predicate makes.
 cat >Cell.java <<'END'
@@ -222,10 +232,13 @@ adapt params.toml Cell.java -o adapted
 count $? "a method that isn't kept leaves its contract or its parameters"
 rm -r adapted
 
-printf 'class Cell {\n    int v;\n\n    void put(int x) {\n        if (x < 0) throw new IllegalArgumentException();\n        v = x;\n    }\n\n    boolean repOk() {\n        return v >= 0;\n    }\n}\n' >Cell.java
+# Exceptions stay, without their messages; a class that korat hasn't becomes the nearest above it, which changes the verdict.
+printf 'class Cell {\n    int v;\n\n    //@ signals (java.util.EmptyStackException e) x < \\old(v);\n    //@ signals (IllegalStateException) v > 9;\n    void put(int x) throws Exception {\n        if (x < 0) throw new java.util.EmptyStackException();\n        if (x > 1) throw new IllegalArgumentException("x " + x);\n        v = x;\n    }\n\n    boolean repOk() {\n        return v >= 0;\n    }\n}\n' >Cell.java
 adapt --method put params.toml Cell.java -o adapted
-[ $? = 0 ] && grep -q '^Cell.java:5:[0-9]*: warning: .*trap ArithmeticException.*IllegalArgumentException' out
-count $? "a throw of the method under test isn't warned of: $(head -n 1 out err)"
+[ $? = 0 ] && [ "$(grep -c warning out)" = 1 ] && grep -q '^Cell.java:7:[0-9]*: warning: .*trap RuntimeException.*EmptyStackException' out &&
+    grep -q '^    //@ signals (RuntimeException e) x < .old(v);$' adapted/Cell.java && grep -q '^    //@ signals (IllegalStateException) v > 9;$' adapted/Cell.java &&
+    grep -q 'throw new IllegalArgumentException();' adapted/Cell.java && ! grep -q 'throws\|"' adapted/Cell.java
+count $? "exceptions of the method under test aren't kept: $(head -n 1 out err)"
 rm -r adapted
 # A contract is the method's own code: it is adapted with it, and refused where it is no Java.
 printf 'class Cell {\n    int v;\n\n    //@ requires x > 0;\n    /** Sets it. */\n    //@ ensures Math.max(\\old(v), x) >= v; // and no more\n    int put(int x) { v = x; return x; }\n\n    boolean repOk() {\n        return v >= 0;\n    }\n}\n' >Cell.java
@@ -283,6 +296,7 @@ refuses 1 'float big = 3; boolean repOk() { return v < big; }'
 refuses 4 'String name; Object any; double part; boolean repOk() { return name == null && any == null && part == 0.0; }'
 refuses 1 'boolean repOk() { return Integer.reverse(v) > 1; }'
 refuses 1 'boolean repOk() { try { return 1 / v > 0; } finally { check(); } } void check() { }'
+refuses 1 'boolean repOk() { try (java.io.StringReader r = null) { return v > 0; } catch (RuntimeException e) { return false; } }'
 refuses 1 'boolean repOk() { v = 1; return true; }'
 refuses 1 'boolean repOk() { return new Cell().v == v; }'
 refuses 1 'boolean repOk() { System.out.println(6 / v); return true; }'

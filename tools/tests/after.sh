@@ -7,7 +7,7 @@ refuse 2 "after without words" "$tools/after"
 refuse 2 "after without a source" "$tools/after" fin.toml put
 refuse 2 "after with an option" "$tools/after" --all fin.toml put A.java
 if [ ! -x "$KORAT" ] || ! command -v javac >/dev/null; then
-    echo "20 not tried: there is no program, or no JDK"
+    echo "32 not tried: there is no program, or no JDK"
     finish
     exit
 fi
@@ -108,6 +108,23 @@ END
 sort ran >ended
 sed '$d' ending | awk '{ print $1, ($2 == "pass" ? "pass" : "fail") }' | sort | diff - ended >differences
 count $? "tests of a contract: $(cat differences said | head -n 20)"
+
+# A stack whose methods throw: the tests of each of them, by the same runner.
+stack=$top/examples/bounded-stack
+for method in push pop popLast; do
+    given=$stack/test.$method run 0 "failing rows of $method" "$tools/after" "$stack/fin.toml" "$method" "$stack/BoundedStack.java"
+    failing=$(grep -c ' signals 1 ' "$stack/test.$method")
+    [ "$(tail -n 1 out)" = "failing $failing of 8, the same on this JVM" ]
+    count $? "failing rows of $method: $(cat out)"
+    given=$stack/test.$method run 0 "tests of $method" "$tools/replay" --junit "$method" "$stack/fin.toml" "$stack/BoundedStack.java"
+    rm -rf stack && cp -r junit stack && rm -r stack/Cell.java stack/CellTest.java stack/classes
+    cp out stack/BoundedStackTest.java
+    cp "$stack/BoundedStack.java" stack/
+    sed -i 's/CellTest/BoundedStackTest/g' stack/Runner.java
+    (cd stack && javac -nowarn -d classes ./*.java org/junit/jupiter/api/*.java && java -cp classes Runner) >ran 2>said
+    [ "$(grep -c ' pass$' ran) $(grep -c ' fail$' ran)" = "$((8 - failing)) $failing" ]
+    count $? "tests of $method: $(cat ran said | head -n 20)"
+done
 given=report run 2 "tests of a method that isn't there" "$tools/replay" --junit put fin.toml Cell.java
 
 finish

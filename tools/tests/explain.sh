@@ -115,6 +115,8 @@ feature 'class A { int c = 3000000000; }' '1:19: L4' 'a number that no `int` is'
 feature 'class A { int c = 1x; }' '1:19: L4' 'a name that begins with a digit'
 feature 'class A { //@Override\n' '1:11: L6' 'a comment on an annotation'
 feature 'class A { //@ invariant x;\n' '1:11: L6' 'another line of the Java Modeling Language'
+feature 'class A { //@ signals_only Exception;\n' '1:11: L6' 'another line of the Java Modeling Language'
+feature 'class A { //@ signals (Exception e)\n' '1:11: L6' "a contract line that doesn't end with"
 feature 'class A { //@ hello\n' '1:11: L6' 'a comment that looks like a contract'
 feature 'class A { //@ requires x\n' '1:11: L6' "a contract line that doesn't end with"
 feature 'class A { //@ requires /* a */ x;\n' '1:11: L6' 'a contract line with a comment in it'
@@ -122,6 +124,12 @@ feature 'class A { //@ requires /* a */ x;\n' '1:11: L6' 'a contract line with a
 feature 'class A { boolean repOk() { return true; }\n//@ ensures true ==> false;\nvoid m() { } }' '2:20: P1' '`!a || b`'
 feature 'class A { boolean repOk() { return true; }\n//@ ensures true <==> false;\nvoid m() { } }' '2:20: P1' '(a) == (b)'
 feature 'class A { boolean repOk() { return true; }\n//@ ensures (\\forall int i; true);\nvoid m() { } }' '2:14: L2' 'a quantifier'
+feature 'class A { void m() { try { } catch (A | B e) { } } }' '1:39: P1' 'a `catch` of several classes; in its place: a `catch` for each'
+feature 'class A { void m() { try (A a = null) { } } }' '1:26: P1' 'a `try` with resources'
+feature 'class A { void m() { try { } finally { } } }' '1:30: P2' 'what is done at each end of a `try`'
+feature 'class A { void m() throws Exception { } }' '1:20: P2' 'the exceptions that a method declares'
+feature 'class A extends Error { boolean repOk() { return true; } }' '1:17: C2' 'an exception that korat doesn'"'"'t have'
+feature 'class A { boolean repOk() { try { return true; } catch (StackOverflowError e) { return false; } } }' '1:57: T1' 'the nearest predefined class above it'
 feature 'class A { Boolean repOk() { return true; } }' '1:11: T1' 'in its place: `boolean`'
 feature 'class A { boolean repOk() { return Math.max(1, 2) == 2; } }' '1:36: T3' '`a > b ? a : b`'
 feature 'class A { boolean repOk() { int x = 1 // one\n\nreturn true; }\n}' '3:1: P1' 'the `;` is missing at the end of line 1 | class A { boolean repOk() { int x = 1 // one'
@@ -144,10 +152,10 @@ for word in $unused; do
 done
 
 # Each rule at a place has a row in docs/, and each class and typing rule with an example has that.
-for rule in B1 L{1..6} P{1..3} C{1..8} T{1..40} I1 E1 E2; do
+for rule in B1 L{1..6} P{1..3} C{1..8} T{1..43} I1 E1 E2; do
     told "none.java:1:1: $rule" "$rule: "
 done
-for rule in C{1..7} T1 T{3..40}; do
+for rule in C{1..7} T1 T{3..43}; do
     told "none.java:1:1: $rule" "  refused: "
     told "none.java:1:1: $rule" "  taken: "
 done

@@ -1,6 +1,6 @@
 -- Worked calls and expressions, as the checker computes them.
 use Rattle.std.proofs.Common.{◌≡◌, ◌<◌, List, [], ◌∷◌, true, false, refl, sym, subst, arith}
-use Rattle.std.specs.Prelude.{Option, Some, pos, codes}
+use Rattle.std.specs.Prelude.{Option, Some, None, pos, codes}
 use Rattle.kr_value.specs.declared.value.Value.{Value}
 use Rattle.kr_value.specs.declared.value.Value.TheVariants.{Int, Ref as Reference}
 use Rattle.kr_value.specs.declared.value.Value.TheVariants as values
@@ -68,12 +68,14 @@ required env s = record {
   class = 0;
   name = codes "plus";
   named = refl;
-  is_ensured = false;
+  is_after = false;
+  thrown_as = None;
   expression = fits.required _ (λ olds. record { code = (tt, tt); unbroken = refl; boolean = refl });
   types = types;
   objects = ((refl, ((Bits32, refl, omega arith), tt)), tt);
   this = this_is env s;
   arguments = arguments_are env s;
+  thrown = s.thrown;
   seen = tt;
 }
 
@@ -83,12 +85,14 @@ ensured env s = record {
   class = 0;
   name = codes "plus";
   named = refl;
-  is_ensured = true;
+  is_after = true;
+  thrown_as = None;
   expression = fits.ensured _ (record { code = (tt, (tt, tt)); unbroken = refl; boolean = refl });
   types = types;
   objects = ((refl, ((Bits32, refl, omega arith), tt)), tt);
   this = this_is env s;
   arguments = arguments_are env s;
+  thrown = s.thrown;
   seen = (
     λ r. subst (λ (v : Option Value). IsResult plus.program.table types (Some int_type) v) (sym s.result) (Bits32, refl, omega arith),
     subst (λ (vs : List Value). AreOf plus.program.table types [] vs) (sym s.olds) tt,

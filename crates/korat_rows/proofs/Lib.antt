@@ -1,5 +1,6 @@
 pub mod WorkedWords
 pub mod Constructs
+pub mod Exceptions
 pub mod Listings
 pub mod Examples
 pub mod Tests

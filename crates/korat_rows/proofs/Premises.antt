@@ -13,12 +13,12 @@ use Rattle.kr_mean.specs.Problem.{Problem, Plain, slots, slot_at, choices_at, do
 use Rattle.kr_mean.specs.Runs.{root_class, tested_method}
 use Rattle.kr_mean.specs.WellFormed.{ArePlain, AreSpots}
 use Rattle.kr_mean.specs.Purity.{IsPure}
-use Rattle.korat_rows.specs.Words.{int, long, boolean, named, number, yes, this, ◌dot◌, ◌at◌, new, new_array, local, evaluate, assign, increment}
+use Rattle.korat_rows.specs.Words.{int, long, boolean, named, number, yes, this, ◌dot◌, ◌at◌, new, new_array, ◌becomes◌, local, evaluate, assign, increment, throw, catch, try, signals}
 use Rattle.korat_rows.specs.Listings.{sorted_array, plus, tree}
 use Rattle.korat_rows.specs.Examples.{nodes_with, two_nodes, two_subclasses}
 use Rattle.kr_laws_safety.specs.Fits.{IsWithin}
 use Rattle.kr_laws_safety.specs.Domains.{AreSpotsOf, AreDomainsOf, HaveDomainsTypes}
-use Rattle.korat_rows.specs.Premises.{Meets, Premises, numbers_of, running, v, x, add_one, element, box}
+use Rattle.korat_rows.specs.Premises.{Meets, Premises, numbers_of, running, contracted_by, v, x, add_one, element, box}
 use Rattle.kr_laws_safety.proofs.Pure.{pure_by, impure_by}
 
 -- ---- a fact of each number below one
@@ -170,6 +170,22 @@ array_made : IsPure (running (evaluate (new_array int (number 1)) ∷ [])) → �
 unfolding table_of values_of is_constant evaluated constant_width judged
 array_made = impure_by (running (evaluate (new_array int (number 1)) ∷ [])) (omega arith, (tt, tt)) refl
 
+tried_assigned : IsPure (running (try (assign v (number 1) ∷ []) (catch (named "Box") "x" [] ∷ []) ∷ [])) → ⊥
+unfolding table_of values_of is_constant evaluated constant_width judged
+tried_assigned = impure_by (running (try (assign v (number 1) ∷ []) (catch (named "Box") "x" [] ∷ []) ∷ [])) (omega arith, (tt, tt)) refl
+
+caught_assigned : IsPure (running (try [] (catch (named "Box") "x" (assign v (number 1) ∷ []) ∷ []) ∷ [])) → ⊥
+unfolding table_of values_of is_constant evaluated constant_width judged
+caught_assigned = impure_by (running (try [] (catch (named "Box") "x" (assign v (number 1) ∷ []) ∷ []) ∷ [])) (omega arith, (tt, tt)) refl
+
+thrown_made : IsPure (running (throw (new (named "R") []) ∷ [])) → ⊥
+unfolding table_of values_of is_constant evaluated constant_width judged
+thrown_made = impure_by (running (throw (new (named "R") []) ∷ [])) (omega arith, (tt, tt)) refl
+
+signals_assigned : IsPure (contracted_by (signals (named "E") (v becomes number 1) ∷ [])) → ⊥
+unfolding table_of values_of is_constant evaluated constant_width judged
+signals_assigned = impure_by (contracted_by (signals (named "E") (v becomes number 1) ∷ [])) (omega arith, tt) refl
+
 local_written : IsPure (running (local int "x" (number 0) ∷ assign x (number 1) ∷ add_one x ∷ increment x ∷ []))
 unfolding table_of values_of is_constant evaluated constant_width judged
 local_written = pure_by (running (local int "x" (number 0) ∷ assign x (number 1) ∷ add_one x ∷ increment x ∷ [])) 1 refl refl
@@ -204,6 +220,10 @@ premises = record {
   element_stepped = element_stepped;
   candidate_made = candidate_made;
   array_made = array_made;
+  tried_assigned = tried_assigned;
+  caught_assigned = caught_assigned;
+  thrown_made = thrown_made;
+  signals_assigned = signals_assigned;
   local_written = local_written;
   box_written = box_written;
   other_array_written = other_array_written;

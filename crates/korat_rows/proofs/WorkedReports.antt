@@ -5,6 +5,7 @@ use Rattle.std.specs.Fmt.{digits}
 use Rattle.kr_base.specs.Bounds.{less}
 use Rattle.kr_mean.specs.Space.{space_of}
 use Rattle.kr_mean.specs.Heaps.{heap_of, walk}
+use Rattle.kr_classes_table.specs.Predefined.{predefined}
 use Rattle.kr_classes_table.specs.Table.{table_of}
 use Rattle.kr_classes_table.specs.Constants.{values_of, is_constant, evaluated, constant_width}
 use Rattle.kr_types_meaning.specs.Typing.{judged}
@@ -14,8 +15,8 @@ use Rattle.kr_mean.specs.Meaning.{eval, exec, value, body_of}
 use Rattle.kr_mean.specs.Runs.{end_on, read_slots, order_of}
 use Rattle.kr_mean.specs.Entries.{mark_of, all_of, all_entries}
 use Rattle.kr_value.specs.declared.value.Value.TheVariants.{Bool as Truth}
-use Rattle.kr_mean.specs.declared.kind.Kind.TheVariants.{NullPointerException, ArithmeticException, NoReturn}
-use Rattle.kr_mean.specs.declared.kind.Verdict.TheVariants.{Pass, Ensures, RepOk, Trap, CheckTrap, Spent as OutOfFuel}
+use Rattle.kr_mean.specs.declared.kind.Kind.TheVariants.{NullPointerException, ArithmeticException, Thrown, NoReturn}
+use Rattle.kr_mean.specs.declared.kind.Verdict.TheVariants.{Pass, Ensures, Signals, RepOk, Trap, CheckTrap, Spent as OutOfFuel}
 use Rattle.korat_rows.specs.Examples.{cell, two_ints, two_nodes, two_subclasses, arrays, later_first}
 use Rattle.korat_rows.specs.Listings.{loops, plus}
 use Rattle.kr_report.specs.Texts.{structure_text, value_text, verdict_text, tested_text}
@@ -107,11 +108,11 @@ booleans : map (value_text two_ints) (Truth true ∷ Truth false ∷ []) ≡ cod
 unfolding digits less space_of heap_of walk table_of values_of is_constant evaluated constant_width judged bind eval exec value body_of verdict_of end_on read_slots order_of mark_of all_of all_entries structure_text listing_answer
 booleans = refl
 
-verdicts : map verdict_text (Some Pass ∷ Some (Ensures 12) ∷ Some RepOk ∷ Some (Trap NullPointerException) ∷ Some (CheckTrap ArithmeticException) ∷ Some OutOfFuel ∷ []) ≡ codes "pass " ∷ codes "ensures 12 " ∷ codes "repOk " ∷ codes "trap NullPointerException " ∷ codes "check-trap ArithmeticException " ∷ codes "spent " ∷ []
-unfolding digits less space_of heap_of walk table_of values_of is_constant evaluated constant_width judged bind eval exec value body_of verdict_of end_on read_slots order_of mark_of all_of all_entries structure_text listing_answer
+verdicts : map (verdict_text (table_of (predefined ∷ [])).headings) (Some Pass ∷ Some (Ensures 12) ∷ Some (Signals 7) ∷ Some RepOk ∷ Some (Trap NullPointerException) ∷ Some (Trap (Thrown 9)) ∷ Some (CheckTrap ArithmeticException) ∷ Some OutOfFuel ∷ []) ≡ codes "pass " ∷ codes "ensures 12 " ∷ codes "signals 7 " ∷ codes "repOk " ∷ codes "trap NullPointerException " ∷ codes "trap IllegalStateException " ∷ codes "check-trap ArithmeticException " ∷ codes "spent " ∷ []
+unfolding predefined digits less space_of heap_of walk table_of values_of is_constant evaluated constant_width judged bind eval exec value body_of verdict_of end_on read_slots order_of mark_of all_of all_entries structure_text listing_answer
 verdicts = refl
 
-failing : map is_failing (None ∷ Some Pass ∷ Some (Ensures 1) ∷ Some RepOk ∷ Some (Trap NoReturn) ∷ Some (CheckTrap NoReturn) ∷ Some OutOfFuel ∷ []) ≡ false ∷ false ∷ true ∷ true ∷ true ∷ true ∷ true ∷ []
+failing : map is_failing (None ∷ Some Pass ∷ Some (Ensures 1) ∷ Some (Signals 1) ∷ Some RepOk ∷ Some (Trap NoReturn) ∷ Some (CheckTrap NoReturn) ∷ Some OutOfFuel ∷ []) ≡ false ∷ false ∷ true ∷ true ∷ true ∷ true ∷ true ∷ true ∷ []
 unfolding digits less space_of heap_of walk table_of values_of is_constant evaluated constant_width judged bind eval exec value body_of verdict_of end_on read_slots order_of mark_of all_of all_entries structure_text listing_answer
 failing = refl
 

@@ -25,10 +25,11 @@ abbrev pub OfOne : (Node → Type 0) → List Node → Type 0
 OfOne P (e ∷ []) = P e
 OfOne P es = ⊥
 
--- `this` is the cell, `x` is 1, `\result` is 1, and there is no `\old`
+-- `this` is the cell, `x` is 1, nothing is thrown, `\result` is 1, and there is no `\old`
 pub record IsSeen (env : Env) : Type 0 where
   pub this : env.this ≡ Reference 0
   pub arguments : env.arguments.items ≡ Int (pos 1) ∷ []
+  pub thrown : env.thrown ≡ None
   pub result : env.result ≡ Some (Int (pos 1))
   pub olds : env.olds.items ≡ []
 

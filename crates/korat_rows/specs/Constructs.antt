@@ -31,7 +31,7 @@ shown o = (o.said, o.after.fuel, o.reads)
 
 abbrev pub state_of : List HeapObject → ℕ → ℕ → State
 state_of heap candidates fuel =
-    record { this_value = Reference 0; locals = []; result = None; olds = []; heap = heap; candidates = candidates; fuel = fuel }
+    record { this_value = Reference 0; locals = []; result = None; olds = []; thrown = None; heap = heap; candidates = candidates; fuel = fuel }
 
 -- an expression in the code of a file's first class, on the first object of a heap
 abbrev pub run_in : Program → List HeapObject → ℕ → ℕ → Tree → Shown

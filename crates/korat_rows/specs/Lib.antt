@@ -1,6 +1,7 @@
 pub mod WorkedWords
 pub mod Words
 pub mod Constructs
+pub mod Exceptions
 pub mod Listings
 pub mod Examples
 pub mod Tests

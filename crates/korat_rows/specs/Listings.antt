@@ -7,13 +7,21 @@ use Rattle.kr_ast.specs.Tree.{Tree}
 use Rattle.kr_value.specs.declared.value.Value.TheVariants.{Null}
 use Rattle.kr_value.specs.declared.object.Spot.TheVariants.{Length, Element}
 use Rattle.kr_mean.specs.Problem.{Problem, Plain, Objects}
-use Rattle.korat_rows.specs.Words.{int, void, named, hash_set, linked_list, number, yes, no, null, name, ◌dot◌, ◌at◌, call_on, new, unary, step, ◌+'◌, ◌-'◌, ◌<'◌, ◌>'◌, ◌=='◌, ◌!='◌, ◌&&'◌, result, block, local, evaluate, return, if_then, while, for, field, parameter, requires, ensures, contracted, rep_ok, class, class_below, ints, objects, arrays_named, listed, testing, listing, valid, invalid, spent}
+use Rattle.korat_rows.specs.Words.{int, void, named, hash_set, linked_list, number, yes, no, null, name, ◌dot◌, ◌at◌, call_on, new, unary, step, ◌+'◌, ◌-'◌, ◌<'◌, ◌>'◌, ◌=='◌, ◌!='◌, ◌&&'◌, result, block, local, evaluate, return, if_then, while, for, catch, try, field, parameter, requires, ensures, contracted, rep_ok, class, class_below, ints, objects, arrays_named, listed, testing, listing, valid, invalid, spent}
 use Rattle.kr_space_meaning.specs.Examples.{array_of, at as at_field}
 
 -- class N { N next; boolean repOk() { return next.next == null; } }
 abbrev pub next_of_next : Problem
 next_of_next =
     listed (class "N" (field (named "N") "next" ∷ rep_ok (return (name "next" dot "next" ==' null) ∷ []) ∷ []) ∷ [])
+    (objects "N" 0 2 (at_field 0 (Plain Null ∷ Objects 0 ∷ []) ∷ []) ∷ []) 1000
+
+-- class N { N next; boolean repOk() { try { return next.next == null; } catch (NullPointerException e) { return true; } } }
+abbrev pub next_or_caught : Problem
+next_or_caught =
+    let clause : Tree = catch (named "NullPointerException") "e" (return yes ∷ []) in
+    listed (class "N" (field (named "N") "next" ∷ rep_ok (try (return (name "next" dot "next" ==' null) ∷ []) (clause ∷ []) ∷ []) ∷ [])
+    ∷ class "Throwable" [] ∷ class_below "NullPointerException" "Throwable" [] ∷ [])
     (objects "N" 0 2 (at_field 0 (Plain Null ∷ Objects 0 ∷ []) ∷ []) ∷ []) 1000
 
 -- class P { int a; int b; boolean repOk() { return b == 7 && a == 1; } }
@@ -114,6 +122,9 @@ tree =
 pub record Listings : Type 0 where
   pub next_of_next_listed :
       listing next_of_next ≡ invalid (0 ∷ 0 ∷ []) ∷ invalid (0 ∷ 1 ∷ []) ∷ valid (0 ∷ 2 ∷ 0 ∷ [])
+      ∷ invalid (0 ∷ 2 ∷ 1 ∷ []) ∷ invalid (0 ∷ 2 ∷ 2 ∷ []) ∷ []
+  pub next_or_caught_listed :
+      listing next_or_caught ≡ valid (0 ∷ 0 ∷ []) ∷ invalid (0 ∷ 1 ∷ []) ∷ valid (0 ∷ 2 ∷ 0 ∷ [])
       ∷ invalid (0 ∷ 2 ∷ 1 ∷ []) ∷ invalid (0 ∷ 2 ∷ 2 ∷ []) ∷ []
   pub short_circuit_listed :
       listing short_circuit ≡ invalid (0 ∷ 0 ∷ 0 ∷ []) ∷ valid (0 ∷ 0 ∷ 1 ∷ []) ∷ invalid (0 ∷ 1 ∷ []) ∷ []

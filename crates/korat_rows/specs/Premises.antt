@@ -7,7 +7,7 @@ use Rattle.kr_value.specs.declared.object.Spot.TheVariants.{Length, Element}
 use Rattle.kr_mean.specs.Problem.{Problem, Plain, Objects}
 use Rattle.kr_mean.specs.WellFormed.{IsWellFormed}
 use Rattle.kr_mean.specs.Purity.{IsPure}
-use Rattle.korat_rows.specs.Words.{int, long, boolean, named, number, yes, this, name, ◌dot◌, ◌at◌, new, new_array, compound, local, evaluate, assign, increment, return, field, rep_ok, class, ints, objects, arrays_named, listed}
+use Rattle.korat_rows.specs.Words.{int, long, boolean, named, number, yes, this, name, ◌dot◌, ◌at◌, new, new_array, compound, ◌becomes◌, local, evaluate, assign, increment, return, throw, catch, try, signals, void, contracted, field, rep_ok, class, ints, objects, arrays_named, listed, testing}
 use Rattle.kr_space_meaning.specs.Examples.{array_of, at as at_field}
 use Rattle.korat_rows.specs.Listings.{sorted_array, plus, tree}
 use Rattle.korat_rows.specs.Examples.{nodes_with, two_nodes, two_subclasses}
@@ -33,6 +33,12 @@ running statements =
     listed (root ∷ class "Box" (field int "w" ∷ field (array_of boolean) "b" ∷ []) ∷ [])
     (objects "R" 0 1 (at_field 0 (ints (0 ∷ [])) ∷ at_field 1 (Objects 1 ∷ []) ∷ [])
     ∷ arrays_named "int[]" 1 (record { spot = Length; domain = ints (0 ∷ 1 ∷ []) } ∷ record { spot = Element 0; domain = ints (0 ∷ []) } ∷ []) ∷ []) 100
+
+-- class R { int v; boolean repOk() { return true; } CONTRACT void m() { } }, and its method `m` under test
+abbrev pub contracted_by : List Tree → Problem
+contracted_by contract =
+    testing "m" [] (listed (class "R" (field int "v" ∷ rep_ok (return yes ∷ []) ∷ contracted void "m" [] contract [] ∷ []) ∷ class "E" [] ∷ [])
+    (objects "R" 0 1 (at_field 0 (ints (0 ∷ [])) ∷ []) ∷ []) 100)
 
 abbrev pub v : Tree
 v = name "v"
@@ -79,6 +85,11 @@ pub record Premises : Type 0 where
   -- creations of what the finitization has
   pub candidate_made : IsPure (running (evaluate (new (named "R") []) ∷ [])) → ⊥
   pub array_made : IsPure (running (evaluate (new_array int (number 1)) ∷ [])) → ⊥
+  -- in what is tried, thrown and caught, and in the condition of a `signals`
+  pub tried_assigned : IsPure (running (try (assign v (number 1) ∷ []) (catch (named "Box") "x" [] ∷ []) ∷ [])) → ⊥
+  pub caught_assigned : IsPure (running (try [] (catch (named "Box") "x" (assign v (number 1) ∷ []) ∷ []) ∷ [])) → ⊥
+  pub thrown_made : IsPure (running (throw (new (named "R") []) ∷ [])) → ⊥
+  pub signals_assigned : IsPure (contracted_by (signals (named "E") (v becomes number 1) ∷ [])) → ⊥
   -- locals, and what the finitization doesn't have
   pub local_written : IsPure (running (local int "x" (number 0) ∷ assign x (number 1) ∷ add_one x ∷ increment x ∷ []))
   pub box_written : IsPure (running (box ∷ assign (x dot "w") (number 1) ∷ add_one (x dot "w") ∷ increment (x dot "w") ∷ []))

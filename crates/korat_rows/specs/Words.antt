@@ -219,6 +219,17 @@ do_while a c = trees.Do nowhere a c
 abbrev pub for : List Tree → Tree → List Tree → Tree → Tree
 for i c u a = trees.For nowhere (list_of i) c (list_of u) a
 
+abbrev pub throw : Tree → Tree
+throw e = trees.Throw nowhere e
+
+-- `catch (T n) { .. }`
+abbrev pub catch : Tree → Text → List Tree → Tree
+catch t n ts = trees.Catch nowhere (trees.Parameter nowhere t (codes n)) (block ts)
+
+-- `try { .. }`, catches
+abbrev pub try : List Tree → List Tree → Tree
+try ts cs = trees.Try nowhere (block ts) (list_of cs)
+
 -- ---- members and classes
 
 abbrev pub field_with : Tree → Text → Tree → Tree
@@ -239,6 +250,13 @@ requires e = trees.Requires nowhere e
 
 abbrev pub ensures : Tree → Tree
 ensures e = trees.Ensures nowhere e
+
+-- `signals (T) e`, `signals (T n) e`
+abbrev pub signals : Tree → Tree → Tree
+signals t e = trees.Signals nowhere t e
+
+abbrev pub named_signals : Tree → Text → Tree → Tree
+named_signals t n e = trees.Signals nowhere (trees.Parameter nowhere t (codes n)) e
 
 -- result, name, parameters, contract, body
 abbrev pub contracted : Tree → Text → List Tree → List Tree → List Tree → Tree

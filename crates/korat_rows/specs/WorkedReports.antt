@@ -2,9 +2,11 @@
 use Rattle.std.specs.Prelude.{◌≡◌, ℕ, true, false, List, [], ◌∷◌, map, codes, Some, None}
 use Rattle.kr_base.specs.declared.span.Bound.TheVariants.{At, End}
 use Rattle.kr_base.specs.Entries.{entries_in}
+use Rattle.kr_classes_table.specs.Predefined.{predefined}
+use Rattle.kr_classes_table.specs.Table.{table_of}
 use Rattle.kr_value.specs.declared.value.Value.TheVariants.{Bool as Truth}
-use Rattle.kr_mean.specs.declared.kind.Kind.TheVariants.{NullPointerException, ArithmeticException, NoReturn}
-use Rattle.kr_mean.specs.declared.kind.Verdict.TheVariants.{Pass, Ensures, RepOk, Trap, CheckTrap, Spent as OutOfFuel}
+use Rattle.kr_mean.specs.declared.kind.Kind.TheVariants.{NullPointerException, ArithmeticException, Thrown, NoReturn}
+use Rattle.kr_mean.specs.declared.kind.Verdict.TheVariants.{Pass, Ensures, Signals, RepOk, Trap, CheckTrap, Spent as OutOfFuel}
 use Rattle.kr_mean.specs.Problem.{Problem}
 use Rattle.kr_mean.specs.Entries.{all_entries}
 use Rattle.korat_rows.specs.Examples.{cell, two_ints, two_nodes, two_subclasses, arrays, later_first}
@@ -59,6 +61,6 @@ pub record WorkedLines : Type 0 where
   pub counter_cut_before_a_failing_row : report_of counter [] 2 ≡ told 0 (codes "0.0.0 pass R#0{v=0,o=null}\n0.1.0 pass R#0{v=1,o=null}\nmore 0.1.0\n")
   pub spent_behind_failing_rows : report_of never_right [] 9 ≡ told 5 (codes "0.0.0 ensures 1 R#0{v=0,o=null}\n0.1.0 ensures 1 R#0{v=1,o=null}\nspent 0.2\n")
   pub booleans : map (value_text two_ints) (Truth true ∷ Truth false ∷ []) ≡ codes "true" ∷ codes "false" ∷ []
-  pub verdicts : map verdict_text (Some Pass ∷ Some (Ensures 12) ∷ Some RepOk ∷ Some (Trap NullPointerException) ∷ Some (CheckTrap ArithmeticException) ∷ Some OutOfFuel ∷ []) ≡ codes "pass " ∷ codes "ensures 12 " ∷ codes "repOk " ∷ codes "trap NullPointerException " ∷ codes "check-trap ArithmeticException " ∷ codes "spent " ∷ []
-  pub failing : map is_failing (None ∷ Some Pass ∷ Some (Ensures 1) ∷ Some RepOk ∷ Some (Trap NoReturn) ∷ Some (CheckTrap NoReturn) ∷ Some OutOfFuel ∷ []) ≡ false ∷ false ∷ true ∷ true ∷ true ∷ true ∷ true ∷ []
+  pub verdicts : map (verdict_text (table_of (predefined ∷ [])).headings) (Some Pass ∷ Some (Ensures 12) ∷ Some (Signals 7) ∷ Some RepOk ∷ Some (Trap NullPointerException) ∷ Some (Trap (Thrown 9)) ∷ Some (CheckTrap ArithmeticException) ∷ Some OutOfFuel ∷ []) ≡ codes "pass " ∷ codes "ensures 12 " ∷ codes "signals 7 " ∷ codes "repOk " ∷ codes "trap NullPointerException " ∷ codes "trap IllegalStateException " ∷ codes "check-trap ArithmeticException " ∷ codes "spent " ∷ []
+  pub failing : map is_failing (None ∷ Some Pass ∷ Some (Ensures 1) ∷ Some (Signals 1) ∷ Some RepOk ∷ Some (Trap NoReturn) ∷ Some (CheckTrap NoReturn) ∷ Some OutOfFuel ∷ []) ≡ false ∷ false ∷ true ∷ true ∷ true ∷ true ∷ true ∷ true ∷ []
   pub tested_last_line : tested_text 4 2 4 ≡ codes "valid 4 failing 2 tried 4\n"

@@ -9,7 +9,8 @@ mod words;
 
 pub use laws::{worked_calls, worked_premises};
 pub use meaning::{
-    worked_constructs, worked_examples, worked_listings, worked_renamings, worked_tests,
+    worked_constructs, worked_examples, worked_exceptions, worked_listings, worked_renamings,
+    worked_tests,
 };
 pub use reports::worked_lines;
 pub use shards::shard_rows;

@@ -1,5 +1,6 @@
 // The worked rows.
 ghost use Rattle.korat_rows.specs.Constructs.{Constructs};
+ghost use Rattle.korat_rows.specs.Exceptions.{Worked as Exceptions};
 ghost use Rattle.korat_rows.specs.Listings.{Listings};
 ghost use Rattle.korat_rows.specs.Examples.{Worked};
 ghost use Rattle.korat_rows.specs.Tests.{Tests};
@@ -9,6 +10,12 @@ ghost use Rattle.korat_rows.specs.Renamings.{Renamings};
 #[tactic(auto, using(crate::proofs::Constructs::constructs))]
 pub fn worked_constructs()
     ensures { Constructs }
+{}
+
+/// What is thrown, and by whom it is caught.
+#[tactic(auto, using(crate::proofs::Exceptions::worked))]
+pub fn worked_exceptions()
+    ensures { Exceptions }
 {}
 
 /// The entries of small problems.

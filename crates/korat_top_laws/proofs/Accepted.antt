@@ -5,7 +5,7 @@ use Rattle.kr_ast.specs.Tree.{Tree}
 use Rattle.kr_mean.specs.Problem.{Problem}
 use Rattle.kr_mean.specs.declared.mode.Mode.{Mode}
 use Rattle.kr_laws_never_stuck.specs.Grown.{AreGrown, AreProgram}
-use Rattle.kr_laws_never_stuck.specs.NeverStuck.{IsAccepted}
+use Rattle.kr_laws_never_stuck.specs.Accepted.{IsAccepted}
 use Rattle.korat_top_files.specs.Refusals.{Inputs, Refusal}
 use Rattle.korat_top_files.specs.Steps as steps
 use Rattle.korat_top_files.specs.Steps.{AreRead, AreTrees, Checks, Judges, LIMIT, accepted, impure, judged, long_finitization, long_source, unclassed, unlexed, unparsed, unposed, unstated, untyped}

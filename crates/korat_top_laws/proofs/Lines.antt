@@ -12,8 +12,9 @@ use Rattle.kr_report_streaming.specs.Traces.{bound_text, counts_text}
 use Rattle.kr_trace.specs.declared.words.Held.{Held}
 use Rattle.kr_trace.specs.declared.events.Counts.{Counts}
 use Rattle.kr_trace.specs.Words.{bound_of, counts_in, drained_in, event_of, held_in, looked_in, reported_in, seat_of, spent_in, stolen_in, stopped_in, words_in}
+use Rattle.kr_shard_laws.proofs.Bytes.{without_append}
 use Rattle.korat_top_laws.specs.Printed.{EventLaw, IsPrintable, IsReadBack, IsShown, IsShownBound}
-use Rattle.korat_top_laws.proofs.Pieces.{IsWord, alone, bound_back, bound_word, cut_word, number_back, number_word, seat_back, spaced, without_append}
+use Rattle.korat_top_laws.proofs.Pieces.{IsWord, alone, bound_back, bound_word, cut_word, number_back, number_word, seat_back, spaced}
 
 -- ---- what words say
 

@@ -21,11 +21,12 @@ use Rattle.kr_trace.specs.declared.row.Row.{Row}
 use Rattle.kr_trace.specs.declared.refusal.TraceRule.TheVariants.{KeyOrder}
 use Rattle.kr_trace.specs.Words.{counted_in, key_in, last_by, last_in, row_in, words_in}
 use Rattle.kr_trace.specs.Checked.{Checked, Rows, and_then, bad, horizon, is_test, row_after, rows_from, with_row}
+use Rattle.kr_shard_laws.proofs.Bytes.{without_append}
 use Rattle.korat_top_laws.specs.Honest.{AreWritten, valid_keys}
 use Rattle.korat_top_laws.specs.Listings.{AreLinesOf, IsLineOf, IsLogged, IsShownLast, ListingLaw, last_line, read_of, tested_line, written_to}
 use Rattle.korat_top_laws.specs.Printed.{IsShown}
 use Rattle.korat_top_laws.specs.Texts.{AreRows, IsTraced}
-use Rattle.korat_top_laws.proofs.Pieces.{alone, cut_word, number_back, number_word, spaced, without_append}
+use Rattle.korat_top_laws.proofs.Pieces.{alone, cut_word, number_back, number_word, spaced}
 use Rattle.korat_top_laws.proofs.Honest.{honest}
 use Rattle.korat_top_laws.proofs.Texts.{traced}
 use Rattle.korat_top_laws.proofs.Whole.{Climbs, climbs, last_back, last_one, later_self}

@@ -36,6 +36,7 @@ use Rattle.kr_trace.specs.declared.ending.Last.{Last}
 use Rattle.kr_trace.specs.declared.ending.Last.TheVariants.{Listed, Tested, More, Spent}
 use Rattle.kr_trace.specs.declared.row.Row.{Row as ReadRow}
 use Rattle.kr_trace.specs.Checked.{agrees, checked, is_test}
+use Rattle.kr_shard_laws.proofs.Back.{capped_fits}
 use Rattle.korat_top_laws.specs.Ends.{HasNoStop, SaysWhole}
 use Rattle.korat_top_laws.specs.Honest.{AreShown, valid_keys}
 use Rattle.korat_top_laws.specs.Listings.{AreLinesOf, IsLogged, IsShownLast, last_line, read_of, written_to}
@@ -71,9 +72,6 @@ six a b c d e f = append_assoc (a ++ b ++ c ++ d) e f ∙ (append_assoc (a ++ b 
 
 capped_is : (n : ℕ) → n < 2 ^ 64 → capped n ≡ n
 capped_is n h = omega (arith, h)
-
-capped_small : (n : ℕ) → capped n < 2 ^ 64
-capped_small n = omega arith
 
 listed_is : (valid tried : ℕ) → valid < 2 ^ 64 → listed_text valid tried ≡ ended (last_line (Listed valid (capped tried)))
 listed_is valid tried h =
@@ -231,7 +229,7 @@ module _ (problem : Problem) (tests : Bool) (mode : IsModeOf tests problem.mode)
         text = listed_is (length rows) (length es) short;
         tested = refl;
         to_end = refl;
-        shown = (short, capped_small (length es));
+        shown = (short, capped_fits (length es));
         says = λ agreed.
             subst (λ (n : ℕ). agrees span (read_of (map judged rows)) trace.last (Listed n (capped (length es))) ≡ true) count
             (subst (λ (k : List (List ℕ)). agrees span (record { keys = k; failing = (read_of (map judged rows)).failing }) trace.last (Listed (length k) (capped (length es))) ≡ true) eq
@@ -243,7 +241,7 @@ module _ (problem : Problem) (tests : Bool) (mode : IsModeOf tests problem.mode)
         text = tested_is (length rows) (length (failing_in rows)) (length es) short (let f = failing_few rows in omega (arith, f, short));
         tested = refl;
         to_end = refl;
-        shown = (short, (let f = failing_few rows in omega (arith, f, short)), capped_small (length es));
+        shown = (short, (let f = failing_few rows in omega (arith, f, short)), capped_fits (length es));
         says = λ agreed.
             subst (λ (f : ℕ). agrees span (read_of (map judged rows)) trace.last (Tested (length rows) f (capped (length es))) ≡ true) (failing_is rows)
             (subst (λ (n : ℕ). agrees span (read_of (map judged rows)) trace.last (Tested n (read_of (map judged rows)).failing (capped (length es))) ≡ true) count

@@ -1,6 +1,6 @@
 -- Words, numbers and cuts, as they are written and read.
-use Rattle.std.proofs.Common.{◌≡◌, ℕ, zero, suc, ◌/◌, ◌%◌, ◌^◌, ◌<◌, Bool, true, false, List, [], ◌∷◌, ◌++◌, refl, sym, ap, ◌∙◌, subst, arith, decimal, nat_lt}
-use Rattle.std.specs.Prelude.{Option, Some, None, ◌==◌, codes, flat_map, if◌then◌else◌, option_and_then}
+use Rattle.std.proofs.Common.{◌≡◌, ℕ, zero, suc, ◌/◌, ◌%◌, ◌^◌, ◌<◌, Bool, true, false, List, [], ◌∷◌, ◌++◌, refl, sym, ap, ◌∙◌, arith, decimal, nat_lt}
+use Rattle.std.specs.Prelude.{Some, None, ◌==◌, codes, flat_map, if◌then◌else◌, option_and_then}
 use Rattle.std.specs.Option.{option_map}
 use Rattle.std.specs.Fmt.{digits, digits_onto, digit_glyph}
 use Rattle.std.specs.Str.{bytes_eq}
@@ -13,14 +13,10 @@ use Rattle.kr_base.specs.Parsing.{cut_of}
 use Rattle.kr_text.specs.Splitting.{IsWithout, number_of, onto}
 use Rattle.kr_text.proofs.Readings.{number_read}
 use Rattle.kr_report_streaming.specs.Traces.{bound_text}
+use Rattle.kr_shard_laws.proofs.Bytes.{without_append}
+use Rattle.kr_shard_laws.proofs.Numbers.{digit_line}
 use Rattle.kr_trace.specs.Words.{bound_of, seat_of, words_in}
 use Rattle.korat_top_laws.specs.Printed.{IsShown, IsShownBound}
-
--- ---- texts without a byte
-
-pub without_append : (c : ℕ) (xs ys : List ℕ) → IsWithout c xs → IsWithout c ys → IsWithout c (xs ++ ys)
-without_append c [] ys h k = k
-without_append c (x ∷ xs) ys h k = (h.0, without_append c xs ys h.1 k)
 
 -- neither a line feed nor a space
 pub record IsWord (text : List ℕ) : Type 0 where
@@ -29,9 +25,6 @@ pub record IsWord (text : List ℕ) : Type 0 where
 
 word_append : (xs ys : List ℕ) → IsWord xs → IsWord ys → IsWord (xs ++ ys)
 word_append xs ys h k = record { one_line = without_append 10 xs ys h.one_line k.one_line; one_word = without_append 32 xs ys h.one_word k.one_word }
-
-digit_line : (n : ℕ) → (digit_glyph false (n % 10) == 10) ≡ false
-digit_line n = grind (arith, nat_tests)
 
 digit_word : (n : ℕ) → (digit_glyph false (n % 10) == 32) ≡ false
 digit_word n = grind (arith, nat_tests)

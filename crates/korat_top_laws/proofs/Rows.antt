@@ -22,7 +22,7 @@ use Rattle.korat_top_laws.specs.Honest.{valid_keys}
 use Rattle.korat_top_laws.specs.Listings.{AreLinesOf, IsLineOf, read_of}
 use Rattle.korat_top_laws.specs.Printed.{IsShown}
 use Rattle.korat_top_laws.specs.More.{last_of}
-use Rattle.korat_top_laws.specs.RowLines.{IsNumbered, row_line}
+use Rattle.korat_top_laws.specs.RowLines.{IsWritable, row_line}
 use Rattle.korat_top_laws.proofs.RowLines.{rows_back}
 use Rattle.korat_top_laws.specs.Readable.{AreReadable, IsReadableRow}
 use Rattle.korat_top_laws.proofs.Shown.{shown}
@@ -54,7 +54,7 @@ keys_short problem tests (e ∷ es) h = (h.0.short, keys_short problem tests es 
 pub record IsReadRow (problem : Problem) (tests : Bool) (row : Row) : Type 0 where
   pub shown : IsShown row.key
   pub tested : is_some row.verdict ≡ tests
-  pub numbered : IsNumbered row.verdict
+  pub writable : IsWritable problem.program.table.headings row.verdict
   pub some : 0 < length (structure_text problem row.structure)
   pub one_line : IsWithout 10 (structure_text problem row.structure)
 
@@ -68,7 +68,7 @@ rows_read problem tests (e ∷ es) h = one e.mark (rows_read problem tests es h.
   where
     one : (m : Mark Row) → AreReadRows problem tests (rows_in es) → IsReadableRow problem tests e.key m → AreReadRows problem tests (rows_of_mark m ++ rows_in es)
     one (Valid row) rest r =
-        (record { shown = subst IsShown (sym r.0) (shown e.key h.0.some h.0.short); tested = r.1; numbered = r.2; some = r.3; one_line = r.4 }, rest)
+        (record { shown = subst IsShown (sym r.0) (shown e.key h.0.some h.0.short); tested = r.1; writable = r.2; some = r.3; one_line = r.4 }, rest)
     one Invalid rest r = rest
     one Spent rest r = rest
 
@@ -80,7 +80,7 @@ taken_read problem tests (suc n) (row ∷ rows) h = (h.0, taken_read problem tes
 -- ---- lines
 
 abbrev pub line : Problem → Row → List ℕ
-line problem row = row_line row.key row.verdict (structure_text problem row.structure)
+line problem row = row_line problem.program.table.headings row.key row.verdict (structure_text problem row.structure)
 
 -- what is read of a row's line in a listing of all rows, and beside a key that ends it
 abbrev pub judged : Row → ReadRow
@@ -91,7 +91,7 @@ unjudged row = record { key = row.key; passes = true }
 
 line_is : (problem : Problem) (tests : Bool) (row : Row) → IsReadRow problem tests row → IsLineOf tests (judged row) (line problem row)
 line_is problem tests row h =
-    subst (λ (t : Bool). IsLineOf t (judged row) (line problem row)) h.tested (rows_back row.key row.verdict (structure_text problem row.structure) h.shown h.numbered h.some h.one_line)
+    subst (λ (t : Bool). IsLineOf t (judged row) (line problem row)) h.tested (rows_back problem.program.table.headings row.key row.verdict (structure_text problem row.structure) h.shown h.writable h.some h.one_line)
 
 pub lines_judged : (problem : Problem) (tests : Bool) (rows : List Row) → AreReadRows problem tests rows → AreLinesOf tests (map judged rows) (map (line problem) rows)
 lines_judged problem tests [] h = tt

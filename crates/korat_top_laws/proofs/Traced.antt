@@ -41,11 +41,11 @@ short_bound : (b : Bound) → IsBound b → IsShortBound b
 short_bound (At cut) h = short cut h
 short_bound End h = tt
 
-module _ (problem : Problem) (tests : Bool) (judged : (vector : List ℕ) → IsJudged tests (verdict_of problem vector)) where
+module _ (problem : Problem) (tests : Bool) (judged : (vector : List ℕ) → IsJudged problem.program.table.headings tests (verdict_of problem vector)) where
   readable_row : (key : List ℕ) (m : Mark Row) → IsLineAt problem key m → IsReadableRow problem tests key m
   readable_row key (Valid row) h =
-      let own : IsJudged tests row.verdict = subst (λ (v : Option Verdict). IsJudged tests v) (sym h.verdict) (judged h.vector) in
-      (h.key_is, own.some, own.numbered, h.some, h.line)
+      let own : IsJudged problem.program.table.headings tests row.verdict = subst (λ (v : Option Verdict). IsJudged problem.program.table.headings tests v) (sym h.verdict) (judged h.vector) in
+      (h.key_is, own.some, own.writable, h.some, h.line)
   readable_row key Invalid h = tt
   readable_row key Spent h = tt
 
@@ -84,5 +84,5 @@ traced words (Testing method) ask held problem answer said on steps reports few 
     let mode = mode_of of.sources of.fin (Testing method) problem of.accepted_as in
     let own = tested LIMIT of.sources of.fin method problem of.short of.accepted_as in
     let lines : length own.method.contracts < 2 ^ 31 = (let l = own.few in omega (arith, l)) in
-    accepts problem true (judged_are problem own.method own.is lines) ask answer (tested_of words method ask said) (subst (λ (m : Mode). IsModeOf true m) (sym mode) tt)
+    accepts problem true (judged_are problem own.method own.is lines own.names) ask answer (tested_of words method ask said) (subst (λ (m : Mode). IsModeOf true m) (sym mode) tt)
     (accepted_lines of.sources of.fin (Testing method) problem of.accepted_as) ask.trace on reports few

@@ -26,12 +26,13 @@ use Rattle.kr_space_meaning.specs.Meaning.{meaning as problem_meant}
 use Rattle.kr_space_meaning.proofs.Each.{each_weaker}
 use Rattle.kr_shard_laws.specs.Names.{IsIdentifier}
 use Rattle.kr_shard_laws.proofs.SourceNames.{named}
+use Rattle.kr_laws_never_stuck.proofs.Accepted.{posed}
 use Rattle.korat_top_files.specs.Refusals.{Refusal}
 use Rattle.korat_top_files.specs.Steps.{AreProgram, Judges, accepted, impure, unclassed, unlexed, unparsed, unposed, unstated, untyped}
 use Rattle.korat_top_files.specs.Upgrades.{IsCarried}
 use Rattle.korat_top_laws.proofs.Accepted.{program}
 use Rattle.korat_top_laws.proofs.Identifiers.{domain_name}
-use Rattle.korat_top_laws.proofs.Posed.{poses_it, posed}
+use Rattle.korat_top_laws.proofs.Posed.{poses_it}
 use Rattle.korat_top_laws.specs.Laws.{UpgradedLaw}
 
 -- ---- the document

@@ -28,10 +28,11 @@ use Rattle.kr_trace.specs.declared.row.Row.{Row}
 use Rattle.kr_trace.specs.Words.{counted_in, last_by, last_in, row_in, words_in}
 use Rattle.kr_trace.specs.declared.refusal.TraceRule.TheVariants.{KeyOrder}
 use Rattle.kr_trace.specs.Checked.{Checked, Rows, agrees, and_then, bad, is_whole, row_after, rows_from, tried_in, with_row}
+use Rattle.kr_shard_laws.proofs.Bytes.{without_append}
 use Rattle.korat_top_laws.specs.Honest.{AreWritten, valid_keys}
 use Rattle.korat_top_laws.specs.Texts.{AreRows, IsTraced}
 use Rattle.korat_top_laws.specs.Whole.{AreRowsOf, IsRowOf, IsWhole, WholeLaw, listed_line}
-use Rattle.korat_top_laws.proofs.Pieces.{alone, number_back, number_word, spaced, without_append}
+use Rattle.korat_top_laws.proofs.Pieces.{alone, number_back, number_word, spaced}
 use Rattle.korat_top_laws.proofs.Honest.{honest}
 use Rattle.korat_top_laws.proofs.Texts.{traced}
 

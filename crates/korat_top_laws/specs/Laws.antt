@@ -9,7 +9,7 @@ use Rattle.kr_mean.specs.Problem.{Problem}
 use Rattle.kr_mean.specs.declared.mode.Mode.{Mode}
 use Rattle.kr_mean.specs.declared.mode.Mode.TheVariants.{List as Listing}
 use Rattle.kr_report.specs.Reports.{Answer, bytes_of}
-use Rattle.kr_laws_never_stuck.specs.NeverStuck.{IsAccepted}
+use Rattle.kr_laws_never_stuck.specs.Accepted.{IsAccepted}
 use Rattle.kr_shard.specs.Texts.{first_text}
 use Rattle.kr_shard_laws.specs.Listings.{listing_in, shard_text}
 use Rattle.kr_shard.specs.Files.{MergesFiles, MOST_BYTES}

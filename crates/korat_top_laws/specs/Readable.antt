@@ -10,7 +10,7 @@ use Rattle.kr_mean.specs.declared.row.Row.{Row}
 use Rattle.kr_report.specs.Texts.{structure_text}
 use Rattle.kr_text.specs.Splitting.{IsWithout}
 use Rattle.kr_pool_desk.specs.Short.{IsShort}
-use Rattle.korat_top_laws.specs.RowLines.{IsNumbered}
+use Rattle.korat_top_laws.specs.RowLines.{IsWritable}
 
 -- whether the mode is a test
 abbrev pub IsModeOf : Bool → Mode → Type 0
@@ -22,7 +22,7 @@ IsModeOf true (Testing n) = Unit {0}
 -- the row has this key, and a verdict where it is of a test; its structure has a text, in one line
 abbrev pub IsReadableRow : Problem → Bool → List ℕ → Mark Row → Type 0
 IsReadableRow problem tests key (Valid row) =
-    (row.key ≡ key) × (is_some row.verdict ≡ tests) × IsNumbered row.verdict × (0 < length (structure_text problem row.structure)) × IsWithout 10 (structure_text problem row.structure)
+    (row.key ≡ key) × (is_some row.verdict ≡ tests) × IsWritable problem.program.table.headings row.verdict × (0 < length (structure_text problem row.structure)) × IsWithout 10 (structure_text problem row.structure)
 IsReadableRow problem tests key Invalid = Unit {0}
 IsReadableRow problem tests key Spent = Unit {0}
 

@@ -16,7 +16,7 @@ use Rattle.korat_top_laws.specs.Honest.{AreShown, valid_keys}
 use Rattle.korat_top_laws.specs.Listings.{IsLogged, IsShownLast, last_line, read_of, written_to}
 use Rattle.korat_top_laws.specs.More.{LeavesOut, last_of}
 use Rattle.korat_top_laws.specs.Printed.{IsShown, IsShownMark}
-use Rattle.korat_top_laws.specs.RowLines.{IsNumbered, row_line}
+use Rattle.korat_top_laws.specs.RowLines.{IsWritable, row_line}
 use Rattle.korat_top_laws.specs.Spent.{EndsAtSpent}
 use Rattle.korat_top_laws.specs.Texts.{text_of}
 
@@ -56,8 +56,8 @@ abbrev pub stopped_state : State
 stopped_state = st (seg 0 (At []) (At k2) (At k2) None 0 3 ∷ []) 1 0 (At k2) false
 
 pub record WorkedListings : Type 0 where
-  pub row_text : row_line k1 None (codes "Cell#0{v=1}") ≡ codes "0.1 Cell#0{v=1}"
-  pub failing_text : row_line k1 (Some (Ensures 2)) (codes "Cell#0{v=1}") ≡ codes "0.1 ensures 2 Cell#0{v=1}"
+  pub row_text : row_line [] k1 None (codes "Cell#0{v=1}") ≡ codes "0.1 Cell#0{v=1}"
+  pub failing_text : row_line [] k1 (Some (Ensures 2)) (codes "Cell#0{v=1}") ≡ codes "0.1 ensures 2 Cell#0{v=1}"
   pub listed_text : last_line (Listed 2 3) ≡ codes "valid 2 tried 3"
   pub tested_text : last_line (Tested 2 1 3) ≡ codes "valid 2 failing 1 tried 3"
   pub more_text : last_line (More k1) ≡ codes "more 0.1"
@@ -76,8 +76,8 @@ pub record WorkedListings : Type 0 where
   pub empty_cut : IsShown [] → ⊥
   pub empty_mark : IsShownMark []
   -- postconditions are numbered from 1 on
-  pub first_postcondition : IsNumbered (Some (Ensures 1))
-  pub no_postcondition : IsNumbered (Some (Ensures 0)) → ⊥
+  pub first_postcondition : IsWritable [] (Some (Ensures 1))
+  pub no_postcondition : IsWritable [] (Some (Ensures 0)) → ⊥
   pub empty_last : IsShownLast (More []) → ⊥
   pub other_seat : AreShown 1 (Look 1 ∷ []) → ⊥
   pub has_stop : HasNoStop stopped_log → ⊥

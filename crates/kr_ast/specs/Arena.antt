@@ -5,7 +5,7 @@ use Rattle.kr_ast.specs.declared.node.Name.{Name}
 use Rattle.kr_ast.specs.declared.node.Node.{Node}
 use Rattle.kr_ast.specs.declared.node.Node.TheVariants as nodes
 use Rattle.kr_ast.specs.declared.node.Entry.{Entry}
-use Rattle.kr_ast.specs.Tree.{Tree, Nil, Cons, PrimitiveType, NamedType, QualifiedType, GenericType, DiamondType, ArrayType, Number, LongNumber, Truth, Null, This, Variable, FieldAccess, ArrayAccess, Call, MethodCall, SuperCall, ObjectCreation, ArrayCreation, Unary, Step, Binary, InstanceOf, Conditional, Cast, Assignment, CompoundAssignment, Result, Old, Empty, Block, Local, Declarator, ExpressionStatement, Return, Break, Continue, IfThen, IfElse, While, Do, For, ConstructorCall, Class, Field, Method, Signature, Parameter, Constructor, Requires, Ensures}
+use Rattle.kr_ast.specs.Tree.{Tree, Nil, Cons, PrimitiveType, NamedType, QualifiedType, GenericType, DiamondType, ArrayType, Number, LongNumber, Truth, Null, This, Variable, FieldAccess, ArrayAccess, Call, MethodCall, SuperCall, ObjectCreation, ArrayCreation, Unary, Step, Binary, InstanceOf, Conditional, Cast, Assignment, CompoundAssignment, Result, Old, Empty, Block, Local, Declarator, ExpressionStatement, Return, Break, Continue, IfThen, IfElse, While, Do, For, Throw, Try, Catch, ConstructorCall, Class, Field, Method, Signature, Parameter, Constructor, Requires, Ensures, Signals}
 use Rattle.kr_ast.specs.Grow.{grow}
 
 -- the bytes of a name in a text
@@ -58,6 +58,9 @@ tree_of text look p (nodes.IfElse a b c) = IfElse p (look a) (look b) (look c)
 tree_of text look p (nodes.While a b) = While p (look a) (look b)
 tree_of text look p (nodes.Do a b) = Do p (look a) (look b)
 tree_of text look p (nodes.For a b c d) = For p (look a) (look b) (look c) (look d)
+tree_of text look p (nodes.Throw a) = Throw p (look a)
+tree_of text look p (nodes.Try a b) = Try p (look a) (look b)
+tree_of text look p (nodes.Catch a b) = Catch p (look a) (look b)
 tree_of text look p (nodes.ConstructorCall a) = ConstructorCall p (look a)
 tree_of text look p (nodes.Class n a b) = Class p (name_in text n) (look a) (look b)
 tree_of text look p (nodes.Field x y a b) = Field p x y (look a) (look b)
@@ -67,6 +70,7 @@ tree_of text look p (nodes.Parameter a n) = Parameter p (look a) (name_in text n
 tree_of text look p (nodes.Constructor a b c) = Constructor p (look a) (look b) (look c)
 tree_of text look p (nodes.Requires a) = Requires p (look a)
 tree_of text look p (nodes.Ensures a) = Ensures p (look a)
+tree_of text look p (nodes.Signals a b) = Signals p (look a) (look b)
 
 abbrev pub entry_tree : List ℕ → List Tree → Entry → Tree
 entry_tree text ts e = tree_of text (λ i. slice_index_or ts i Nil) e.place e.node
@@ -116,6 +120,9 @@ parts (nodes.IfElse a b c) = a ∷ b ∷ c ∷ []
 parts (nodes.While a b) = a ∷ b ∷ []
 parts (nodes.Do a b) = a ∷ b ∷ []
 parts (nodes.For a b c d) = a ∷ b ∷ c ∷ d ∷ []
+parts (nodes.Throw a) = a ∷ []
+parts (nodes.Try a b) = a ∷ b ∷ []
+parts (nodes.Catch a b) = a ∷ b ∷ []
 parts (nodes.ConstructorCall a) = a ∷ []
 parts (nodes.Class n a b) = a ∷ b ∷ []
 parts (nodes.Field x y a b) = a ∷ b ∷ []
@@ -125,6 +132,7 @@ parts (nodes.Parameter a n) = a ∷ []
 parts (nodes.Constructor a b c) = a ∷ b ∷ c ∷ []
 parts (nodes.Requires a) = a ∷ []
 parts (nodes.Ensures a) = a ∷ []
+parts (nodes.Signals a b) = a ∷ b ∷ []
 parts _ = []
 
 -- these are the parts of node i from part j on

@@ -52,9 +52,13 @@ node_of shapes.Continue a b = nodes.Continue
 node_of shapes.IfThen a b = nodes.IfThen a b
 node_of shapes.While a b = nodes.While a b
 node_of shapes.Do a b = nodes.Do a b
+node_of shapes.Throw a b = nodes.Throw a
+node_of shapes.Try a b = nodes.Try a b
+node_of shapes.Catch a b = nodes.Catch a b
 node_of shapes.ConstructorCall a b = nodes.ConstructorCall a
 node_of shapes.Requires a b = nodes.Requires a
 node_of shapes.Ensures a b = nodes.Ensures a
+node_of shapes.Signals a b = nodes.Signals a b
 node_of shapes.Long a b = nodes.Nil
 
 abbrev pub no_node : LongNode

@@ -74,6 +74,11 @@ pub data Tree : Type 0 where
   Do : Place → Tree → Tree → Tree
   -- initial statements, condition, updates, body
   For : Place → Tree → Tree → Tree → Tree → Tree
+  Throw : Place → Tree → Tree
+  -- block, catches
+  Try : Place → Tree → Tree → Tree
+  -- parameter, block
+  Catch : Place → Tree → Tree → Tree
   -- `super(..);` at the head of a constructor
   ConstructorCall : Place → Tree → Tree
   -- declarations (8)
@@ -91,6 +96,8 @@ pub data Tree : Type 0 where
   Constructor : Place → Tree → Tree → Tree → Tree
   Requires : Place → Tree → Tree
   Ensures : Place → Tree → Tree
+  -- parameter, or a type alone where it has no name; condition
+  Signals : Place → Tree → Tree → Tree
 
 -- The fold of a rule over a tree: the rule is given a tree and the results for its parts in order. This is the only
 -- list of the parts of each kind.
@@ -139,6 +146,9 @@ fold_tree rule (IfElse p a b c) = rule (IfElse p a b c) (fold_tree rule a ∷ fo
 fold_tree rule (While p a b) = rule (While p a b) (fold_tree rule a ∷ fold_tree rule b ∷ [])
 fold_tree rule (Do p a b) = rule (Do p a b) (fold_tree rule a ∷ fold_tree rule b ∷ [])
 fold_tree rule (For p a b c d) = rule (For p a b c d) (fold_tree rule a ∷ fold_tree rule b ∷ fold_tree rule c ∷ fold_tree rule d ∷ [])
+fold_tree rule (Throw p a) = rule (Throw p a) (fold_tree rule a ∷ [])
+fold_tree rule (Try p a b) = rule (Try p a b) (fold_tree rule a ∷ fold_tree rule b ∷ [])
+fold_tree rule (Catch p a b) = rule (Catch p a b) (fold_tree rule a ∷ fold_tree rule b ∷ [])
 fold_tree rule (ConstructorCall p a) = rule (ConstructorCall p a) (fold_tree rule a ∷ [])
 fold_tree rule (Class p n a b) = rule (Class p n a b) (fold_tree rule a ∷ fold_tree rule b ∷ [])
 fold_tree rule (Field p s f a b) = rule (Field p s f a b) (fold_tree rule a ∷ fold_tree rule b ∷ [])
@@ -148,6 +158,7 @@ fold_tree rule (Parameter p a n) = rule (Parameter p a n) (fold_tree rule a ∷ 
 fold_tree rule (Constructor p a b c) = rule (Constructor p a b c) (fold_tree rule a ∷ fold_tree rule b ∷ fold_tree rule c ∷ [])
 fold_tree rule (Requires p a) = rule (Requires p a) (fold_tree rule a ∷ [])
 fold_tree rule (Ensures p a) = rule (Ensures p a) (fold_tree rule a ∷ [])
+fold_tree rule (Signals p a b) = rule (Signals p a b) (fold_tree rule a ∷ fold_tree rule b ∷ [])
 
 -- the number of nodes
 abbrev pub size : Tree → ℕ

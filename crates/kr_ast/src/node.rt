@@ -229,6 +229,17 @@ pub enum Node {
         updates: u32,
         body: u32,
     },
+    Throw {
+        thrown: u32,
+    },
+    Try {
+        body: u32,
+        catches: u32,
+    },
+    Catch {
+        declared: u32,
+        body: u32,
+    },
     /// `super(..);` at the head of a constructor
     ConstructorCall {
         arguments: u32,
@@ -270,6 +281,11 @@ pub enum Node {
         condition: u32,
     },
     Ensures {
+        condition: u32,
+    },
+    /// A parameter, or a type alone.
+    Signals {
+        declared: u32,
         condition: u32,
     },
 }

@@ -111,6 +111,7 @@ pub(crate) fn parts_of(node: &Node) -> Parts
         | Node::Declarator { initial: a, .. }
         | Node::ExpressionStatement { expression: a }
         | Node::Return { value: a }
+        | Node::Throw { thrown: a }
         | Node::ConstructorCall { arguments: a }
         | Node::Parameter { declared: a, .. }
         | Node::Requires { condition: a }
@@ -170,6 +171,18 @@ pub(crate) fn parts_of(node: &Node) -> Parts
         }
         | Node::Do {
             body: a,
+            condition: b,
+        }
+        | Node::Try {
+            body: a,
+            catches: b,
+        }
+        | Node::Catch {
+            declared: a,
+            body: b,
+        }
+        | Node::Signals {
+            declared: a,
             condition: b,
         }
         | Node::Class {

@@ -41,9 +41,13 @@ pub(crate) enum Shape {
     IfThen,
     While,
     Do,
+    Throw,
+    Try,
+    Catch,
     ConstructorCall,
     Requires,
     Ensures,
+    Signals,
     Long,
 }
 
@@ -162,9 +166,16 @@ pub(crate) fn words_of(node: Node) -> Option<Words>
         Node::IfThen { condition, holds } => Some(double(Shape::IfThen, condition, holds)),
         Node::While { condition, body } => Some(double(Shape::While, condition, body)),
         Node::Do { body, condition } => Some(double(Shape::Do, body, condition)),
+        Node::Throw { thrown } => Some(single(Shape::Throw, thrown)),
+        Node::Try { body, catches } => Some(double(Shape::Try, body, catches)),
+        Node::Catch { declared, body } => Some(double(Shape::Catch, declared, body)),
         Node::ConstructorCall { arguments } => Some(single(Shape::ConstructorCall, arguments)),
         Node::Requires { condition } => Some(single(Shape::Requires, condition)),
         Node::Ensures { condition } => Some(single(Shape::Ensures, condition)),
+        Node::Signals {
+            declared,
+            condition,
+        } => Some(double(Shape::Signals, declared, condition)),
         _ => None,
     }
 }
@@ -269,9 +280,22 @@ pub(crate) fn node_of(shape: Shape, first: u32, second: u32) -> Node
             body: first,
             condition: second,
         },
+        Shape::Throw => Node::Throw { thrown: first },
+        Shape::Try => Node::Try {
+            body: first,
+            catches: second,
+        },
+        Shape::Catch => Node::Catch {
+            declared: first,
+            body: second,
+        },
         Shape::ConstructorCall => Node::ConstructorCall { arguments: first },
         Shape::Requires => Node::Requires { condition: first },
         Shape::Ensures => Node::Ensures { condition: first },
+        Shape::Signals => Node::Signals {
+            declared: first,
+            condition: second,
+        },
         Shape::Long => Node::Nil,
     }
 }

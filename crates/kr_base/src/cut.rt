@@ -1,5 +1,5 @@
 // Cuts: keys of candidates, in lexicographic order.
-ghost use Rattle.std.specs.Prelude.{◌≡◌, [], decimal, IfOk, IsTrue, ◌↔◌};
+ghost use Rattle.std.specs.Prelude.{◌≡◌, [], decimal, IfOk, OnOk, IsTrue, ◌↔◌};
 ghost use Rattle.std.specs.Ordering.{nat_cmp};
 ghost use Rattle.std.specs.Cmp.Lexicographic.{slice_cmp};
 ghost use Rattle.kr_base.specs.Told.{Writes};
@@ -72,6 +72,15 @@ impl Cut {
         ensures { result.items ≡ self }
     {
         self.numbers
+    }
+
+    /// Becomes the cut of these numbers, in the memory that it has.
+    pub fn assign(&mut self, numbers: &[u32]) -> Result<(), NoMemory>
+        ensures { OnOk result (self.new ≡ numbers.now) }
+    {
+        self.numbers.clear();
+        self.numbers.extend_from_slice(numbers)?;
+        Ok(())
     }
 
     pub fn try_clone(&self) -> Result<Cut, NoMemory>

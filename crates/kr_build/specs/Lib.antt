@@ -1,3 +1,4 @@
-pub mod Visits
 pub mod Extents
 pub mod Renewed
+pub mod Visits
+pub mod Vocabulary

@@ -1,12 +1,7 @@
 // The heap of a candidate.
 ghost use Rattle.std.specs.Prelude.{◌≡◌, ◌<◌, ◌≤◌, ◌+◌, ◌-◌, ◌^◌, ◌++◌, ◌∷◌, [], ℕ, IfOk, OnOk, length, map};
 ghost use Rattle.std.specs.List.{range_with_len};
-ghost use Rattle.kr_iso.specs.Objects.{object_of};
-ghost use Rattle.kr_mean.specs.Heaps.{heap_object, heap_of, value_at, values_there};
-ghost use Rattle.kr_mean.specs.Problem.{domain_at, objects_of_domain, slots};
-ghost use Rattle.kr_mean.specs.Space.{IsVector, space_of};
-ghost use Rattle.kr_mean.specs.WellFormed.{IsWellFormed};
-ghost use Rattle.kr_space_layout.specs.Bounds.{bare};
+ghost use Rattle.kr_build.specs.Vocabulary.{bare, domain_at, heap_object, heap_of, IsVector, IsWellFormed, object_of, objects_of_domain, slots, space_of, value_at, values_there};
 
 use crate::objects::{Stretch, slots_of};
 use kr_base::NoMemory;

@@ -8,6 +8,6 @@ mod updates;
 mod walk;
 
 pub use heap::build;
-pub use structure::structure_of;
+pub use structure::fill_structure;
 pub use updates::update_within;
 pub use walk::Walk;

@@ -1,12 +1,7 @@
 // The slots of an object that are there in a candidate's heap.
 ghost use Rattle.std.specs.Prelude.{◌≡◌, ◌<◌, ◌+◌, ◌^◌, ◌++◌, ℕ, true, OnOk, length};
 ghost use Rattle.std.specs.List.{range_with_len};
-ghost use Rattle.kr_iso.specs.Objects.{object_of};
-ghost use Rattle.kr_mean.specs.Heaps.{length_in, slots_in, value_at};
-ghost use Rattle.kr_mean.specs.Problem.{domain_at, slots};
-ghost use Rattle.kr_mean.specs.Space.{IsVector, space_of};
-ghost use Rattle.kr_mean.specs.WellFormed.{IsWellFormed};
-ghost use Rattle.kr_space_layout.specs.Bounds.{bare};
+ghost use Rattle.kr_build.specs.Vocabulary.{bare, domain_at, IsVector, IsWellFormed, length_in, object_of, slots, slots_in, space_of, value_at};
 ghost use Rattle.kr_build.specs.Extents.{extent_of, is_array};
 
 use kr_base::NoMemory;

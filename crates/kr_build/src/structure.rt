@@ -1,12 +1,6 @@
 // The reachable slots of a candidate, with their values.
-ghost use Rattle.std.specs.Prelude.{◌≡◌, ◌<◌, ◌^◌, IfOk, length, map};
-ghost use Rattle.kr_mean.specs.Entries.{structure_of};
-ghost use Rattle.kr_mean.specs.Heaps.{value_at};
-ghost use Rattle.kr_mean.specs.Problem.{slots};
-ghost use Rattle.kr_mean.specs.Readings.{AllBelow};
-ghost use Rattle.kr_mean.specs.Space.{IsVector, space_of};
-ghost use Rattle.kr_mean.specs.WellFormed.{IsWellFormed};
-ghost use Rattle.kr_space_layout.specs.Bounds.{bare};
+ghost use Rattle.std.specs.Prelude.{◌≡◌, ◌<◌, ◌^◌, OnOk, length, map};
+ghost use Rattle.kr_build.specs.Vocabulary.{AllBelow, bare, IsVector, IsWellFormed, slots, space_of, structure_of, value_at};
 
 use crate::Walk;
 use kr_base::NoMemory;
@@ -14,7 +8,6 @@ use kr_mean::Structure;
 use kr_space_layout::Layout;
 use kr_value::Value;
 use kr_vector::{Slot, Vector};
-use std::alloc::Global;
 
 /// The value that a candidate has at a slot.
 #[inline(always)]
@@ -26,37 +19,37 @@ fn value_of(layout: &Layout, vector: &Vector, slot: u32) -> Value
     layout.value(slot, vector.get(Slot(slot)))
 }
 
-/// Slots with their values.
-fn values_at(
-    alloc: Global,
+/// Makes a structure of slots with their values.
+fn put_values(
     layout: &Layout,
     vector: &Vector,
     places: &[u32],
-) -> Result<Vec<(u32, Value)>, NoMemory>
+    structure: &mut Structure,
+) -> Result<(), NoMemory>
     requires vector { IsVector (space_of (bare layout.now)) vector.now }
     requires inside { AllBelow (length (slots (bare layout.now))) places.now }
-    ensures { IfOk result (λ values. values.items ≡ map (λ s. (s, value_at (bare layout.now) vector.now s)) places.now) }
+    ensures { OnOk result (structure.new ≡ map (λ s. (s, value_at (bare layout.now) vector.now s)) places.now) }
 {
-    let mut values = Vec::with_capacity(alloc, places.len())?;
+    structure.clear_for(places.len())?;
     for slot in places {
-        values.push((*slot, value_of(layout, vector, *slot)))?;
+        structure.push(*slot, value_of(layout, vector, *slot))?;
     }
-    Ok(values)
+    Ok(())
 }
 
-/// The structure of a candidate. The walk is room that is used again.
-pub fn structure_of(
-    alloc: Global,
+/// Makes a structure that of a candidate, in the memory that it has. The walk is room that is used again.
+pub fn fill_structure(
     layout: &Layout,
     walk: &mut Walk,
     vector: &Vector,
-) -> Result<Structure, NoMemory>
+    structure: &mut Structure,
+) -> Result<(), NoMemory>
     requires well { IsWellFormed (bare layout.now) }
     requires vector { IsVector (space_of (bare layout.now)) vector.now }
     requires small { length (slots (bare layout.now)) < 2 ^ 31 }
-    ensures { IfOk result (λ structure. structure ≡ structure_of (bare layout.now) vector.now) }
+    ensures { OnOk result (structure.new ≡ structure_of (bare layout.now) vector.now) }
 {
     walk.walk(layout, vector)?;
-    let values = values_at(alloc, layout, vector, walk.slots())?;
-    Ok(Structure::new(values))
+    put_values(layout, vector, walk.slots(), structure)?;
+    Ok(())
 }

@@ -1,14 +1,7 @@
 // A heap that is brought from one candidate to another.
 ghost use Rattle.std.specs.Prelude.{◌≡◌, ◌<◌, ◌≤◌, ◌+◌, ◌^◌, ◌++◌, ℕ, OnOk, Some, length, map, slice_index, slice_set};
 ghost use Rattle.std.specs.List.{range_with_len};
-ghost use Rattle.kr_heap.specs.Objects.{with_values};
-ghost use Rattle.kr_iso.specs.Objects.{object_of};
-ghost use Rattle.kr_mean.specs.Heaps.{heap_object, heap_of, value_at};
-ghost use Rattle.kr_mean.specs.Problem.{choices_at, domain_at, heap_number, slot_at, slots};
-ghost use Rattle.kr_mean.specs.Space.{IsVector, space_of};
-ghost use Rattle.kr_mean.specs.WellFormed.{IsWellFormed};
-ghost use Rattle.kr_space_layout.specs.Bounds.{bare};
-ghost use Rattle.kr_value.specs.Heaps.{object_in};
+ghost use Rattle.kr_build.specs.Vocabulary.{bare, choices_at, domain_at, heap_number, heap_object, heap_of, IsVector, IsWellFormed, object_in, object_of, slot_at, slots, space_of, value_at, with_values};
 ghost use Rattle.kr_build.specs.Renewed.{IsBut, IsSameBut};
 
 use crate::heap::kept;

@@ -1,10 +1,6 @@
 // The slots that are reachable in a candidate's heap, breadth first.
 ghost use Rattle.std.specs.Prelude.{◌≡◌, ◌<◌, ◌^◌, ℕ, [], OnOk, length};
-ghost use Rattle.kr_mean.specs.Heaps.{root_slots, walk};
-ghost use Rattle.kr_mean.specs.Problem.{slots};
-ghost use Rattle.kr_mean.specs.Space.{IsVector, space_of};
-ghost use Rattle.kr_mean.specs.WellFormed.{IsWellFormed};
-ghost use Rattle.kr_space_layout.specs.Bounds.{bare};
+ghost use Rattle.kr_build.specs.Vocabulary.{bare, IsVector, IsWellFormed, root_slots, slots, space_of, walk};
 ghost use Rattle.kr_build.specs.Visits.{IsVisit};
 
 use crate::objects::{Stretch, add_slots, slots_of};

@@ -15,6 +15,6 @@ pub use form::TypeForm;
 pub use headings::Heading;
 pub use lists::items;
 pub use names::Index;
-pub use numbers::NodeTypes;
+pub use numbers::{NodeTypes, type_of_name};
 pub use spellings::Spellings;
 pub use types::Types;

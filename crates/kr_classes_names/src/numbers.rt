@@ -1,7 +1,10 @@
 // The numbers of the types that the nodes of all files name.
-ghost use Rattle.std.specs.Prelude.{◌≡◌, ◌<◌, ◌≤◌, ◌+◌, Some, None, IfOk, length};
+ghost use Rattle.std.specs.Prelude.{◌≡◌, ◌<◌, ◌≤◌, ◌+◌, List, Some, None, IfOk, length, map};
+ghost use Rattle.kr_base.specs.Places.{nowhere};
+ghost use Rattle.kr_ast.specs.Arena.{Arena, root};
+ghost use Rattle.kr_ast.specs.Tree.{NamedType};
 ghost use Rattle.kr_classes_table.specs.Types.{UnknownType};
-ghost use Rattle.kr_classes_table.specs.Table.{class_or};
+ghost use Rattle.kr_classes_table.specs.Table.{class_or, headings_of, type_named};
 ghost use Rattle.kr_classes_names.specs.Shown.{AreHeads};
 ghost use Rattle.kr_ast.specs.Files.{file_at};
 ghost use Rattle.kr_classes_names.specs.Types.{Extends, IsTypeNumber};
@@ -57,6 +60,19 @@ fn class_type(
         Some(class) => types.number(TypeForm::Class(class)),
         None => types.unknown(alloc, outer, name),
     }
+}
+
+/// The number of the type that a name means.
+pub fn type_of_name(
+    alloc: Global,
+    heads: &Heads,
+    types: &mut Types,
+    name: &[u8],
+) -> Result<TypeId, NoMemory>
+    ensures number { (files : List Arena) → AreHeads files heads.now → IfOk result (λ n. IsTypeNumber types.new n (type_named (headings_of (map root files)) (NamedType nowhere name.now))) }
+    ensures extends { Extends types.old types.new }
+{
+    class_type(alloc, types, heads.number_of(name), b"".as_slice(), name)
 }
 
 /// The number of the type that a node names, from those of its parts.

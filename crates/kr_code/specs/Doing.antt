@@ -25,9 +25,12 @@ use Rattle.kr_code.specs.declared.expression.Expression.TheVariants as expressio
 use Rattle.kr_code.specs.declared.statement.Statement.{Statement}
 use Rattle.kr_code.specs.declared.statement.Statement.TheVariants as statements
 use Rattle.kr_code.specs.declared.statement.Declarator.{Declarator}
-use Rattle.kr_code.specs.Tables.{node_at, expression_of, statement_of, declarator_of, initialiser_of, listed, values_in, method_at, class_at, method_in}
+use Rattle.kr_code.specs.declared.statement.Catch.{Catch}
+use Rattle.kr_mean.specs.declared.kind.Kind.{Kind}
+use Rattle.kr_mean.specs.Thrown.{attempted}
+use Rattle.kr_code.specs.Tables.{node_at, expression_of, statement_of, declarator_of, catch_of, initialiser_of, class_in_kind, is_caught_by, listed, values_in, method_at, class_at, method_in}
 use Rattle.kr_code.specs.Collections.{name_of, new_collection}
-use Rattle.kr_code.specs.Steps.{load_named, store_field, store_initial, store_item, cast_to, instance_of}
+use Rattle.kr_code.specs.Steps.{load_named, store_field, store_initial, store_item, cast_to, instance_of, throw_object, taken}
 
 -- the meaning of nodes of code, as expressions and as statements, and of a loop
 pub record Doing : Type 0 where
@@ -282,6 +285,23 @@ for_round d body updates = do
   flow ← d.exec body
   then_update flow (updates_at d updates)
 
+-- a `catch` after its unit
+abbrev pub catch_at : Code → Doing → ℕ → Kind → Run Flow
+catch_at code d body k = scoped (do
+  tick
+  o ← taken code k
+  declare o
+  d.exec body)
+
+abbrev pub caught_or : Code → Doing → Option Catch → Option (Run Flow) → Kind → Option (Run Flow)
+caught_or code d None rest k = None
+caught_or code d (Some c) rest k = if is_caught_by code c.caught (class_in_kind code k) then Some (catch_at code d c.body k) else rest
+
+-- what the first clause does that fits
+abbrev pub caught_at : Code → Doing → List ℕ → Kind → Option (Run Flow)
+caught_at code d [] k = None
+caught_at code d (i ∷ is) k = caught_or code d (catch_of (node_at code i)) (caught_at code d is k) k
+
 -- a statement after its unit
 abbrev pub flow_of : Code → Doing → Statement → Run Flow
 flow_of code d statements.Stuck = stop Stuck
@@ -307,6 +327,10 @@ flow_of code d statements.Leave = give Left
 flow_of code d (statements.Return e) = do
   v ← d.value e
   give (Gave v)
+flow_of code d (statements.Throw e) = do
+  v ← d.value e
+  throw_object code v
+flow_of code d (statements.Try b cs) = attempted (d.exec b) (caught_at code d (listed code cs))
 flow_of code d (statements.Declare ns) = stop Stuck
 
 -- a statement with its unit; a declaration's declarators have units of their own

@@ -18,7 +18,7 @@ use Rattle.kr_classes_table.specs.Table.{Field, Method, items, fields_of, line_o
 use Rattle.kr_classes_table.specs.Arrays.{array_number}
 use Rattle.kr_classes_table.specs.Constants.{constant_of, known_value as constant_value}
 use Rattle.kr_classes_table.specs.Numbers.{Width, Bits32, Bits64, wrap}
-use Rattle.kr_types_meaning.specs.Scopes.{Scope, LocalName, FieldName, NoName, written, bind_local, after, meant, class_before, static_only, method_meant}
+use Rattle.kr_types_meaning.specs.Scopes.{Scope, LocalName, FieldName, NoName, written, caught_type, bind_local, after, meant, class_before, static_only, method_meant}
 use Rattle.kr_types_meaning.specs.Promotion.{is_number}
 use Rattle.kr_mean.specs.Program.{Program, default_of, is_of_type, overriding, class_scope, method_scope, constructor_scope, constructor_of, declared_fields, field_position, spot_of_field}
 use Rattle.kr_mean.specs.Meaning.{Target, LocalTarget, OwnField, FieldOf, ElementOf, NoTarget, target_of, typed_method, super_method, is_primitive, declaring_locals, width_at, width_of, operand_width}
@@ -38,8 +38,11 @@ use Rattle.kr_code.specs.declared.expression.Expression.TheVariants as expressio
 use Rattle.kr_code.specs.declared.statement.Statement.{Statement}
 use Rattle.kr_code.specs.declared.statement.Statement.TheVariants as statements
 use Rattle.kr_code.specs.declared.statement.Declarator.{Declarator}
+use Rattle.kr_code.specs.declared.statement.Catch.{Catch}
+use Rattle.kr_mean.specs.declared.kind.Kind.{Kind}
+use Rattle.kr_mean.specs.Thrown.{class_of_kind}
 use Rattle.kr_code.specs.Collections.{call_named}
-use Rattle.kr_code.specs.Tables.{node_at, expression_of, statement_of, declarator_of, initialiser_of, listed, values_in, method_at, class_at, position_in, spot_in, method_in, is_instance}
+use Rattle.kr_code.specs.Tables.{node_at, expression_of, statement_of, declarator_of, catch_of, initialiser_of, class_in_kind, defaults_in, listed, values_in, method_at, class_at, position_in, spot_in, method_in, is_instance}
 
 -- The meaning of numbers: names, fields that are stored, methods, types; and of each node the tree with its scope.
 pub record Numbering : Type 0 where
@@ -231,6 +234,8 @@ is_no_statement (trees.For p i e u a) = false
 is_no_statement (trees.Break p) = false
 is_no_statement (trees.Continue p) = false
 is_no_statement (trees.Return p e) = false
+is_no_statement (trees.Throw p e) = false
+is_no_statement (trees.Try p b cs) = false
 is_no_statement t = true
 
 -- a declarator by its node, which declares the local of the next number
@@ -245,6 +250,18 @@ abbrev pub AreDeclarators : Code → Numbering → Scope → List Tree → List 
 AreDeclarators code n s [] [] = Unit {0}
 AreDeclarators code n s (t ∷ ts) (i ∷ is) = IsDeclarator n s t (declarator_of (node_at code i)) × AreDeclarators code n (after s t) ts is
 AreDeclarators code n s ts is = ⊥
+
+-- a `catch` by its node
+abbrev pub IsCatch : Numbering → Scope → Tree → Option Catch → Type 0
+IsCatch n s (trees.Catch p d b) (Some c) = (n.type c.caught ≡ caught_type s d) × IsPart n (after s d) b c.body
+IsCatch n s (trees.Catch p d b) None = ⊥
+IsCatch n s t None = Unit {0}
+IsCatch n s t (Some c) = ⊥
+
+abbrev pub AreCatches : Code → Numbering → Scope → List Tree → List ℕ → Type 0
+AreCatches code n s [] [] = Unit {0}
+AreCatches code n s (t ∷ ts) (i ∷ is) = IsCatch n s t (catch_of (node_at code i)) × AreCatches code n (after s t) ts is
+AreCatches code n s ts is = ⊥
 
 -- the resolved form of a statement
 pub data IsStatement (code : Code) (n : Numbering) (s : Scope) : Tree → Statement → Type 0 where
@@ -263,6 +280,8 @@ pub data IsStatement (code : Code) (n : Numbering) (s : Scope) : Tree → Statem
   return : (p : Place) (e : Tree) (i : ℕ) → (e ≡ trees.Nil → ⊥) → IsPart n s e i → IsStatement code n s (trees.Return p e) (statements.Return i)
   declaration : (p : Place) (t ds : Tree) (ns : Nodes) → AreDeclarators code n (declaring_locals s t) (items ds) (listed code ns)
       → IsStatement code n s (trees.Local p t ds) (statements.Declare ns)
+  throw : (p : Place) (e : Tree) (i : ℕ) → IsPart n s e i → IsStatement code n s (trees.Throw p e) (statements.Throw i)
+  try : (p : Place) (b cs : Tree) (i : ℕ) (ns : Nodes) → IsPart n s b i → AreCatches code n s (items cs) (listed code ns) → IsStatement code n s (trees.Try p b cs) (statements.Try i ns)
   other : (t : Tree) → is_no_statement t ≡ true → IsStatement code n s t statements.Stuck
 
 -- ---- methods and classes
@@ -334,6 +353,8 @@ pub record AreTables (program : Program) (code : Code) (n : Numbering) : Type 0 
   pub positions : (k c : ℕ) → position_in code k c ≡ field_position program c (n.name k)
   pub spots : (k : ℕ) (class : Class) → spot_in code k class ≡ spot_of_field program (n.field k) class
   pub dispatch : (k : ℕ) (class : Class) → IsMaybeMethod code n (overriding program (n.method k) class) (method_in code k class)
+  pub defaults : (c : ℕ) → defaults_in code (class_at code c) ≡ map (λ f. default_of f.type) (fields_of program.table c)
+  pub traps : (k : Kind) → class_in_kind code k ≡ class_of_kind program k
   pub instances : (k : ℕ) (class : Class) → is_instance code k class ≡ is_of_type program (n.type k) class
   pub methods : (k : ℕ) (m : MethodCode) → method_at code k ≡ Some m → IsMethodCode program code n (n.method k) m
   pub classes : (c : ℕ) (k : ClassCode) → class_at code c ≡ Some k → IsClassCode program code n c k

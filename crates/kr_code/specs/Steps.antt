@@ -8,9 +8,11 @@ use Rattle.kr_value.specs.declared.object.Spot.TheVariants.{Length}
 use Rattle.kr_value.specs.Heaps.{object_in}
 use Rattle.kr_mean.specs.declared.kind.Kind.TheVariants.{NullPointerException, ClassCastException}
 use Rattle.kr_mean.specs.declared.kind.Stop.TheVariants.{Trapped, Stuck}
-use Rattle.kr_mean.specs.Steps.{Run, give, stop, ◌>>=◌, class_of, load, load_at, store_at, store_element_if}
+use Rattle.kr_mean.specs.declared.kind.Kind.{Kind}
+use Rattle.kr_mean.specs.Thrown.{throw_as}
+use Rattle.kr_mean.specs.Steps.{Run, make, give, stop, ◌>>=◌, class_of, load, load_at, store_at, store_element_if}
 use Rattle.kr_code.specs.declared.code.Code.{Code}
-use Rattle.kr_code.specs.Tables.{position_in, spot_in, is_instance}
+use Rattle.kr_code.specs.Tables.{position_in, spot_in, is_instance, class_at, defaults_in, class_in_kind, kind_in}
 
 -- reads the field of a name, or an array's length
 abbrev pub load_by_class : Code → Value → ℕ → Class → Run Value
@@ -52,3 +54,25 @@ cast_to code t v (Some class) = if is_instance code t class then give v else sto
 abbrev pub instance_of : Code → ℕ → Option Class → Value
 instance_of code t None = Truth false
 instance_of code t (Some class) = Truth (is_instance code t class)
+
+-- ---- what is thrown
+
+abbrev pub throw_class : {A : Type 0} → Code → Value → Class → Run A
+throw_class code v (Object c) = throw_as (kind_in code c) v
+throw_class code v class = stop Stuck
+
+-- null traps
+abbrev pub throw_object : {A : Type 0} → Code → Value → Run A
+throw_object code v = class_of v >>= throw_class code v
+
+abbrev pub new_thrown : Code → Option ℕ → Run Value
+new_thrown code None = stop Stuck
+new_thrown code (Some c) = make (Object c) (defaults_in code (class_at code c))
+
+abbrev pub taken_or_new : Code → Kind → Option Value → Run Value
+taken_or_new code k (Some v) s = give v (record s { thrown = None })
+taken_or_new code k None s = new_thrown code (class_in_kind code k) s
+
+-- the object that was thrown; of a trap a new one
+abbrev pub taken : Code → Kind → Run Value
+taken code k s = taken_or_new code k s.thrown s

@@ -19,6 +19,10 @@ use Rattle.kr_code.specs.declared.expression.Expression.TheVariants as expressio
 use Rattle.kr_code.specs.declared.statement.Statement.{Statement}
 use Rattle.kr_code.specs.declared.statement.Statement.TheVariants as statements
 use Rattle.kr_code.specs.declared.statement.Declarator.{Declarator}
+use Rattle.kr_code.specs.declared.statement.Catch.{Catch}
+use Rattle.kr_mean.specs.declared.kind.Kind.{Kind}
+use Rattle.kr_mean.specs.declared.kind.Kind.TheVariants.{NullPointerException, ArithmeticException, ArrayIndexOutOfBoundsException, NegativeArraySizeException, ClassCastException, NoSuchElementException, Thrown, NoReturn, ArrayTooLong}
+use Rattle.kr_mean.specs.Thrown.{step_kinds, kind_among}
 
 -- ---- nodes
 
@@ -36,6 +40,10 @@ statement_of node = statements.Stuck
 abbrev pub declarator_of : Node → Option Declarator
 declarator_of (nodes.Declarator d) = Some d
 declarator_of node = None
+
+abbrev pub catch_of : Node → Option Catch
+catch_of (nodes.Catch c) = Some c
+catch_of node = None
 
 abbrev pub initialiser_of : Node → Option Initialiser
 initialiser_of (nodes.Initialiser x) = Some x
@@ -56,6 +64,11 @@ method_at code m = slice_get code.methods.items m
 
 abbrev pub class_at : Code → ℕ → Option ClassCode
 class_at code c = slice_get code.classes.items c
+
+-- what the fields of a class's objects begin with; past the classes' end there are none
+abbrev pub defaults_in : Code → Option ClassCode → List Value
+defaults_in code None = []
+defaults_in code (Some k) = values_in code k.defaults
 
 -- ---- tables
 
@@ -90,3 +103,24 @@ abbrev pub is_instance : Code → ℕ → values.Class → Bool
 is_instance code t (Object c) = cell false code.instances.items t c
 is_instance code t (Array k) = is_numbered t (get_or code.array_types.items k None)
 is_instance code t class = false
+
+-- the class of a kind
+abbrev pub class_in_kind : Code → Kind → Option ℕ
+class_in_kind code NullPointerException = get_or code.trap_classes.items 0 None
+class_in_kind code ArithmeticException = get_or code.trap_classes.items 1 None
+class_in_kind code ArrayIndexOutOfBoundsException = get_or code.trap_classes.items 2 None
+class_in_kind code NegativeArraySizeException = get_or code.trap_classes.items 3 None
+class_in_kind code ClassCastException = get_or code.trap_classes.items 4 None
+class_in_kind code NoSuchElementException = get_or code.trap_classes.items 5 None
+class_in_kind code (Thrown c) = Some c
+class_in_kind code NoReturn = None
+class_in_kind code ArrayTooLong = None
+
+-- the kind of a class
+abbrev pub kind_in : Code → ℕ → Kind
+kind_in code c = kind_among (class_in_kind code) c step_kinds
+
+-- whether a class fits a type that is caught
+abbrev pub is_caught_by : Code → ℕ → Option ℕ → Bool
+is_caught_by code t None = false
+is_caught_by code t (Some c) = is_instance code t (Object c)

@@ -1,8 +1,8 @@
 // The code of a program, with its tables.
 ghost use Rattle.std.specs.Prelude.{◌≤◌, vec_len};
 
-use crate::{Declarator, Expression, Nodes, Statement};
-use kr_classes_table::{FieldId, MethodId, TypeId};
+use crate::{Catch, Declarator, Expression, Nodes, Statement};
+use kr_classes_table::{ClassId, FieldId, MethodId, TypeId};
 use kr_value::Value;
 
 /// A field with an initial value, as one that is stored.
@@ -18,6 +18,7 @@ pub enum Node {
     Expression(Expression),
     Statement(Statement),
     Declarator(Declarator),
+    Catch(Catch),
     Initialiser(Initialiser),
 }
 
@@ -66,6 +67,8 @@ pub struct Code {
     pub dispatch: Vec<Vec<Option<MethodId>>>,
     pub instances: Vec<Vec<bool>>,
     pub array_types: Vec<Option<TypeId>>,
+    /// The classes of the kinds of traps, in the order of the kinds.
+    pub trap_classes: Vec<Option<ClassId>>,
     /// A link has a number.
     pub ghost small: { vec_len links ≤ 4294967295 },
 }

@@ -9,8 +9,9 @@ mod collections;
 mod expression;
 mod lookups;
 mod statement;
+mod thrown;
 
 pub use code::{ClassCode, Code, Constructor, Initialiser, MethodCode, Node};
 pub use collections::CollectionCall;
 pub use expression::{Callee, Expression, Nodes, Variable};
-pub use statement::{Declarator, Statement};
+pub use statement::{Catch, Declarator, Statement};

@@ -46,7 +46,7 @@ fn is_number_at(numbers: &Vec<Option<u32>>, at: u32, number: u32) -> bool
 }
 
 impl Code {
-    fn node(&self, node: u32) -> Node
+    pub(crate) fn node(&self, node: u32) -> Node
         ensures { result ≡ node_at self.now node }
     {
         match self.nodes.get(node as usize) {

@@ -11,6 +11,13 @@ pub struct Declarator {
     pub initial: Option<u32>,
 }
 
+/// A `catch`: the class that it names, as a type, and its block. The object is the next local.
+#[derive(Clone, Copy)]
+pub struct Catch {
+    pub caught: u32,
+    pub body: u32,
+}
+
 /// A statement over the indices of its parts.
 #[derive(Clone, Copy)]
 pub enum Statement {
@@ -44,6 +51,12 @@ pub enum Statement {
     },
     Break,
     Continue,
+    Throw(u32),
+    /// The block, and the catches in order.
+    Try {
+        body: u32,
+        catches: Nodes,
+    },
     /// A `return` without a value.
     Leave,
     Return(u32),

@@ -9,6 +9,7 @@ use Rattle.kr_classes_members.specs.Shown.{IsField, field_shown, table_in}
 use Rattle.kr_classes_members.specs.declared.fields.Field as members
 use Rattle.kr_classes_names.specs.Types.{TypeList, type_at}
 use Rattle.kr_mean.specs.Program.{Program, program_with, field_position, spot_of_field, overriding, is_of_type}
+use Rattle.kr_mean.specs.Thrown.{class_of_kind, step_kinds}
 use Rattle.kr_code.specs.Tables.{is_numbered, row_items}
 use Rattle.kr_classes_members.specs.Rosters.{all_methods, field_numbered, method_numbered, no_name}
 use Rattle.kr_code_bodies.specs.declared.field_lists.ObjectFields.{ObjectFields}
@@ -79,3 +80,4 @@ pub record AreTabled (files : List Arena) (l : TypeList) (arrays : List JavaType
   pub dispatch : AreRows None (λ k. IsOverrider files (method_numbered (table_in files) k)) t.dispatch.items
   pub instances : AreRows false (λ k. IsInstance files arrays (type_at l k)) t.instances.items
   pub array_types : IsRow None (IsArrayType files l arrays) t.array_types.items
+  pub traps : t.trap_classes.items ≡ map (class_of_kind (program_in files arrays)) step_kinds

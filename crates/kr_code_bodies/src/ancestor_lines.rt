@@ -1,9 +1,6 @@
 // Classes from one upwards, and other numbers, as links.
 ghost use Rattle.std.specs.Prelude.{IfOk};
-ghost use Rattle.kr_classes_table.specs.Table.{line_of};
-ghost use Rattle.kr_classes_names.specs.ListedTypes.{IsGrown};
-ghost use Rattle.kr_types.specs.Programs.{IsProgram};
-ghost use Rattle.kr_code_members.specs.Nodes.{table};
+ghost use Rattle.kr_code_bodies.specs.Vocabulary.{IsGrown, IsProgram, line_of, table};
 ghost use Rattle.kr_code_bodies.specs.Made.{AreThere};
 
 use kr_base::NoMemory;

@@ -1,15 +1,6 @@
 // The code of methods and classes.
 ghost use Rattle.std.specs.Prelude.{◌≡◌, ◌<◌, ◌^◌, ℕ, List, Some, IfOk, length, slice_get};
-ghost use Rattle.kr_classes_names.specs.ListedTypes.{IsGrown};
-ghost use Rattle.kr_types.specs.Programs.{IsProgram};
-ghost use Rattle.kr_code_lowering.specs.Numbered.{AreNumbers};
-ghost use Rattle.kr_code_members.specs.Nodes.{AreMemberNodes, IsClassNodes, run_program, table};
-ghost use Rattle.kr_code_members.specs.declared.nodes.ClassNodes.{ClassNodes as Found};
-ghost use Rattle.kr_classes_members.specs.Rosters.{IsRoster, all_fields, all_methods};
-ghost use Rattle.kr_code.specs.declared.code.Code.{Code};
-ghost use Rattle.kr_code.specs.declared.code.ClassCode.{ClassCode as Made};
-ghost use Rattle.kr_code_lowering.specs.Origins.{Final, numbering_of};
-ghost use Rattle.kr_code_lowering.specs.Sites.{Becomes};
+ghost use Rattle.kr_code_bodies.specs.Vocabulary.{all_fields, all_methods, AreMemberNodes, AreNumbers, Becomes, Code, Final, Found, IsClassNodes, IsGrown, IsProgram, IsRoster, Made, numbering_of, run_program, table};
 ghost use Rattle.kr_code_bodies.specs.Made.{AddsInitialisers, AreBodies, IsClassMade};
 
 use crate::classes::class_code;

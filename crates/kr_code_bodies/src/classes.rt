@@ -1,10 +1,6 @@
 // The code of classes.
 ghost use Rattle.std.specs.Prelude.{◌≡◌, ◌<◌, ◌≤◌, ◌^◌, ℕ, List, IfOk, length};
-ghost use Rattle.kr_classes_names.specs.ListedTypes.{IsGrown};
-ghost use Rattle.kr_types.specs.Programs.{IsProgram};
-ghost use Rattle.kr_code_lowering.specs.Numbered.{AreNumbers};
-ghost use Rattle.kr_code_members.specs.Nodes.{IsClassNodes, table};
-ghost use Rattle.kr_classes_members.specs.Rosters.{all_fields, fields_of_class, first_of};
+ghost use Rattle.kr_code_bodies.specs.Vocabulary.{all_fields, AreNumbers, fields_of_class, first_of, IsClassNodes, IsGrown, IsProgram, table};
 ghost use Rattle.kr_code_bodies.specs.Made.{AddsInitialisers, IsClassMade};
 
 use crate::ancestor_lines::add_line;

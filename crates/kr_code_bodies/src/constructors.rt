@@ -1,10 +1,7 @@
 // The code of constructors.
 ghost use Rattle.std.specs.Prelude.{ℕ, List, Option, Some, IfOk, IfSome};
 ghost use Rattle.kr_classes_table.specs.Table as tables;
-ghost use Rattle.kr_classes_names.specs.ListedTypes.{IsGrown};
-ghost use Rattle.kr_types.specs.Programs.{IsProgram};
-ghost use Rattle.kr_code_lowering.specs.Numbered.{AreNumbers};
-ghost use Rattle.kr_code_members.specs.Nodes.{IsConstructorNode, IsMaybeConstructorNode, IsThere};
+ghost use Rattle.kr_code_bodies.specs.Vocabulary.{AreNumbers, IsConstructorNode, IsGrown, IsMaybeConstructorNode, IsProgram, IsThere};
 ghost use Rattle.kr_code_bodies.specs.Made.{IsConstructorMade};
 
 use kr_ast::Node;

@@ -1,8 +1,6 @@
 // Which method objects run in place of one.
 ghost use Rattle.std.specs.Prelude.{IfOk, None};
-ghost use Rattle.kr_classes_members.specs.Shown.{IsMethod, method_shown, table_in};
-ghost use Rattle.kr_classes_members.specs.Kept.{AreMembers};
-ghost use Rattle.kr_classes_members.specs.Rosters.{IsRoster, method_numbered};
+ghost use Rattle.kr_code_bodies.specs.Vocabulary.{AreMembers, IsMethod, IsRoster, method_numbered, method_shown, table_in};
 ghost use Rattle.kr_code_bodies.specs.Rows.{AreRows, IsRow};
 ghost use Rattle.kr_code_bodies.specs.Tabled.{IsOverrider};
 

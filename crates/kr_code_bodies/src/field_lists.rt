@@ -1,9 +1,6 @@
 // The fields of the objects of each class.
 ghost use Rattle.std.specs.Prelude.{◌≡◌, ◌<◌, ◌^◌, List, IfOk, length, map, All};
-ghost use Rattle.kr_ast.specs.Arena.{Arena};
-ghost use Rattle.kr_classes_members.specs.Shown.{IsField, field_shown};
-ghost use Rattle.kr_classes_members.specs.Kept.{AreMembers};
-ghost use Rattle.kr_mean.specs.Program.{position_from};
+ghost use Rattle.kr_code_bodies.specs.Vocabulary.{AreMembers, Arena, field_shown, IsField, position_from};
 ghost use Rattle.kr_code_bodies.specs.Tabled.{AreObjectFields, IsPosition, fields_at};
 
 use kr_ast::{Tree, tree_of};

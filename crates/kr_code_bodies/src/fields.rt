@@ -2,15 +2,8 @@
 ghost use Rattle.std.specs.Prelude.{[], ◌≡◌, ◌<◌, ◌^◌, ◌++◌, IfOk, length, map, flat_map, option_to_list};
 ghost use Rattle.std.specs.List.{AllZip, range_with_len};
 ghost use Rattle.kr_classes_table.specs.Table as tables;
-ghost use Rattle.kr_classes_table.specs.Table.{own_fields, is_instance};
-ghost use Rattle.kr_classes_names.specs.ListedTypes.{IsGrown};
-ghost use Rattle.kr_types.specs.Programs.{IsProgram};
-ghost use Rattle.kr_code_lowering.specs.Numbered.{AreNumbers};
-ghost use Rattle.kr_mean.specs.Program.{declared_fields};
-ghost use Rattle.kr_code_members.specs.Nodes.{IsFieldNode, IsThere, run_program, table};
 ghost use Rattle.kr_code.specs.declared.code.Node.TheVariants as made;
-ghost use Rattle.kr_code.specs.Resolved.{has_initial, initialised_fields};
-ghost use Rattle.kr_classes_members.specs.Rosters.{all_fields, field_numbered, fields_of_class, first_of};
+ghost use Rattle.kr_code_bodies.specs.Vocabulary.{all_fields, AreNumbers, declared_fields, field_numbered, fields_of_class, first_of, has_initial, initialised_fields, is_instance, IsFieldNode, IsGrown, IsProgram, IsThere, own_fields, run_program, table};
 ghost use Rattle.kr_code_bodies.specs.Made.{AreThere, IsInitial};
 
 use kr_ast::Node;

@@ -1,12 +1,6 @@
 // Which classes and arrays are instances of a type.
 ghost use Rattle.std.specs.Prelude.{◌≡◌, ◌<◌, ℕ, List, IfOk, All, None, false, map};
-ghost use Rattle.kr_ast.specs.Arena.{Arena};
-ghost use Rattle.kr_classes_table.specs.Types.{JavaType};
-ghost use Rattle.kr_classes_table.specs.Table.{is_below};
-ghost use Rattle.kr_classes_members.specs.Shown.{table_in};
-ghost use Rattle.kr_classes_members.specs.Kept.{AreMembers};
-ghost use Rattle.kr_classes_names.specs.Types.{count, type_at};
-ghost use Rattle.kr_code.specs.Tables.{is_numbered};
+ghost use Rattle.kr_code_bodies.specs.Vocabulary.{AreMembers, Arena, count, is_below, is_numbered, JavaType, table_in, type_at};
 ghost use Rattle.kr_code_bodies.specs.Rows.{AreRows, IsRow};
 ghost use Rattle.kr_code_bodies.specs.Tabled.{IsArrayType, IsInstance, are_of};
 

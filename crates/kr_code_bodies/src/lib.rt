@@ -14,6 +14,7 @@ mod methods;
 mod positions;
 mod spots;
 mod tables;
+mod trap_classes;
 mod values;
 
 pub use bodies::{Bodies, bodies_of};

@@ -1,12 +1,8 @@
 // The code of methods.
 ghost use Rattle.std.specs.Prelude.{◌≡◌, ℕ, List, IfOk, Some, length, slice_get};
 ghost use Rattle.kr_classes_table.specs.Table as tables;
-ghost use Rattle.kr_classes_names.specs.ListedTypes.{IsGrown};
-ghost use Rattle.kr_types.specs.Programs.{IsProgram};
-ghost use Rattle.kr_code_lowering.specs.Numbered.{AreNumbers};
-ghost use Rattle.kr_code_members.specs.Nodes.{IsMethodNode, IsThere, table};
 ghost use Rattle.kr_code.specs.declared.code.MethodCode.{MethodCode as Made};
-ghost use Rattle.kr_classes_members.specs.Rosters.{method_numbered};
+ghost use Rattle.kr_code_bodies.specs.Vocabulary.{AreNumbers, IsGrown, IsMethodNode, IsProgram, IsThere, method_numbered, table};
 ghost use Rattle.kr_code_bodies.specs.Made.{IsMethodMade, IsMethodNumbered};
 
 use kr_ast::Node;

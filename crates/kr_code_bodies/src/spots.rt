@@ -1,8 +1,6 @@
 // Where objects have a field that is stored.
 ghost use Rattle.std.specs.Prelude.{IfOk, None};
-ghost use Rattle.kr_classes_members.specs.Shown.{IsField, field_shown, table_in};
-ghost use Rattle.kr_classes_members.specs.Kept.{AreMembers};
-ghost use Rattle.kr_classes_members.specs.Rosters.{IsRoster, field_numbered};
+ghost use Rattle.kr_code_bodies.specs.Vocabulary.{AreMembers, field_numbered, field_shown, IsField, IsRoster, table_in};
 ghost use Rattle.kr_code_bodies.specs.Rows.{AreRows, IsRow};
 ghost use Rattle.kr_code_bodies.specs.Tabled.{AreObjectFields, IsSpot};
 

@@ -1,11 +1,6 @@
 // The initial values of the fields of objects.
 ghost use Rattle.std.specs.Prelude.{◌≡◌, ◌≤◌, IfOk, length, map, All};
-ghost use Rattle.kr_classes_table.specs.Table.{fields_of};
-ghost use Rattle.kr_classes_members.specs.Shown.{IsField, field_shown};
-ghost use Rattle.kr_classes_names.specs.ListedTypes.{IsGrown};
-ghost use Rattle.kr_types.specs.Programs.{IsProgram};
-ghost use Rattle.kr_mean.specs.Program.{default_of};
-ghost use Rattle.kr_code_members.specs.Nodes.{table};
+ghost use Rattle.kr_code_bodies.specs.Vocabulary.{default_of, field_shown, fields_of, IsField, IsGrown, IsProgram, table};
 ghost use Rattle.kr_code_bodies.specs.Made.{AreThere};
 
 use kr_base::NoMemory;

@@ -1,9 +1,12 @@
 -- Runs that agree in every state, and what keeps that.
-use Rattle.std.proofs.Common.{◌≡◌, ℕ, zero, suc, Bool, true, false, List, Result, Ok, Err, refl, ap, ◌∙◌}
+use Rattle.std.proofs.Common.{◌≡◌, ℕ, zero, suc, Bool, true, false, List, Option, Some, None, Result, Ok, Err, refl, ap, ◌∙◌}
 use Rattle.std.specs.Prelude.{length, take, map, nat_eq}
 use Rattle.kr_value.specs.declared.value.Value.{Value}
 use Rattle.kr_value.specs.declared.value.Value.TheVariants.{Int, Bool as Truth, Null, Ref as Reference}
+use Rattle.kr_mean.specs.declared.kind.Kind.{Kind}
 use Rattle.kr_mean.specs.declared.kind.Stop.{Stop}
+use Rattle.kr_mean.specs.declared.kind.Stop.TheVariants.{Trapped, OutOfFuel, Stuck}
+use Rattle.kr_mean.specs.Thrown.{handled, caught_by, attempted}
 use Rattle.kr_mean.specs.Places.{SlotPlace}
 use Rattle.kr_mean.specs.Steps.{State, Outcome, Run, give, go_on, bind, after_reads, back_to, plain_local, ◌>>=◌, tick, entered, within, scoped}
 use Rattle.kr_mean.specs.declared.flow.Flow.{Flow}
@@ -35,6 +38,28 @@ within_same {A} o n vs m m' p s = go (nat_eq (length vs) n)
 
 pub scoped_same : {A : Type 0} (m m' : Run A) → Agree m m' → Agree (scoped m) (scoped m')
 scoped_same {A} m m' p s = ap (λ (o : Outcome A). record { said = o.said; after = record o.after { locals = take (length s.locals) o.after.locals }; reads = o.reads }) (p s)
+
+-- two runs that agree, if there are any
+abbrev pub BothAgree : {A : Type 0} → Option (Run A) → Option (Run A) → Type 0
+BothAgree None None = Unit {0}
+BothAgree (Some m) (Some n) = Agree m n
+BothAgree _ _ = ⊥
+
+pub attempted_same : {A : Type 0} (m m' : Run A) (h h' : Kind → Option (Run A)) → Agree m m' → ((k : Kind) → BothAgree (h k) (h' k)) → Agree (attempted m h) (attempted m' h')
+unfolding attempted
+attempted_same {A} m m' h h' p q s = ap (λ (o : Outcome A). caught_by (handled o.said h) o) (p s) ∙ go (m' s).said (m' s)
+  where
+    each : (x y : Option (Run A)) → BothAgree x y → (o : Outcome A) → caught_by x o ≡ caught_by y o
+    each None None u o = refl
+    each (Some x) (Some y) u o = ap (after_reads o.reads) (u o.after)
+    each None (Some y) u o = absurd u
+    each (Some x) None u o = absurd u
+
+    go : (r : Result A Stop) (o : Outcome A) → caught_by (handled r h) o ≡ caught_by (handled r h') o
+    go (Ok a) o = refl
+    go (Err (Trapped k)) o = each (h k) (h' k) (q k) o
+    go (Err OutOfFuel) o = refl
+    go (Err Stuck) o = refl
 
 pub choose_same : {A : Type 0} (v : Value) (m m' n n' : Run A) → Agree m m' → Agree n n' → Agree (choose v m n) (choose v m' n')
 choose_same (Truth true) m m' n n' p q = p

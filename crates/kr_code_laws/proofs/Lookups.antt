@@ -1,5 +1,5 @@
 -- The tables of code agree with the meaning's look-ups in the program.
-use Rattle.std.proofs.Common.{◌≡◌, ℕ, Bool, true, false, Option, Some, None, refl, sym, ap, ◌∙◌}
+use Rattle.std.proofs.Common.{◌≡◌, ℕ, Bool, true, false, List, [], ◌∷◌, Option, Some, None, refl, sym, ap, ◌∙◌}
 use Rattle.std.specs.Prelude.{nat_lt, if◌then◌else◌}
 use Rattle.kr_value.specs.declared.value.Value.{Value}
 use Rattle.kr_value.specs.declared.value.Value.TheVariants.{Int, Bool as Truth, Null, Ref as Reference}
@@ -11,11 +11,13 @@ use Rattle.kr_classes_table.specs.Types.{JavaType, ArrayType}
 use Rattle.kr_mean.specs.declared.kind.Kind.TheVariants.{ClassCastException}
 use Rattle.kr_mean.specs.declared.kind.Stop.TheVariants.{Trapped, Stuck}
 use Rattle.kr_mean.specs.Program.{Program, is_of_type, is_array_of}
-use Rattle.kr_mean.specs.Steps.{give, stop, class_of, load, load_at, load_in, load_field, store_at, store, store_new_if, store_new, store_element_if, store_element}
+use Rattle.kr_mean.specs.Steps.{give, stop, class_of, load, load_at, load_in, load_field, store_at, store, store_new_if, store_new, store_element_if, store_element, State, make}
 use Rattle.kr_mean.specs.Meaning.{cast, instance}
 use Rattle.kr_code.specs.declared.code.Code.{Code}
-use Rattle.kr_code.specs.Tables.{is_instance}
-use Rattle.kr_code.specs.Steps.{load_by_class, load_named, store_field, store_unless, store_initial, store_item, cast_to, instance_of}
+use Rattle.kr_mean.specs.declared.kind.Kind.{Kind}
+use Rattle.kr_mean.specs.Thrown.{class_of_kind, step_kinds, is_class, kind_among, kind_of, throw_as, throw_in, throw, is_caught, object_of_class, object_or_new, object_of}
+use Rattle.kr_code.specs.Tables.{is_instance, class_in_kind, kind_in, is_caught_by}
+use Rattle.kr_code.specs.Steps.{load_by_class, load_named, store_field, store_unless, store_initial, store_item, cast_to, instance_of, throw_class, throw_object, new_thrown, taken_or_new, taken}
 use Rattle.kr_code.specs.Resolved.{Numbering, AreTables}
 use Rattle.kr_code_laws.proofs.Agreeing.{Agree, then_same}
 
@@ -67,3 +69,40 @@ module _ (program : Program) (code : Code) (n : Numbering) (tables : AreTables p
   pub instances : (k : ℕ) (class : Option Class) → instance_of code k class ≡ instance program (n.type k) class
   instances k None = refl
   instances k (Some c) = ap (λ (b : Bool). Truth b) (tables.instances k c)
+
+  -- ---- what is thrown
+
+  kinds_among : (f g : Kind → Option ℕ) → ((k : Kind) → f k ≡ g k) → (c : ℕ) (ks : List Kind) → kind_among f c ks ≡ kind_among g c ks
+  kinds_among f g e c [] = refl
+  kinds_among f g e c (k ∷ ks) = ap (λ (x : Option ℕ). if is_class c x then k else kind_among f c ks) (e k) ∙ ap (λ (r : Kind). if is_class c (g k) then k else r) (kinds_among f g e c ks)
+
+  kinds_same : (c : ℕ) → kind_in code c ≡ kind_of program c
+  kinds_same c = kinds_among (class_in_kind code) (class_of_kind program) tables.traps c step_kinds
+
+  throws_class : {A : Type 0} (v : Value) (class : Class) → Agree {A = A} (throw_class code v class) (throw_in program v class)
+  throws_class v (Object c) s = ap (λ (k : Kind). throw_as k v s) (kinds_same c)
+  throws_class v (Array t) s = refl
+  throws_class v Set s = refl
+  throws_class v ListClass s = refl
+
+  pub throws : {A : Type 0} (v : Value) → Agree {A = A} (throw_object code v) (throw program v)
+  throws v = then_same (class_of v) (class_of v) _ _ (λ s. refl) (throws_class v)
+
+  new_same : (c : Option ℕ) → Agree (new_thrown code c) (object_of_class program c)
+  new_same None s = refl
+  new_same (Some c) s = ap (λ (vs : List Value). make (Object c) vs s) (tables.defaults c)
+
+  pub takes : (k : Kind) → Agree (taken code k) (object_of program k)
+  takes k s = go s.thrown s
+    where
+      go : (x : Option Value) (t : State) → taken_or_new code k x t ≡ object_or_new program k x t
+      go (Some v) t = refl
+      go None t = ap (λ (c : Option ℕ). new_thrown code c t) (tables.traps k) ∙ new_same (class_of_kind program k) t
+
+  -- the same classes fit
+  pub fits : (t : ℕ) (to : JavaType) (k : Kind) → n.type t ≡ to → is_caught_by code t (class_in_kind code k) ≡ is_caught program to (class_of_kind program k)
+  fits t to k e = ap (is_caught_by code t) (tables.traps k) ∙ go (class_of_kind program k)
+    where
+      go : (c : Option ℕ) → is_caught_by code t c ≡ is_caught program to c
+      go None = refl
+      go (Some c) = tables.instances t (Object c) ∙ ap (λ (u : JavaType). is_of_type program u (Object c)) e

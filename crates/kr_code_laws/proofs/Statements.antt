@@ -1,26 +1,31 @@
 -- A statement's resolved form does what the statement does.
-use Rattle.std.proofs.Common.{◌≡◌, ℕ, true, List, [], ◌∷◌, length, Option, Some, None, refl, ap, ◌∙◌}
+use Rattle.std.proofs.Common.{◌≡◌, ℕ, Bool, true, false, if◌then◌else◌, subst, sym, List, [], ◌∷◌, length, Option, Some, None, refl, ap, ◌∙◌}
 use Rattle.kr_ast.specs.Tree as trees
 use Rattle.kr_ast.specs.Tree.{Tree}
 use Rattle.kr_value.specs.declared.value.Value.{Value}
 use Rattle.kr_classes_table.specs.Table.{items}
-use Rattle.kr_types_meaning.specs.Scopes.{Scope, after, bind_local as with_local}
+use Rattle.kr_types_meaning.specs.Scopes.{Scope, caught_type, after, bind_local as with_local}
+use Rattle.kr_mean.specs.declared.kind.Kind.{Kind}
 use Rattle.kr_mean.specs.declared.kind.Stop.TheVariants.{Stuck}
+use Rattle.kr_mean.specs.Thrown.{class_of_kind, is_caught, object_of}
+use Rattle.kr_code.specs.declared.statement.Catch.{Catch}
+use Rattle.kr_code.specs.Steps.{taken}
+use Rattle.kr_code_laws.proofs.Lookups.{throws, takes, fits}
 use Rattle.kr_mean.specs.Program.{Program, default_of}
 use Rattle.kr_mean.specs.Steps.{Run, stop, ◌>>◌, tick, declare}
 use Rattle.kr_mean.specs.declared.flow.Flow.{Flow}
-use Rattle.kr_mean.specs.Meaning.{Parts, all, condition, flow_of, initial_value, declared, all_declared, declaring_locals, statement, unbounded}
+use Rattle.kr_mean.specs.Meaning.{Parts, all, condition, flow_of, initial_value, declared, all_declared, declaring_locals, catch_run, caught, statement, unbounded}
 use Rattle.kr_code.specs.declared.code.Code.{Code}
 use Rattle.kr_code.specs.declared.statement.Statement.{Statement}
 use Rattle.kr_code.specs.declared.statement.Statement.TheVariants as statements
 use Rattle.kr_code.specs.declared.statement.Declarator.{Declarator}
-use Rattle.kr_code.specs.Tables.{node_at, declarator_of, listed}
+use Rattle.kr_code.specs.Tables.{node_at, declarator_of, catch_of, listed}
 use Rattle.kr_code.specs.Doing as doings
-use Rattle.kr_code.specs.Doing.{Doing, all_at, for_round, statement_done}
+use Rattle.kr_code.specs.Doing.{Doing, all_at, for_round, catch_at, caught_or, caught_at, statement_done}
 use Rattle.kr_code.specs.Resolved as resolved
-use Rattle.kr_code.specs.Resolved.{Numbering, IsPart, IsPartial, is_no_statement, IsDeclarator, AreDeclarators, IsStatement, AreTables}
+use Rattle.kr_code.specs.Resolved.{Numbering, IsPart, IsPartial, is_no_statement, IsDeclarator, AreDeclarators, IsCatch, AreCatches, IsStatement, AreTables}
 use Rattle.kr_code_laws.specs.Laws.{doing_of}
-use Rattle.kr_code_laws.proofs.Agreeing.{Agree, then_same, scoped_same, choose_same, on_same, round_same, update_same, loop_same}
+use Rattle.kr_code_laws.proofs.Agreeing.{Agree, BothAgree, attempted_same, then_same, scoped_same, choose_same, on_same, round_same, update_same, loop_same}
 use Rattle.kr_code_laws.proofs.Calls.{value_part, exec_part, all_parts, updates_parts}
 
 module _ (program : Program) (code : Code) (n : Numbering) (tables : AreTables program code n) where
@@ -69,6 +74,34 @@ module _ (program : Program) (code : Code) (n : Numbering) (tables : AreTables p
   returned_same s r trees.Nil i x h = absurd (x refl)
   returned_same s r e i x h = then_same (d.value i) (p.value s e) _ _ (part s e i h) (λ v state. refl)
 
+  -- the catches of a `try`
+  catch_same : (s : Scope) (q b : Tree) (i : ℕ) (k : Kind) → IsPart n (after s q) b i → Agree (catch_at code d i k) (catch_run program p s q b k)
+  catch_same s q b i k h =
+      scoped_same _ _ (then_same tick tick _ _ (λ state. refl) (λ u. then_same (taken code k) (object_of program k) _ _ (takes program code n tables k)
+      (λ o. then_same (declare o) (declare o) _ _ (λ state. refl) (λ u. inner (after s q) b i h))))
+
+  clause_same : (s : Scope) (q b : Tree) (k : Kind) (x : Option Catch) (r : _) (rest rest' : Option (Run Flow)) → IsCatch n s (trees.Catch r q b) x → BothAgree rest rest'
+      → BothAgree (caught_or code d x rest k) (if is_caught program (caught_type s q) (class_of_kind program k) then Some (catch_run program p s q b k) else rest')
+  clause_same s q b k None r rest rest' h g = absurd h
+  clause_same s q b k (Some c) r rest rest' h g =
+      subst (λ (x : Bool). BothAgree (if x then Some (catch_at code d c.body k) else rest) (if is_caught program (caught_type s q) (class_of_kind program k) then Some (catch_run program p s q b k) else rest'))
+      (sym (fits program code n tables c.caught (caught_type s q) k h.0)) (go (is_caught program (caught_type s q) (class_of_kind program k)))
+    where
+      go : (x : Bool) → BothAgree (if x then Some (catch_at code d c.body k) else rest) (if x then Some (catch_run program p s q b k) else rest')
+      go true = catch_same s q b c.body k h.1
+      go false = g
+
+  caught_same : (s : Scope) (ts : List Tree) (is : List ℕ) → AreCatches code n s ts is → (k : Kind) → BothAgree (caught_at code d is k) (caught program p s ts k)
+  caught_same s [] [] h k = tt
+  caught_same s (trees.Catch r q b ∷ ts) (i ∷ is) h k = clause_same s q b k (catch_of (node_at code i)) r _ _ h.0 (caught_same s ts is h.1 k)
+  caught_same s (t ∷ ts) (i ∷ is) h k = none (catch_of (node_at code i)) h.0
+    where
+      none : (x : Option Catch) → IsCatch n s t x → BothAgree (caught_or code d x (caught_at code d is k) k) (caught program p s (t ∷ ts) k)
+      none None e = tt
+      none (Some c) e = absurd e
+  caught_same s [] (i ∷ is) h k = absurd h
+  caught_same s (t ∷ ts) [] h k = absurd h
+
   -- a unit, and what follows
   behind : (x : Statement) (t : Tree) (m m' : Run Flow) → Agree m m' → Agree (tick >> m) (tick >> m')
   behind x t m m' q = then_same tick tick _ _ (λ state. refl) (λ u. q)
@@ -89,6 +122,8 @@ module _ (program : Program) (code : Code) (n : Numbering) (tables : AreTables p
   statement_same s t x (resolved.continue r) = λ state. refl
   statement_same s t x (resolved.leave r) = λ state. refl
   statement_same s t x (resolved.return r e i y h) = behind x t _ _ (returned_same s r e i y h)
+  statement_same s t x (resolved.throw r e i h) = behind x t _ _ (then_same (d.value i) (p.value s e) _ _ (part s e i h) (λ v. throws program code n tables v))
+  statement_same s t x (resolved.try r b cs i ns h g) = behind x t _ _ (attempted_same _ _ _ _ (inner s b i h) (λ k. caught_same s (items cs) (listed code ns) g k))
   statement_same s t x (resolved.declaration r u ds ns h) = declarators_same (declaring_locals s u) (items ds) (listed code ns) h
   statement_same s t x (resolved.other u e) = others u e
     where
@@ -105,4 +140,6 @@ module _ (program : Program) (code : Code) (n : Numbering) (tables : AreTables p
       others (trees.Break q) e state = absurd (cc (e))
       others (trees.Continue q) e state = absurd (cc (e))
       others (trees.Return q a) e state = absurd (cc (e))
+      others (trees.Throw q a) e state = absurd (cc (e))
+      others (trees.Try q a b) e state = absurd (cc (e))
       others _ e state = refl

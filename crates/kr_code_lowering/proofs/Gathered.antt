@@ -21,6 +21,7 @@ node_grown p arrays known known' linked linked' k n g h is = record {
   expression = λ final code b. is.expression final code (before p known known' linked linked' final code g h b);
   statement = λ final code b d. is.statement final code (before p known known' linked linked' final code g h b) d;
   declarator = is.declarator;
+  caught = is.caught;
 }
 
 -- a node more

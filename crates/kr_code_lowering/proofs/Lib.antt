@@ -13,6 +13,7 @@ pub mod Assigned
 pub mod Dispatch
 pub mod Performed
 pub mod Declared
+pub mod Caught
 pub mod Embodied
 pub mod Noded
 pub mod Gathered

@@ -20,9 +20,9 @@ use Rattle.kr_code.specs.declared.code.Code.{Code}
 use Rattle.kr_code.specs.declared.expression.Nodes.{Nodes}
 use Rattle.kr_code.specs.declared.statement.Statement.{Statement}
 use Rattle.kr_code.specs.declared.statement.Statement.TheVariants as statements
-use Rattle.kr_code.specs.Tables.{declarator_of, listed, node_at}
+use Rattle.kr_code.specs.Tables.{catch_of, declarator_of, listed, node_at}
 use Rattle.kr_code.specs.Resolved as resolved
-use Rattle.kr_code.specs.Resolved.{AreDeclarators, AreParts, IsDeclarator, IsPart, IsPartial, IsStatement, is_no_statement}
+use Rattle.kr_code.specs.Resolved.{AreCatches, AreDeclarators, AreParts, IsCatch, IsDeclarator, IsPart, IsPartial, IsStatement, is_no_statement}
 use Rattle.kr_code_lowering.specs.declared.site.Site.{Site}
 use Rattle.kr_code_lowering.specs.Origins.{Final, node_tree, numbering_of, origin_of}
 use Rattle.kr_code_lowering.specs.Sites.{Becomes, IsHere, arena_at, scope_at, number_at}
@@ -34,7 +34,7 @@ use Rattle.kr_code_lowering.proofs.Parts.{part_in, tree_is}
 use Rattle.kr_code_lowering.proofs.Naming.{parts_are}
 use Rattle.kr_code_lowering.proofs.Called.{arguments_are}
 
-pub ruleset plain_forms = (resolved.empty, resolved.break, resolved.continue, resolved.evaluated, resolved.if_then, resolved.if_else, resolved.while, resolved.do_while)
+pub ruleset plain_forms = (resolved.empty, resolved.break, resolved.continue, resolved.evaluated, resolved.if_then, resolved.if_else, resolved.while, resolved.throw, resolved.do_while)
 
 pub does_at : (p : Program) (s : Site) (e : Entry) (n : Node) → IsHere p s e → e.node ≡ n → (known : List (List ℕ)) (linked : List ℕ) (x : Statement)
     → ((final : Final) (code : Code) → Becomes p known linked final code → AreDeclared p final code → IsStatement code (numbering_of p final) (running (scope_at p s)) (tree_of (arena_at p s).text (tree_in (arena_at p s)) e.place n) x)
@@ -73,7 +73,14 @@ declarators_are p final code d s (t ∷ ts) [] h ps = ps
 declarators_are p final code d s (t ∷ ts) (i ∷ is) h ps =
     let here : meaning.Node = record { scope = s; tree = t } in
     let locals : (origin_of p final.nodes i).scope.declaring ≡ Locals = ap (λ (o : meaning.Node). o.scope.declaring) ps.0 ∙ h in
-    (subst (λ (o : meaning.Node). IsDeclarator (numbering_of p final) o.scope o.tree (declarator_of (node_at code i))) ps.0 (d i locals), declarators_are p final code d (after s t) ts is (after_locals s t h) ps.1)
+    (subst (λ (o : meaning.Node). IsDeclarator (numbering_of p final) o.scope o.tree (declarator_of (node_at code i))) ps.0 (d.locals i locals), declarators_are p final code d (after s t) ts is (after_locals s t h) ps.1)
+
+pub catches_are : (p : Program) (final : Final) (code : Code) → AreDeclared p final code → (s : Scope) (ts : List Tree) (is : List ℕ) → AreParts (numbering_of p final) s ts is → AreCatches code (numbering_of p final) s ts is
+catches_are p final code d s [] [] ps = tt
+catches_are p final code d s [] (i ∷ is) ps = ps
+catches_are p final code d s (t ∷ ts) [] ps = ps
+catches_are p final code d s (t ∷ ts) (i ∷ is) ps =
+    (subst (λ (o : meaning.Node). IsCatch (numbering_of p final) o.scope o.tree (catch_of (node_at code i))) ps.0 (d.catches i), catches_are p final code d (after s t) ts is ps.1)
 
 -- ---- statements
 
@@ -98,6 +105,7 @@ module _ (p : Program) (program : IsProgram p) (s : Site) (e : Entry) (at : IsHe
       let ps = parts_are p s e (nodes.While a b) at it in (part_in p program final s e (nodes.While a b) at it 0 a ps.0 r refl, (part_in p program final s e (nodes.While a b) at it 1 b ps.1.0 r refl, tt))
   numbered final (nodes.Do a b) it h =
       let ps = parts_are p s e (nodes.Do a b) at it in (part_in p program final s e (nodes.Do a b) at it 0 a ps.0 r refl, (part_in p program final s e (nodes.Do a b) at it 1 b ps.1.0 r refl, tt))
+  numbered final (nodes.Throw a) it h = let ps = parts_are p s e (nodes.Throw a) at it in (part_in p program final s e (nodes.Throw a) at it 0 a ps.0 r refl, tt)
   numbered final _ it h = absurd (cc (h))
 
   pub plain_does : (x : Statement) → is_plain e.node ≡ true → IsPlain (number_at p s) e.node x → Does p s known linked x
@@ -109,6 +117,14 @@ module _ (p : Program) (program : IsProgram p) (s : Site) (e : Entry) (at : IsHe
   pub block_does : (a : ℕ) (ns : Nodes) → e.node ≡ nodes.Block a → AreLinked p (record s { node = a }) linked ns → Does p s known linked (statements.Block ns)
   block_does a ns is links = does_at p s e (nodes.Block a) at is known linked (statements.Block ns)
       (λ final code b d. resolved.block e.place (node_tree p s.file a) ns (arguments_are p program known linked final code b s e (nodes.Block a) at is 0 a (parts_are p s e (nodes.Block a) at is).0 ns links r refl))
+
+  pub try_does : (a c : ℕ) (ns : Nodes) → e.node ≡ nodes.Try a c → AreLinked p (record s { node = c }) linked ns → Does p s known linked (statements.Try (number_at p s a) ns)
+  try_does a c ns is links =
+      let n : Node = nodes.Try a c in
+      let ps = parts_are p s e n at is in
+      does_at p s e n at is known linked (statements.Try (number_at p s a) ns)
+      (λ final code b d. resolved.try e.place (node_tree p s.file a) (node_tree p s.file c) (number_at p s a) ns (part_in p program final s e n at is 0 a ps.0 r refl)
+      (catches_are p final code d r (items (node_tree p s.file c)) (listed code ns) (arguments_are p program known linked final code b s e n at is 1 c ps.1.0 ns links r refl)))
 
   pub local_does : (t a : ℕ) (ns : Nodes) → e.node ≡ nodes.Local t a → AreLinked p (record s { node = a }) linked ns → Does p s known linked (statements.Declare ns)
   local_does t a ns is links =
@@ -141,18 +157,20 @@ module _ (p : Program) (program : IsProgram p) (s : Site) (e : Entry) (at : IsHe
       (part_in p program final s e n at is 3 a ps.1.1.1.0 inner same))
 
 -- other nodes are no statements
-pub no_other_statement : (text : List ℕ) (look : ℕ → Tree) (pl : Place) (n : Node) → is_plain n ≡ false → ((a : ℕ) → n ≡ nodes.Block a → ⊥) → ((t a : ℕ) → n ≡ nodes.Local t a → ⊥) → ((i c u a : ℕ) → n ≡ nodes.For i c u a → ⊥) → ((a : ℕ) → n ≡ nodes.Return a → ⊥)
+pub no_other_statement : (text : List ℕ) (look : ℕ → Tree) (pl : Place) (n : Node) → is_plain n ≡ false → ((a : ℕ) → n ≡ nodes.Block a → ⊥) → ((a c : ℕ) → n ≡ nodes.Try a c → ⊥) → ((t a : ℕ) → n ≡ nodes.Local t a → ⊥) → ((i c u a : ℕ) → n ≡ nodes.For i c u a → ⊥) → ((a : ℕ) → n ≡ nodes.Return a → ⊥)
     → is_no_statement (tree_of text look pl n) ≡ true
-no_other_statement text look pl (nodes.Block a) h k l f q = absurd (k a refl)
-no_other_statement text look pl (nodes.Local t a) h k l f q = absurd (l t a refl)
-no_other_statement text look pl (nodes.For i c u a) h k l f q = absurd (f i c u a refl)
-no_other_statement text look pl (nodes.Return a) h k l f q = absurd (q a refl)
-no_other_statement text look pl nodes.Empty h k l f q = absurd (cc (h))
-no_other_statement text look pl nodes.Break h k l f q = absurd (cc (h))
-no_other_statement text look pl nodes.Continue h k l f q = absurd (cc (h))
-no_other_statement text look pl (nodes.ExpressionStatement a) h k l f q = absurd (cc (h))
-no_other_statement text look pl (nodes.IfThen a b) h k l f q = absurd (cc (h))
-no_other_statement text look pl (nodes.IfElse a b c) h k l f q = absurd (cc (h))
-no_other_statement text look pl (nodes.While a b) h k l f q = absurd (cc (h))
-no_other_statement text look pl (nodes.Do a b) h k l f q = absurd (cc (h))
-no_other_statement text look pl _ h k l f q = refl
+no_other_statement text look pl (nodes.Block a) h k c l f q = absurd (k a refl)
+no_other_statement text look pl (nodes.Try a b) h k c l f q = absurd (c a b refl)
+no_other_statement text look pl (nodes.Local t a) h k c l f q = absurd (l t a refl)
+no_other_statement text look pl (nodes.For i x u a) h k c l f q = absurd (f i x u a refl)
+no_other_statement text look pl (nodes.Return a) h k c l f q = absurd (q a refl)
+no_other_statement text look pl nodes.Empty h k c l f q = absurd (cc (h))
+no_other_statement text look pl nodes.Break h k c l f q = absurd (cc (h))
+no_other_statement text look pl nodes.Continue h k c l f q = absurd (cc (h))
+no_other_statement text look pl (nodes.ExpressionStatement a) h k c l f q = absurd (cc (h))
+no_other_statement text look pl (nodes.Throw a) h k c l f q = absurd (cc (h))
+no_other_statement text look pl (nodes.IfThen a b) h k c l f q = absurd (cc (h))
+no_other_statement text look pl (nodes.IfElse a b d) h k c l f q = absurd (cc (h))
+no_other_statement text look pl (nodes.While a b) h k c l f q = absurd (cc (h))
+no_other_statement text look pl (nodes.Do a b) h k c l f q = absurd (cc (h))
+no_other_statement text look pl _ h k c l f q = refl

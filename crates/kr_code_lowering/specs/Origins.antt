@@ -49,7 +49,7 @@ file_count p = length (all_entries p.trees.items)
 
 -- ---- nodes of code
 
--- it is an expression, a statement or a declarator
+-- it is an expression, a statement, a declarator or a `catch`
 abbrev pub has_code : trees.Tree → Bool
 has_code trees.Nil = false
 has_code (trees.Cons a b) = false
@@ -68,6 +68,7 @@ has_code (trees.Parameter p t n) = false
 has_code (trees.Constructor p ps call b) = false
 has_code (trees.Requires p e) = false
 has_code (trees.Ensures p e) = false
+has_code (trees.Signals p d e) = false
 has_code t = true
 
 -- which of so many nodes from place k on have code

@@ -1,12 +1,7 @@
 // Names and field accesses as expressions.
 ghost use Rattle.std.specs.Prelude.{◌≡◌, List, ℕ, Some, IfOk};
 ghost use Rattle.kr_ast.specs.declared.node.Node.TheVariants as nodes;
-ghost use Rattle.kr_ast.specs.Arena.{name_in};
-ghost use Rattle.kr_types_meaning.specs.Scopes.{class_before};
-ghost use Rattle.kr_classes_table.specs.Constants.{constant_of, known_value, values_of};
-ghost use Rattle.kr_classes_names.specs.ListedTypes.{IsGrown};
-ghost use Rattle.kr_types.specs.Programs.{IsProgram};
-ghost use Rattle.kr_code_members.specs.Nodes.{table};
+ghost use Rattle.kr_code_lowering.specs.Vocabulary.{class_before, constant_of, IsGrown, IsProgram, known_value, name_in, table, values_of};
 ghost use Rattle.kr_code_lowering.specs.Origins.{node_tree};
 ghost use Rattle.kr_code_lowering.specs.Numbered.{AreNumbers};
 ghost use Rattle.kr_code_lowering.specs.Sites.{IsHere, Resolves, arena_at, scope_at};

@@ -1,14 +1,8 @@
 // Bodies of methods.
 ghost use Rattle.std.specs.Prelude.{◌≡◌, List, ℕ, IfOk};
-ghost use Rattle.kr_base.specs.declared.place.Place.{Place};
-ghost use Rattle.kr_ast.specs.Tree.{Tree};
 ghost use Rattle.kr_ast.specs.Tree as trees;
 ghost use Rattle.kr_ast.specs.declared.node.Node.TheVariants as nodes;
-ghost use Rattle.kr_classes_table.specs.Types.{is_void};
-ghost use Rattle.kr_classes_table.specs.Table.{type_named};
-ghost use Rattle.kr_classes_names.specs.ListedTypes.{IsGrown};
-ghost use Rattle.kr_types.specs.Programs.{IsProgram};
-ghost use Rattle.kr_code_members.specs.Nodes.{table};
+ghost use Rattle.kr_code_lowering.specs.Vocabulary.{is_void, IsGrown, IsProgram, Place, table, Tree, type_named};
 ghost use Rattle.kr_code_lowering.specs.Origins.{node_tree};
 ghost use Rattle.kr_code_lowering.specs.Numbered.{AreNumbers};
 ghost use Rattle.kr_code_lowering.specs.Sites.{IsHere, IsSite, tree_at};

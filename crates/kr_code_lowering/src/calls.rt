@@ -1,13 +1,7 @@
 // Calls as expressions.
 ghost use Rattle.std.specs.Prelude.{◌≡◌, List, ℕ, Some, None, IfOk, option_and_then};
-ghost use Rattle.kr_ast.specs.Arena.{name_in};
 ghost use Rattle.kr_ast.specs.declared.node.Node.TheVariants as nodes;
-ghost use Rattle.kr_classes_table.specs.Table.{method_named};
-ghost use Rattle.kr_types_meaning.specs.Scopes.{class_before, method_meant, static_only};
-ghost use Rattle.kr_mean.specs.Meaning.{super_method};
-ghost use Rattle.kr_classes_names.specs.ListedTypes.{IsGrown};
-ghost use Rattle.kr_types.specs.Programs.{IsProgram};
-ghost use Rattle.kr_code_members.specs.Nodes.{table};
+ghost use Rattle.kr_code_lowering.specs.Vocabulary.{class_before, IsGrown, IsProgram, method_meant, method_named, name_in, static_only, super_method, table};
 ghost use Rattle.kr_code_lowering.specs.Origins.{node_tree};
 ghost use Rattle.kr_code_lowering.specs.Numbered.{AreNumbers};
 ghost use Rattle.kr_code_lowering.specs.Sites.{IsHere, Resolves, arena_at, scope_at};

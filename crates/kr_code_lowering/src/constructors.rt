@@ -1,8 +1,7 @@
 // Bodies of constructors.
 ghost use Rattle.std.specs.Prelude.{◌≡◌, List, ℕ, IfOk};
 ghost use Rattle.kr_ast.specs.declared.node.Node.TheVariants as nodes;
-ghost use Rattle.kr_classes_names.specs.ListedTypes.{IsGrown};
-ghost use Rattle.kr_types.specs.Programs.{IsProgram};
+ghost use Rattle.kr_code_lowering.specs.Vocabulary.{IsGrown, IsProgram};
 ghost use Rattle.kr_code_lowering.specs.Numbered.{AreNumbers};
 ghost use Rattle.kr_code_lowering.specs.Sites.{IsHere, IsSite};
 ghost use Rattle.kr_code_lowering.specs.Bodies.{Calls, Constructs};

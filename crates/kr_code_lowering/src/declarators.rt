@@ -1,10 +1,7 @@
 // Declarators of locals.
 ghost use Rattle.std.specs.Prelude.{◌≡◌, IfNone, IfOk, IfSome, length};
-ghost use Rattle.kr_classes_table.specs.Types.{JavaType};
-ghost use Rattle.kr_types_meaning.specs.Scopes.{Scope, bind_local};
 ghost use Rattle.kr_ast.specs.declared.node.Node.TheVariants as nodes;
-ghost use Rattle.kr_classes_names.specs.Types.{IsTypeNumber};
-ghost use Rattle.kr_types.specs.Programs.{IsProgram};
+ghost use Rattle.kr_code_lowering.specs.Vocabulary.{bind_local, IsProgram, IsTypeNumber, JavaType, Scope};
 ghost use Rattle.kr_code_lowering.specs.Numbered.{AreNumbers};
 ghost use Rattle.kr_code_lowering.specs.Sites.{IsHere, IsSite, scope_at};
 ghost use Rattle.kr_code_lowering.specs.Named.{IsLocal, IsNoLocal};

@@ -1,16 +1,7 @@
 // Nodes as expressions.
 ghost use Rattle.std.specs.Prelude.{◌≡◌, ◌<◌, ◌^◌, pos, List, ℕ, All, IfOk, length};
-ghost use Rattle.kr_base.specs.declared.place.Place.{Place};
-ghost use Rattle.kr_ast.specs.Tree.{Tree};
-ghost use Rattle.kr_ast.specs.Arena.{tree_of};
-ghost use Rattle.kr_classes_table.specs.Numbers.{Bits32, Bits64, wrap};
-ghost use Rattle.kr_code.specs.Resolved.{is_no_expression};
 ghost use Rattle.kr_code_lowering.specs.Kinds.{is_operator};
-ghost use Rattle.kr_value.specs.declared.value.Value.TheVariants.{Int};
-ghost use Rattle.kr_code.specs.declared.expression.Expression.TheVariants.{Literal};
-ghost use Rattle.kr_classes_names.specs.ListedTypes.{IsGrown};
-ghost use Rattle.kr_classes_names.specs.Types.{count};
-ghost use Rattle.kr_types.specs.Programs.{IsProgram};
+ghost use Rattle.kr_code_lowering.specs.Vocabulary.{Bits32, Bits64, count, Int, is_no_expression, IsGrown, IsProgram, Literal, Place, Tree, tree_of, wrap};
 ghost use Rattle.kr_code_lowering.specs.Numbered.{AreNumbers};
 ghost use Rattle.kr_code_lowering.specs.Sites.{IsSite, Resolves};
 
@@ -73,6 +64,10 @@ pub(crate) fn is_no_expression(node: Node) -> bool
         | Node::While { .. }
         | Node::Do { .. }
         | Node::For { .. }
+        | Node::Throw { .. }
+        | Node::Try { .. }
+        | Node::Catch { .. }
+        | Node::Signals { .. }
         | Node::ConstructorCall { .. }
         | Node::Class { .. }
         | Node::Field { .. }

@@ -1,12 +1,6 @@
 // The meaning and the type of a node, from typing.
 ghost use Rattle.std.specs.Prelude.{◌≡◌, ◌<◌, IfSome, option_map};
-ghost use Rattle.kr_classes_table.specs.Types.{width_in};
-ghost use Rattle.kr_mean.specs.Meaning.{type_width};
-ghost use Rattle.kr_types_meaning.specs.Typing.{judged, type_in};
-ghost use Rattle.kr_classes_names.specs.Types.{count, type_at};
-ghost use Rattle.kr_types.specs.Programs.{IsProgram};
-ghost use Rattle.kr_types_resolving.specs.Shown.{IsMeant};
-ghost use Rattle.kr_code_members.specs.Nodes.{table};
+ghost use Rattle.kr_code_lowering.specs.Vocabulary.{count, IsMeant, IsProgram, judged, table, type_at, type_in, type_width, width_in};
 ghost use Rattle.kr_code_lowering.specs.Sites.{IsSite, scope_at, tree_at};
 
 use crate::site::Site;

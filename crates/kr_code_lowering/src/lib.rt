@@ -5,6 +5,7 @@
 mod access;
 mod bodies;
 mod calls;
+mod catches;
 mod constructors;
 mod declarators;
 mod expressions;
@@ -26,8 +27,10 @@ mod types;
 mod writes;
 
 pub use bodies::method_code;
+pub use catches::caught_type;
 pub use constructors::constructor_code;
 pub use links::Links;
+pub use lists::first_item;
 pub use methods::called_on;
 pub use names::Names;
 pub use nodes::{ResolvedNodes, resolve_nodes};

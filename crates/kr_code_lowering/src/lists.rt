@@ -1,12 +1,10 @@
 // Lists of nodes as links that follow one another.
 ghost use Rattle.std.specs.Prelude.{◌≡◌, ◌<◌, ◌∷◌, [], IfOk, IfSome, MatchOption, length};
-ghost use Rattle.kr_classes_table.specs.Table.{items};
-ghost use Rattle.kr_classes_names.specs.ListedTypes.{IsGrown};
-ghost use Rattle.kr_types.specs.Programs.{IsProgram};
+ghost use Rattle.kr_code_lowering.specs.Vocabulary.{IsGrown, IsProgram, items};
 ghost use Rattle.kr_code_lowering.specs.Origins.{node_tree};
 ghost use Rattle.kr_code_lowering.specs.Numbered.{AreNumbers};
 ghost use Rattle.kr_code_lowering.specs.Sites.{IsSite, arena_at, tree_at};
-ghost use Rattle.kr_code_lowering.specs.Lists.{AreLinked, IsAhead};
+ghost use Rattle.kr_code_lowering.specs.Lists.{AreLinked, IsAhead, IsList};
 
 use crate::links::Links;
 use crate::numbering::NodeNumbers;
@@ -17,11 +15,12 @@ use kr_code::Nodes;
 use kr_types::Program;
 
 /// The first item of a list, and the rest.
-pub(crate) fn first_item(program: &Program, list: Site) -> Option<(u32, u32)>
+pub fn first_item(program: &Program, list: Site) -> Option<(u32, u32)>
     requires program { IsProgram program.now }
     requires site { IsSite program.now list }
     ensures within { IfSome result (λ p. p.0 < length (arena_at program.now list).entries) }
     ensures behind { IfSome result (λ p. p.1 < list.node) }
+    ensures here { IfSome result (λ p. IsList program.now list p.0 p.1) }
     ensures none { MatchOption result (items (tree_at program.now list) ≡ []) (λ p. IsAhead program.now list p.0 p.1) }
     ensures shown { MatchOption result (items (tree_at program.now list) ≡ []) (λ p. items (tree_at program.now list) ≡ node_tree program.now list.file p.0 ∷ items (node_tree program.now list.file p.1)) }
 {

@@ -1,11 +1,7 @@
 // Calls on objects and after a class's name, and creations, as expressions.
 ghost use Rattle.std.specs.Prelude.{◌≡◌, ◌<◌, List, ℕ, IfOk, IfSome, length};
 ghost use Rattle.kr_ast.specs.declared.node.Node.TheVariants as nodes;
-ghost use Rattle.kr_classes_names.specs.ListedTypes.{IsGrown};
-ghost use Rattle.kr_classes_names.specs.Types.{count, type_at};
-ghost use Rattle.kr_types.specs.Programs.{IsProgram};
-ghost use Rattle.kr_classes_members.specs.Rosters.{all_methods};
-ghost use Rattle.kr_code_members.specs.Nodes.{table};
+ghost use Rattle.kr_code_lowering.specs.Vocabulary.{all_methods, count, IsGrown, IsProgram, table, type_at};
 ghost use Rattle.kr_code_lowering.specs.Numbered.{AreNumbers};
 ghost use Rattle.kr_code_lowering.specs.Sites.{IsHere, Resolves};
 ghost use Rattle.kr_code_lowering.specs.Calls.{IsCalledOn, IsCreator};

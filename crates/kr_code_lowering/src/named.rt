@@ -1,12 +1,7 @@
 // The meaning of a name at a node.
 ghost use Rattle.std.specs.Prelude.{◌≡◌, ◌<◌, Some, length};
-ghost use Rattle.kr_ast.specs.Arena.{name_in};
 ghost use Rattle.kr_ast.specs.declared.node.Node.TheVariants as nodes;
-ghost use Rattle.kr_classes_table.specs.Constants.{known_value, values_of};
-ghost use Rattle.kr_types_meaning.specs.Scopes.{class_before, value};
-ghost use Rattle.kr_types.specs.Programs.{IsProgram};
-ghost use Rattle.kr_classes_members.specs.Rosters.{all_fields, field_numbered};
-ghost use Rattle.kr_code_members.specs.Nodes.{table};
+ghost use Rattle.kr_code_lowering.specs.Vocabulary.{all_fields, class_before, field_numbered, IsProgram, known_value, name_in, table, value, values_of};
 ghost use Rattle.kr_code_lowering.specs.Origins.{node_scope, node_tree};
 ghost use Rattle.kr_code_lowering.specs.Sites.{IsHere, IsSite, arena_at, scope_at};
 ghost use Rattle.kr_code_lowering.specs.Named.{IsNamed};

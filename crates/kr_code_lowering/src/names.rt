@@ -1,7 +1,6 @@
 // The names of fields by number: `length`, of arrays, is the first.
 ghost use Rattle.std.specs.Prelude.{◌≡◌, Some, IfOk, map, slice_get};
-ghost use Rattle.kr_code.specs.Tables.{row_items};
-ghost use Rattle.kr_classes_names.specs.ListedTypes.{AreApart, IsGrown};
+ghost use Rattle.kr_code_lowering.specs.Vocabulary.{AreApart, IsGrown, row_items};
 ghost use Rattle.kr_code_lowering.specs.Names.{AreNames};
 
 use kr_base::NoMemory;

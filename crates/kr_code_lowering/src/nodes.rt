@@ -1,13 +1,12 @@
 // The nodes of the code: those of the files that have code, one file after another.
 ghost use Rattle.std.specs.Prelude.{◌≡◌, ◌+◌, ◌<◌, ◌^◌, suc, All, IfOk, Some, codes, length, slice_get};
-ghost use Rattle.kr_classes_names.specs.ListedTypes.{IsGrown};
-ghost use Rattle.kr_classes_names.specs.Types.{count};
-ghost use Rattle.kr_types.specs.Programs.{IsProgram};
+ghost use Rattle.kr_code_lowering.specs.Vocabulary.{count, IsGrown, IsProgram};
 ghost use Rattle.kr_code_lowering.specs.Origins.{coded_count, first_node};
 ghost use Rattle.kr_code_lowering.specs.Numbered.{AreNumbers, IsCodedTo};
 ghost use Rattle.kr_code_lowering.specs.Sites.{IsSite, number_at};
 ghost use Rattle.kr_code_lowering.specs.Resolving.{AreNodes, IsNode};
 
+use crate::catches::catch_at;
 use crate::declarators::declarator_at;
 use crate::expressions::{expression_at, is_no_expression};
 use crate::links::Links;
@@ -47,6 +46,9 @@ fn node_at(
             let declarator = declarator_at(program, numbers, site, entry, name, initial)?;
             Ok(Node::Declarator(declarator))
         }
+        TreeNode::Catch { declared, body } => Ok(Node::Catch(catch_at(
+            program, numbers, site, entry, declared, body,
+        ))),
         _ => {
             if is_no_expression(entry.node) {
                 Ok(Node::Statement(statement_at(program, numbers, links, site)?))

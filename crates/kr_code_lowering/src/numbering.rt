@@ -1,9 +1,6 @@
 // The numbers that code has for the nodes of files.
 ghost use Rattle.std.specs.Prelude.{◌≡◌, ◌+◌, ◌<◌, ◌++◌, ◌∷◌, [], Bool, List, ℕ, suc, IfOk, length, slice_index, if◌then◌else◌};
-ghost use Rattle.kr_base.specs.declared.place.Place.{Place};
-ghost use Rattle.kr_ast.specs.Tree.{Tree};
-ghost use Rattle.kr_ast.specs.Arena.{tree_of};
-ghost use Rattle.kr_types.specs.Programs.{IsProgram};
+ghost use Rattle.kr_code_lowering.specs.Vocabulary.{IsProgram, Place, Tree, tree_of};
 ghost use Rattle.kr_code_lowering.specs.Origins.{file_count, first_node, has_code};
 ghost use Rattle.kr_code_lowering.specs.Numbered.{AreBegun, AreNumbers};
 
@@ -41,7 +38,8 @@ pub(crate) fn has_code(node: Node) -> bool
         | Node::Parameter { .. }
         | Node::Constructor { .. }
         | Node::Requires { .. }
-        | Node::Ensures { .. } => false,
+        | Node::Ensures { .. }
+        | Node::Signals { .. } => false,
         Node::Empty
         | Node::Block { .. }
         | Node::Local { .. }
@@ -55,6 +53,9 @@ pub(crate) fn has_code(node: Node) -> bool
         | Node::While { .. }
         | Node::Do { .. }
         | Node::For { .. }
+        | Node::Throw { .. }
+        | Node::Try { .. }
+        | Node::Catch { .. }
         | Node::Number { .. }
         | Node::LongNumber { .. }
         | Node::Truth { .. }

@@ -1,9 +1,6 @@
 // The types of parameters as links that follow one another.
 ghost use Rattle.std.specs.Prelude.{◌<◌, IfOk};
-ghost use Rattle.kr_classes_names.specs.ListedTypes.{IsGrown};
-ghost use Rattle.kr_classes_names.specs.Types.{IsTypeNumber};
-ghost use Rattle.kr_types.specs.Programs.{IsProgram};
-ghost use Rattle.kr_code_members.specs.Nodes.{table};
+ghost use Rattle.kr_code_lowering.specs.Vocabulary.{IsGrown, IsProgram, IsTypeNumber, table};
 ghost use Rattle.kr_code_lowering.specs.Sites.{IsSite, tree_at};
 ghost use Rattle.kr_code_lowering.specs.Bodies.{AreTyped, parameter_type};
 

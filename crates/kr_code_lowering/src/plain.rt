@@ -22,7 +22,8 @@ pub(crate) fn is_plain(node: Node) -> bool
         | Node::IfThen { .. }
         | Node::IfElse { .. }
         | Node::While { .. }
-        | Node::Do { .. } => true,
+        | Node::Do { .. }
+        | Node::Throw { .. } => true,
         _ => false,
     }
 }
@@ -62,6 +63,7 @@ pub(crate) fn plain_statement(
             condition: site.code_number(program, numbers, condition),
             body: site.code_number(program, numbers, body),
         },
+        Node::Throw { thrown } => Statement::Throw(site.code_number(program, numbers, thrown)),
         Node::Do { body, condition } => Statement::Do {
             body: site.code_number(program, numbers, body),
             condition: site.code_number(program, numbers, condition),

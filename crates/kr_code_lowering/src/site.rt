@@ -1,8 +1,6 @@
 // Nodes of files, and the numbers that code has for them.
 ghost use Rattle.std.specs.Prelude.{◌≡◌, ◌<◌, ◌∷◌, [], Some, length, slice_get};
-ghost use Rattle.kr_ast.specs.Arena.{AreNamesIn, name_in};
-ghost use Rattle.kr_ast.specs.Files.{file_at};
-ghost use Rattle.kr_types.specs.Programs.{IsProgram};
+ghost use Rattle.kr_code_lowering.specs.Vocabulary.{AreNamesIn, file_at, IsProgram, name_in};
 ghost use Rattle.kr_code_lowering.specs.Numbered.{AreNumbers};
 ghost use Rattle.kr_code_lowering.specs.Sites.{IsHere, IsSite, arena_at, number_at};
 

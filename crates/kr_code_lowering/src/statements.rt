@@ -1,8 +1,7 @@
 // Nodes as statements.
 ghost use Rattle.std.specs.Prelude.{◌≡◌, ◌<◌, List, ℕ, IfOk};
 ghost use Rattle.kr_ast.specs.declared.node.Node.TheVariants as nodes;
-ghost use Rattle.kr_classes_names.specs.ListedTypes.{IsGrown};
-ghost use Rattle.kr_types.specs.Programs.{IsProgram};
+ghost use Rattle.kr_code_lowering.specs.Vocabulary.{IsGrown, IsProgram};
 ghost use Rattle.kr_code_lowering.specs.Numbered.{AreNumbers};
 ghost use Rattle.kr_code_lowering.specs.Sites.{IsHere, IsSite, number_at, tree_at};
 ghost use Rattle.kr_code_lowering.specs.Statements.{Does, IsMaybe};
@@ -48,6 +47,30 @@ fn block_statement(
 {
     let nodes = list_links(program, numbers, site.at(statements), links)?;
     Ok(Statement::Block(nodes))
+}
+
+/// A `try` as a statement.
+fn try_statement(
+    program: &Program,
+    numbers: &NodeNumbers,
+    links: &mut Links,
+    site: Site,
+    entry: Entry,
+    body: u32,
+    catches: u32,
+) -> Result<Statement, NoMemory>
+    requires program { IsProgram program.now }
+    requires numbers { AreNumbers program.now numbers.now }
+    requires here { IsHere program.now site entry }
+    requires node { entry.node ≡ nodes.Try body catches }
+    ensures grown { IsGrown links.old links.new }
+    ensures does { (names : List (List ℕ)) → IfOk result (Does program.now site names links.new) }
+{
+    let nodes = list_links(program, numbers, site.at(catches), links)?;
+    Ok(Statement::Try {
+        body: site.code_number(program, numbers, body),
+        catches: nodes,
+    })
 }
 
 /// A declaration of locals as a statement.
@@ -140,6 +163,9 @@ pub(crate) fn statement_at(
     match entry.node {
         Node::Block { statements } => block_statement(
             program, numbers, links, site, entry, statements,
+        ),
+        Node::Try { body, catches } => try_statement(
+            program, numbers, links, site, entry, body, catches,
         ),
         Node::Local {
             declared,

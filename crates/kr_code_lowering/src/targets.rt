@@ -1,11 +1,7 @@
 // The target of an assignment.
 ghost use Rattle.std.specs.Prelude.{◌≡◌, ◌<◌, Some, IfOk};
 ghost use Rattle.kr_ast.specs.declared.node.Node.TheVariants as nodes;
-ghost use Rattle.kr_types_meaning.specs.Scopes.{value};
-ghost use Rattle.kr_classes_names.specs.Types.{count, type_at};
-ghost use Rattle.kr_classes_names.specs.ListedTypes.{IsGrown};
-ghost use Rattle.kr_types.specs.Programs.{IsProgram};
-ghost use Rattle.kr_code_members.specs.Nodes.{table};
+ghost use Rattle.kr_code_lowering.specs.Vocabulary.{count, IsGrown, IsProgram, table, type_at, value};
 ghost use Rattle.kr_code_lowering.specs.Numbered.{AreNumbers};
 ghost use Rattle.kr_code_lowering.specs.Sites.{IsHere, IsSite, scope_at, tree_at};
 ghost use Rattle.kr_code_lowering.specs.Targets.{IsTarget, is_array_type};

@@ -1,13 +1,7 @@
 // Expressions that name types: casts, tests, new arrays.
 ghost use Rattle.std.specs.Prelude.{◌≡◌, ◌<◌, ◌^◌, List, ℕ, All, length, map};
 ghost use Rattle.kr_ast.specs.declared.node.Node.TheVariants as nodes;
-ghost use Rattle.kr_classes_table.specs.Types.{ArrayType, is_same};
-ghost use Rattle.kr_classes_table.specs.Arrays.{array_number};
-ghost use Rattle.kr_mean.specs.Meaning.{is_primitive};
-ghost use Rattle.kr_mean.specs.Program.{default_of};
-ghost use Rattle.kr_classes_names.specs.Types.{IsTypeNumber, count, type_at};
-ghost use Rattle.kr_types.specs.Programs.{IsProgram};
-ghost use Rattle.kr_types_meaning.specs.Scopes.{written};
+ghost use Rattle.kr_code_lowering.specs.Vocabulary.{array_number, ArrayType, count, default_of, is_primitive, is_same, IsProgram, IsTypeNumber, type_at, written};
 ghost use Rattle.kr_code_lowering.specs.Kinds.{IsPrimitiveCast};
 ghost use Rattle.kr_code_lowering.specs.Origins.{node_tree};
 ghost use Rattle.kr_code_lowering.specs.Numbered.{AreNumbers};

@@ -1,32 +1,43 @@
 -- The answers of the parts of a test.
-use Rattle.std.proofs.Common.{◌≡◌, ◌<◌, ℕ, ◌+◌, List, [], ◌∷◌, ◌++◌, length, Result, Ok, Err, Option, Some, None, refl, sym, ap, ◌∙◌, subst, append_assoc, get_or}
-use Rattle.std.specs.Prelude.{IfOk, drop, map}
-use Rattle.std.proofs.lemmas.List.{drop_more, map-append}
+use Rattle.std.proofs.Common.{◌≡◌, ◌<◌, ℕ, ◌+◌, true, List, [], ◌∷◌, ◌++◌, length, Result, Ok, Err, Option, Some, None, refl, sym, ap, ◌∙◌, subst, append_assoc, get_or}
+use Rattle.std.specs.Prelude.{IfOk, drop, map, take}
+use Rattle.std.proofs.lemmas.List.{drop_more, length-map, map-append, take-map}
 use Rattle.kr_base.specs.declared.memory.NoMemory.{NoMemory}
 use Rattle.kr_base.specs.declared.place.Place.{Place}
 use Rattle.kr_value.specs.declared.value.Value.{Value}
+use Rattle.kr_value.specs.declared.value.Value.TheVariants.{Null}
 use Rattle.kr_mean.specs.declared.kind.Kind.{Kind}
 use Rattle.kr_mean.specs.declared.kind.Verdict.{Verdict}
 use Rattle.kr_mean.specs.declared.kind.Verdict.TheVariants.{CheckTrap, Ensures, RepOk}
 use Rattle.kr_mean.specs.declared.kind.Stop.{Stop}
-use Rattle.kr_mean.specs.Steps.{Old, State, Outcome}
-use Rattle.kr_mean.specs.Verdicts.{judged_as, then_judged, where_holds}
+use Rattle.kr_mean.specs.Steps.{Local as StateLocal, Old, State, Outcome, Run, plain_local}
+use Rattle.kr_mean.specs.Verdicts.{judged_as, naming, then_judged, where_holds}
 use Rattle.kr_code.specs.declared.code.Code.{Code}
 use Rattle.kr_code.specs.Doing.{Doing, IsMeaning}
 use Rattle.kr_judge_prepared.specs.declared.contract.OldCode.{OldCode}
 use Rattle.kr_run_state.specs.declared.world.World.{World}
 use Rattle.kr_run_state.specs.declared.world.Halt.{Halt}
-use Rattle.kr_run_state.specs.declared.world.Halt.TheVariants.{Ended}
+use Rattle.kr_run_state.specs.declared.world.Halt.TheVariants.{Ended, Memory}
+use Rattle.kr_run_state.specs.Ends.{IsEnd}
 use Rattle.kr_run_state.specs.Shown.{local_of, old_of}
-use Rattle.kr_run_state.specs.Worlds.{Others, Keeps, state_of}
+use Rattle.kr_run_state.specs.Worlds.{Agrees, Others, Keeps, state_of}
 use Rattle.kr_run_state.specs.declared.world.Local.{Local}
 use Rattle.kr_run_state.specs.declared.world.Old.{Old as OldValue}
 use Rattle.kr_run.specs.Answers.{Answers}
 use Rattle.kr_run_method.proofs.Runs.{none_come}
-use Rattle.kr_contract.specs.Tests.{Decides, Holds, IsPlain, checked_at, ended_as, ensured_at, olds_at, shown_to}
-use Rattle.kr_contract.proofs.Judged.{judged_end, judged_then, then_same}
+use Rattle.kr_contract.specs.Tests.{Decides, Ends, Holds, IsPlain, checked_at, ended_as, ensured_at, olds_at, shown_to}
+use Rattle.kr_contract.proofs.Judged.{judged_end, judged_naming, judged_then, then_same}
 
 -- ---- from what the machine answers
+
+-- a run's end as the machine's answer
+abbrev pub halted : Result Value Stop → Result Value Halt
+halted (Ok v) = Ok v
+halted (Err e) = Err (Ended e)
+
+pub answer_of : (r : Result Value Halt) (e : Result Value Stop) → IsEnd r (Ok e) → r ≡ halted e
+answer_of r (Ok v) h = h
+answer_of r (Err e) h = h
 
 module _ (code : Code) (before w : World) (o : Doing → Others → Outcome Value) (trap : Kind → Verdict) (plain : IsPlain before) where
   stays : Keeps before w None → IsPlain w
@@ -42,7 +53,59 @@ module _ (code : Code) (before w : World) (o : Doing → Others → Outcome Valu
       let k = subst (λ (g : Halt). Answers code (Err g) w before o) is a None tt in
       λ d m next. ap (λ (x : Outcome Value). judged_as trap x.said x.after next) (k.1 d m) ∙ (judged_end trap e (state_of w) next ∙ sym same)
 
+  -- how it ends, and the world that it leaves
+  pub ends_so : (e : Result Value Stop) → Answers code (halted e) w before o → Ends code e w (λ d. o d None)
+  ends_so (Ok v) a =
+      let h = a None tt in
+      record { plain = stays h.0; said = λ d m. ap (λ (x : Outcome Value). x.said) (h.1 d m); after = λ d m. ap (λ (x : Outcome Value). x.after) (h.1 d m) }
+  ends_so (Err e) a =
+      let h = a None tt in
+      record { plain = stays h.0; said = λ d m. ap (λ (x : Outcome Value). x.said) (h.1 d m); after = λ d m. ap (λ (x : Outcome Value). x.after) (h.1 d m) }
+
+  pub ended_so : (answer : Result Value Halt) (r : Result (Result Value Stop) NoMemory) → IsEnd answer r → Answers code answer w before o → IfOk r (λ said. Ends code said w (λ d. o d None))
+  ended_so answer (Ok e) h a = ends_so e (subst (λ (x : Result Value Halt). Answers code x w before o) (answer_of answer e h) a)
+  ended_so answer (Err why) h a = tt
+
+-- a step of the machine as an answer in every meaning
+pub agreed : (code : Code) (r : Result Value Halt) (w before : World) (o : Others → Outcome Value) → Agrees r w before o → Answers code r w before (λ d x. o x)
+agreed code (Ok v) w before o h = λ x a. let g = h x a in (g.0, λ d m. g.1)
+agreed code (Err (Ended e)) w before o h = λ x a. let g = h x a in (g.0, λ d m. g.1)
+agreed code (Err (Memory why)) w before o h = tt
+
+-- ---- with an object as one more local
+
+module _ (before within w after : World) (x : Local) (o : Value) (is : local_of x ≡ plain_local o) (pushed : within.locals.items ≡ before.locals.items ++ x ∷ []) (same : record (state_of within) { locals = [] } ≡ record (state_of before) { locals = [] })
+    (cut : after.locals.items ≡ take (length before.locals.items) w.locals.items) (kept : record (state_of after) { locals = [] } ≡ record (state_of w) { locals = [] }) where
+  inside : state_of within ≡ record (state_of before) { locals = (state_of before).locals ++ plain_local o ∷ [] }
+  inside =
+      ap (λ (s : State). record s { locals = map local_of within.locals.items }) same
+      ∙ ap (λ (ls : List StateLocal). record (state_of before) { locals = ls }) (ap (map local_of) pushed ∙ (map-append local_of before.locals.items (x ∷ []) ∙ ap (λ (l : StateLocal). map local_of before.locals.items ++ l ∷ []) is))
+
+  outside : record (state_of w) { locals = take (length (state_of before).locals) (state_of w).locals } ≡ state_of after
+  outside =
+      ap (λ (ls : List StateLocal). record (state_of w) { locals = ls }) (ap (λ (n : ℕ). take n (map local_of w.locals.items)) (length-map before.locals.items local_of) ∙ (take-map local_of (length before.locals.items) w.locals.items ∙ sym (ap (map local_of) cut)))
+      ∙ sym (ap (λ (s : State). record s { locals = map local_of after.locals.items }) kept)
+
+  pub named : (code : Code) (i : ℕ) (said : Result Value Verdict) → (IsPlain w → IsPlain after) → Decides code said w (λ d. then_judged CheckTrap (d.value i (state_of within)))
+      → Decides code said after (λ d. then_judged CheckTrap (naming true o (d.value i) (state_of before)))
+  named code i (Ok v) plain h = (
+    plain h.0,
+    λ d m next.
+        judged_naming CheckTrap o (d.value i) (state_of before) next
+        ∙ (ap (λ (s : State). then_judged CheckTrap (d.value i s) (λ a t. next a (record t { locals = take (length (state_of before).locals) t.locals }))) (sym inside)
+        ∙ (h.1 d m (λ a t. next a (record t { locals = take (length (state_of before).locals) t.locals }))
+        ∙ ap (next v) outside)),
+  )
+  named code i (Err verdict) plain h = λ d m next.
+      judged_naming CheckTrap o (d.value i) (state_of before) next
+      ∙ (ap (λ (s : State). then_judged CheckTrap (d.value i s) (λ a t. next a (record t { locals = take (length (state_of before).locals) t.locals }))) (sym inside)
+      ∙ h d m (λ a t. next a (record t { locals = take (length (state_of before).locals) t.locals })))
+
 -- ---- values of `\old`s
+
+-- the value of one
+abbrev pub valued_at : Doing → OldCode → Run Value
+valued_at d o = naming o.is_named Null (d.value o.operand)
 
 -- the rest of the `\old`s, after values that are there
 abbrev pub OldsLead : Code → List OldCode → State → List OldCode → List OldValue → State → Type 0
@@ -51,14 +114,14 @@ OldsLead code all s rest values t =
 
 -- one and then the others
 olds_step : (d : Doing) (o : OldCode) (os : List OldCode) (s : State) (next : List Old → State → Verdict)
-    → then_judged CheckTrap (olds_at d (o ∷ os) s) next ≡ then_judged CheckTrap (d.value o.operand s) (λ v t. then_judged CheckTrap (olds_at d os t) (λ vs u. next (record { place = o.place; value = v } ∷ vs) u))
+    → then_judged CheckTrap (olds_at d (o ∷ os) s) next ≡ then_judged CheckTrap (valued_at d o s) (λ v t. then_judged CheckTrap (olds_at d os t) (λ vs u. next (record { place = o.place; value = v } ∷ vs) u))
 olds_step d o os s next =
-    judged_then CheckTrap (d.value o.operand) _ s next
-    ∙ then_same CheckTrap (d.value o.operand s) _ _ (λ v t. judged_then CheckTrap (olds_at d os) _ t next)
+    judged_then CheckTrap (valued_at d o) _ s next
+    ∙ then_same CheckTrap (valued_at d o s) _ _ (λ v t. judged_then CheckTrap (olds_at d os) _ t next)
 
 -- one more value
 olds_more : (code : Code) (all : List OldCode) (s : State) (o : OldCode) (os : List OldCode) (values : List OldValue) (t : State) (x : OldValue) (w : World) → x.place ≡ o.place
-    → OldsLead code all s (o ∷ os) values t → Decides code (Ok x.value) w (λ d. then_judged CheckTrap (d.value o.operand t)) → OldsLead code all s os (values ++ x ∷ []) (state_of w)
+    → OldsLead code all s (o ∷ os) values t → Decides code (Ok x.value) w (λ d. then_judged CheckTrap (valued_at d o t)) → OldsLead code all s os (values ++ x ∷ []) (state_of w)
 olds_more code all s o os values t x w at h k = λ d m next.
     h d m next
     ∙ (olds_step d o os t (λ vs u. next (map old_of values ++ vs) u)
@@ -79,14 +142,14 @@ olds_more code all s o os values t x w at h k = λ d m next.
 
 -- one has ended the test
 olds_ended : (code : Code) (all : List OldCode) (s : State) (o : OldCode) (os : List OldCode) (values : List OldValue) (t : State) (verdict : Verdict) (w : World)
-    → OldsLead code all s (o ∷ os) values t → Decides {A = Value} code (Err verdict) w (λ d. then_judged CheckTrap (d.value o.operand t)) → Decides {A = List Old} code (Err verdict) w (λ d. then_judged CheckTrap (olds_at d all s))
+    → OldsLead code all s (o ∷ os) values t → Decides {A = Value} code (Err verdict) w (λ d. then_judged CheckTrap (valued_at d o t)) → Decides {A = List Old} code (Err verdict) w (λ d. then_judged CheckTrap (olds_at d all s))
 olds_ended code all s o os values t verdict w h k = λ d m next.
     h d m next
     ∙ (olds_step d o os t (λ vs u. next (map old_of values ++ vs) u)
     ∙ k d m (λ v u. then_judged CheckTrap (olds_at d os u) (λ vs z. next (map old_of values ++ record { place = o.place; value = v } ∷ vs) z)))
 
 abbrev pub OldValued : Code → Result Value Verdict → World → OldCode → State → Type 0
-OldValued code said w o t = Decides code said w (λ d. then_judged CheckTrap (d.value o.operand t))
+OldValued code said w o t = Decides code said w (λ d. then_judged CheckTrap (valued_at d o t))
 
 -- the one at a position
 pub olds_next : (code : Code) (all : List OldCode) (s : State) (k : ℕ) (x : OldCode) (values items : List OldValue) (t : State) (v : Value) (said : Result Value Verdict) (w : World) → k < length all → said ≡ Ok v

@@ -1,11 +1,12 @@
 -- How what is judged of runs follows one another.
-use Rattle.std.proofs.Common.{◌≡◌, Result, Ok, Err, refl}
+use Rattle.std.proofs.Common.{◌≡◌, true, [], ◌∷◌, ◌++◌, length, take, Result, Ok, Err, refl}
+use Rattle.kr_value.specs.declared.value.Value.{Value}
 use Rattle.kr_mean.specs.declared.kind.Kind.{Kind}
 use Rattle.kr_mean.specs.declared.kind.Verdict.{Verdict}
 use Rattle.kr_mean.specs.declared.kind.Stop.{Stop}
 use Rattle.kr_mean.specs.declared.kind.Stop.TheVariants.{Trapped, OutOfFuel, Stuck}
-use Rattle.kr_mean.specs.Steps.{State, Outcome, Run, bind, go_on}
-use Rattle.kr_mean.specs.Verdicts.{judged_as, then_judged}
+use Rattle.kr_mean.specs.Steps.{State, Outcome, Run, bind, go_on, plain_local}
+use Rattle.kr_mean.specs.Verdicts.{judged_as, naming, then_judged}
 use Rattle.kr_contract.specs.Tests.{ended_as}
 
 -- the continuation may be replaced by an equal one
@@ -34,3 +35,18 @@ pub judged_end : {A : Type 0} (trap : Kind → Verdict) (e : Stop) (s : State) (
 judged_end trap (Trapped kind) s next = refl
 judged_end trap OutOfFuel s next = refl
 judged_end trap Stuck s next = refl
+
+-- a run with an object as one more local
+pub judged_naming : {A : Type 0} (trap : Kind → Verdict) (o : Value) (m : Run A) (s : State) (next : A → State → Verdict)
+    → then_judged trap (naming true o m s) next ≡ then_judged trap (m (record s { locals = s.locals ++ plain_local o ∷ [] })) (λ a t. next a (record t { locals = take (length s.locals) t.locals }))
+unfolding bind
+judged_naming {A} trap o m s next = go (m inner).said (m inner).after
+  where
+    inner : State
+    inner = record s { locals = s.locals ++ plain_local o ∷ [] }
+
+    go : (r : Result A Stop) (t : State) → judged_as trap r (record t { locals = take (length s.locals) t.locals }) next ≡ judged_as trap r t (λ a u. next a (record u { locals = take (length s.locals) u.locals }))
+    go (Ok a) t = refl
+    go (Err (Trapped kind)) t = refl
+    go (Err OutOfFuel) t = refl
+    go (Err Stuck) t = refl

@@ -1,5 +1,6 @@
 pub mod Judged
 pub mod Decided
+pub mod Signalled
 pub mod Programs
 pub mod Verdicts
 pub mod Beyond

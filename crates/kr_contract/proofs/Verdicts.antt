@@ -30,18 +30,24 @@ use Rattle.kr_contract.proofs.Programs.{verdict_same}
 
 -- ---- verdicts by numbers: two that have the same are one
 
-kind_number : Kind → ℕ
-kind_number kinds.NullPointerException = 0
-kind_number kinds.ArithmeticException = 1
-kind_number kinds.ArrayIndexOutOfBoundsException = 2
-kind_number kinds.NegativeArraySizeException = 3
-kind_number kinds.ClassCastException = 4
-kind_number kinds.NoSuchElementException = 5
-kind_number kinds.NoReturn = 6
-kind_number kinds.ArrayTooLong = 7
+kind_numbers : Kind → List ℕ
+kind_numbers kinds.NullPointerException = 0 ∷ []
+kind_numbers kinds.ArithmeticException = 1 ∷ []
+kind_numbers kinds.ArrayIndexOutOfBoundsException = 2 ∷ []
+kind_numbers kinds.NegativeArraySizeException = 3 ∷ []
+kind_numbers kinds.ClassCastException = 4 ∷ []
+kind_numbers kinds.NoSuchElementException = 5 ∷ []
+kind_numbers kinds.NoReturn = 6 ∷ []
+kind_numbers kinds.ArrayTooLong = 7 ∷ []
+kind_numbers (kinds.Thrown c) = 8 ∷ c ∷ []
 
-kind_of : ℕ → Kind
-kind_of n =
+leading : List ℕ → ℕ
+leading [] = 0
+leading (n ∷ ns) = n
+
+kind_of : List ℕ → Kind
+kind_of [] = kinds.NoReturn
+kind_of (n ∷ ns) =
     if nat_eq n 0 then kinds.NullPointerException
     else if nat_eq n 1 then kinds.ArithmeticException
     else if nat_eq n 2 then kinds.ArrayIndexOutOfBoundsException
@@ -49,10 +55,11 @@ kind_of n =
     else if nat_eq n 4 then kinds.ClassCastException
     else if nat_eq n 5 then kinds.NoSuchElementException
     else if nat_eq n 6 then kinds.NoReturn
-    else kinds.ArrayTooLong
+    else if nat_eq n 7 then kinds.ArrayTooLong
+    else kinds.Thrown (leading ns)
 
-kind_back : (k : Kind) → kind_of (kind_number k) ≡ k
-unfolding kind_number kind_of
+kind_back : (k : Kind) → kind_of (kind_numbers k) ≡ k
+unfolding kind_numbers kind_of leading
 kind_back kinds.NullPointerException = refl
 kind_back kinds.ArithmeticException = refl
 kind_back kinds.ArrayIndexOutOfBoundsException = refl
@@ -61,32 +68,31 @@ kind_back kinds.ClassCastException = refl
 kind_back kinds.NoSuchElementException = refl
 kind_back kinds.NoReturn = refl
 kind_back kinds.ArrayTooLong = refl
+kind_back (kinds.Thrown c) = refl
 
 numbers_of : Option Verdict → List ℕ
 numbers_of None = []
 numbers_of (Some verdicts.Pass) = 0 ∷ []
 numbers_of (Some (verdicts.Ensures n)) = 1 ∷ n ∷ []
 numbers_of (Some verdicts.RepOk) = 2 ∷ []
-numbers_of (Some (verdicts.Trap k)) = 3 ∷ kind_number k ∷ []
-numbers_of (Some (verdicts.CheckTrap k)) = 4 ∷ kind_number k ∷ []
+numbers_of (Some (verdicts.Trap k)) = 3 ∷ kind_numbers k
+numbers_of (Some (verdicts.CheckTrap k)) = 4 ∷ kind_numbers k
 numbers_of (Some verdicts.Spent) = 5 ∷ []
-
-second : List ℕ → ℕ
-second [] = 0
-second (n ∷ ns) = n
+numbers_of (Some (verdicts.Signals n)) = 6 ∷ n ∷ []
 
 verdict_numbered : List ℕ → Option Verdict
 verdict_numbered [] = None
 verdict_numbered (k ∷ ns) =
     if nat_eq k 0 then Some verdicts.Pass
-    else if nat_eq k 1 then Some (verdicts.Ensures (second ns))
+    else if nat_eq k 1 then Some (verdicts.Ensures (leading ns))
     else if nat_eq k 2 then Some verdicts.RepOk
-    else if nat_eq k 3 then Some (verdicts.Trap (kind_of (second ns)))
-    else if nat_eq k 4 then Some (verdicts.CheckTrap (kind_of (second ns)))
-    else Some verdicts.Spent
+    else if nat_eq k 3 then Some (verdicts.Trap (kind_of ns))
+    else if nat_eq k 4 then Some (verdicts.CheckTrap (kind_of ns))
+    else if nat_eq k 5 then Some verdicts.Spent
+    else Some (verdicts.Signals (leading ns))
 
 verdict_back : (v : Option Verdict) → verdict_numbered (numbers_of v) ≡ v
-unfolding numbers_of verdict_numbered second
+unfolding numbers_of verdict_numbered leading
 verdict_back None = refl
 verdict_back (Some verdicts.Pass) = refl
 verdict_back (Some (verdicts.Ensures n)) = refl
@@ -94,6 +100,7 @@ verdict_back (Some verdicts.RepOk) = refl
 verdict_back (Some (verdicts.Trap k)) = ap (λ (x : Kind). Some (verdicts.Trap x)) (kind_back k)
 verdict_back (Some (verdicts.CheckTrap k)) = ap (λ (x : Kind). Some (verdicts.CheckTrap x)) (kind_back k)
 verdict_back (Some verdicts.Spent) = refl
+verdict_back (Some (verdicts.Signals n)) = refl
 
 by_numbers : (u v : Option Verdict) → numbers_of u ≡ numbers_of v → u ≡ v
 by_numbers u v e = sym (verdict_back u) ∙ (ap verdict_numbered e ∙ verdict_back v)

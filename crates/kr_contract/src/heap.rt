@@ -1,10 +1,6 @@
 // The heap of a candidate, in the room of another candidate's.
 ghost use Rattle.std.specs.Prelude.{◌≡◌, ◌<◌, ◌^◌, OnOk, IfOk, false, true, length};
-ghost use Rattle.kr_mean.specs.Heaps.{heap_of};
-ghost use Rattle.kr_mean.specs.Problem.{slots};
-ghost use Rattle.kr_mean.specs.Space.{IsVector, space_of};
-ghost use Rattle.kr_mean.specs.WellFormed.{IsWellFormed};
-ghost use Rattle.kr_space_layout.specs.Bounds.{bare};
+ghost use Rattle.kr_contract.specs.Vocabulary.{bare, heap_of, IsVector, IsWellFormed, slots, space_of};
 ghost use Rattle.kr_contract.specs.Kept.{IsKept};
 
 use kr_base::NoMemory;

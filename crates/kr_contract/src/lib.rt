@@ -3,6 +3,7 @@
 
 mod heap;
 mod parts;
+mod signals;
 mod start;
 mod tester;
 mod trial;

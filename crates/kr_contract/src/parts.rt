@@ -1,40 +1,25 @@
-// The parts of a test: an expression, a condition, the values of `\old`s, the body, the postconditions.
+// The parts of a test: an expression, a condition, the values of `\old`s, the body, what it throws, the postconditions.
 ghost use Rattle.std.specs.Prelude.{◌≡◌, IfOk, OnOk, map};
-ghost use Rattle.kr_code.specs.Doing.{Doing, IsMeaning};
-ghost use Rattle.kr_mean.specs.declared.kind.Verdict.TheVariants.{CheckTrap, Trap};
-ghost use Rattle.kr_mean.specs.Verdicts.{then_judged, where_holds};
-ghost use Rattle.kr_run_state.specs.Shown.{old_of};
-ghost use Rattle.kr_run_state.specs.Worlds.{state_of};
-ghost use Rattle.kr_contract.specs.Tests.{Decides, Holds, IsPlain, body_at, ended_as, ensured_at, given_as, olds_at};
+ghost use Rattle.kr_contract.specs.Vocabulary.{CheckTrap, Doing, IsMeaning, naming, old_of, RepOk, state_of, taken, then_judged, where_holds};
+ghost use Rattle.kr_contract.specs.Tests.{Decides, Ends, Holds, IsPlain, body_at, ended_as, ensured_at, given_as, olds_at};
 
 use kr_base::NoMemory;
 use kr_classes_table::MethodId;
 use kr_code::Code;
 use kr_judge_prepared::OldCode;
-use kr_mean::{Stop, Verdict};
+use kr_mean::{Kind, Stop, Verdict};
 use kr_run_frames::Stack;
 use kr_run_method::{call, value_of};
-use kr_run_state::{Halt, Local, Old, World};
+use kr_run_state::{Halt, Local, Old, World, ended, take};
 use kr_value::Value;
 use std::alloc::Global;
 
-/// The verdict where an `\old`, `repOk` or a postcondition ends so.
+/// The verdict where an `\old`, `repOk`, a postcondition or a `signals` clause ends so.
 fn check_ended(end: Stop) -> Verdict
     ensures { result ≡ ended_as CheckTrap end }
 {
     match end {
         Stop::Trapped(kind) => Verdict::CheckTrap(kind),
-        Stop::OutOfFuel => Verdict::Spent,
-        Stop::Stuck => Verdict::Spent,
-    }
-}
-
-/// The verdict where the method ends so.
-fn body_ended(end: Stop) -> Verdict
-    ensures { result ≡ ended_as Trap end }
-{
-    match end {
-        Stop::Trapped(kind) => Verdict::Trap(kind),
         Stop::OutOfFuel => Verdict::Spent,
         Stop::Stuck => Verdict::Spent,
     }
@@ -58,19 +43,47 @@ fn evaluate(
     }
 }
 
-/// Nothing where a condition holds; else the verdict.
+/// The value of an expression in which an object may have a name, as the next local; or the verdict.
+fn evaluate_naming(
+    alloc: Global,
+    code: &Code,
+    world: &mut World,
+    stack: &mut Stack,
+    node: u32,
+    is_named: bool,
+    object: Value,
+) -> Result<Result<Value, Verdict>, NoMemory>
+    requires { IsPlain world.old }
+    ensures { IfOk result (λ said. Decides code.now said world.new (λ d. then_judged CheckTrap (naming is_named object (d.value node) (state_of world.old)))) }
+{
+    if !is_named {
+        return evaluate(alloc, code, world, stack, node);
+    }
+    let count = world.locals.len();
+    world.locals.push(Local {
+        value: object,
+        parameter: None,
+    })?;
+    let said = evaluate(alloc, code, world, stack, node)?;
+    world.locals.truncate(count);
+    Ok(said)
+}
+
+/// Nothing where a condition holds, in which an object may have a name; else the verdict.
 pub(crate) fn check(
     alloc: Global,
     code: &Code,
     world: &mut World,
     stack: &mut Stack,
     node: u32,
+    is_named: bool,
+    object: Value,
     fails: Verdict,
 ) -> Result<Option<Verdict>, NoMemory>
     requires { IsPlain world.old }
-    ensures { IfOk result (λ said. Holds code.now said world.new (λ d next. then_judged CheckTrap (d.value node (state_of world.old)) (λ v t. where_holds v fails (next t)))) }
+    ensures { IfOk result (λ said. Holds code.now said world.new (λ d next. then_judged CheckTrap (naming is_named object (d.value node) (state_of world.old)) (λ v t. where_holds v fails (next t)))) }
 {
-    match evaluate(alloc, code, world, stack, node)? {
+    match evaluate_naming(alloc, code, world, stack, node, is_named, object)? {
         Err(verdict) => return Ok(Some(verdict)),
         Ok(value) => match value {
             Value::Bool(truth) => {
@@ -86,7 +99,30 @@ pub(crate) fn check(
     }
 }
 
-/// The values of `\old`s come in place of others, each with its place.
+/// Nothing where `this.repOk()` holds; else the verdict.
+pub(crate) fn check_rep_ok(
+    alloc: Global,
+    code: &Code,
+    world: &mut World,
+    stack: &mut Stack,
+    rep_ok: u32,
+) -> Result<Option<Verdict>, NoMemory>
+    requires { IsPlain world.old }
+    ensures { IfOk result (λ said. Holds code.now said world.new (λ d next. then_judged CheckTrap (d.value rep_ok (state_of world.old)) (λ v t. where_holds v RepOk (next t)))) }
+{
+    check(
+        alloc,
+        code,
+        world,
+        stack,
+        rep_ok,
+        false,
+        Value::Null,
+        Verdict::RepOk,
+    )
+}
+
+/// The values of `\old`s come in place of others, each with its place. Nothing is thrown yet, so its name is null.
 pub(crate) fn value_olds(
     alloc: Global,
     code: &Code,
@@ -100,7 +136,15 @@ pub(crate) fn value_olds(
 {
     values.clear();
     'olds: for old in olds {
-        match evaluate(alloc, code, world, stack, old.operand)? {
+        match evaluate_naming(
+            alloc,
+            code,
+            world,
+            stack,
+            old.operand,
+            old.is_named,
+            Value::Null,
+        )? {
             Err(verdict) => return Ok(Err(verdict)),
             Ok(value) => values.push(Old {
                 place: old.place,
@@ -122,7 +166,7 @@ fn take_values(values: &mut Vec<Value>, locals: &[Local]) -> Result<(), NoMemory
     Ok(())
 }
 
-/// The result of the method on `this`, with the locals as its arguments, or the verdict.
+/// The result of the method on `this`, with the locals as its arguments, or how it ends.
 pub(crate) fn run_body(
     alloc: Global,
     code: &Code,
@@ -130,13 +174,13 @@ pub(crate) fn run_body(
     stack: &mut Stack,
     method: MethodId,
     arguments: &mut Vec<Value>,
-) -> Result<Result<Value, Verdict>, NoMemory>
+) -> Result<Result<Value, Stop>, NoMemory>
     requires { IsPlain world.old }
-    ensures { IfOk result (λ said. Decides code.now said world.new (λ d. then_judged Trap (body_at code.now d method (state_of world.old)))) }
+    ensures { IfOk result (λ said. Ends code.now said world.new (λ d. body_at code.now d method (state_of world.old))) }
 {
     take_values(arguments, world.locals.as_slice())?;
     let this = world.this;
-    match call(
+    ended(call(
         alloc,
         code,
         world,
@@ -144,9 +188,22 @@ pub(crate) fn run_body(
         method,
         this,
         arguments.as_slice(),
-    ) {
-        Ok(value) => Ok(Ok(value)),
-        Err(Halt::Ended(end)) => Ok(Err(body_ended(end))),
+    ))
+}
+
+/// The object that was thrown, of a trap a new one; or the verdict.
+pub(crate) fn take_object(
+    alloc: Global,
+    code: &Code,
+    world: &mut World,
+    kind: Kind,
+) -> Result<Result<Value, Verdict>, NoMemory>
+    requires { IsPlain world.old }
+    ensures { IfOk result (λ said. Decides code.now said world.new (λ d. then_judged CheckTrap (taken code.now kind (state_of world.old)))) }
+{
+    match take(alloc, code, world, kind) {
+        Ok(object) => Ok(Ok(object)),
+        Err(Halt::Ended(end)) => Ok(Err(check_ended(end))),
         Err(Halt::Memory(why)) => Err(why),
     }
 }
@@ -168,7 +225,16 @@ pub(crate) fn check_all(
             return Err(NoMemory::at_limit(nodes));
         }
         number += 1;
-        match check(alloc, code, world, stack, *node, Verdict::Ensures(number))? {
+        match check(
+            alloc,
+            code,
+            world,
+            stack,
+            *node,
+            false,
+            Value::Null,
+            Verdict::Ensures(number),
+        )? {
             Some(verdict) => return Ok(verdict),
             None => {}
         }

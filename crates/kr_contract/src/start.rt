@@ -1,14 +1,6 @@
 // The world in which a test begins.
 ghost use Rattle.std.specs.Prelude.{◌≡◌, ◌<◌, ◌^◌, OnOk, length, map};
-ghost use Rattle.kr_mean.specs.Heaps.{heap_of, value_at};
-ghost use Rattle.kr_mean.specs.Problem.{slots};
-ghost use Rattle.kr_mean.specs.Runs.{parameter_values};
-ghost use Rattle.kr_mean.specs.Space.{IsVector, space_of};
-ghost use Rattle.kr_mean.specs.Steps.{plain_local};
-ghost use Rattle.kr_mean.specs.Verdicts.{test_start};
-ghost use Rattle.kr_space_layout.specs.Bounds.{bare};
-ghost use Rattle.kr_run_state.specs.Shown.{local_of};
-ghost use Rattle.kr_run_state.specs.Worlds.{state_of};
+ghost use Rattle.kr_contract.specs.Vocabulary.{bare, heap_of, IsVector, local_of, parameter_values, plain_local, slots, space_of, state_of, test_start, value_at};
 ghost use Rattle.kr_contract.specs.Tests.{IsPlain};
 
 use kr_base::NoMemory;
@@ -62,6 +54,7 @@ pub(crate) fn begin(
 {
     world.this = value_in(layout, vector, 0);
     world.result = None;
+    world.thrown = None;
     world.olds.clear();
     world.candidates.truncate(0);
     world.fuel = fuel;

@@ -1,12 +1,6 @@
 // The verdicts of a problem's method under test.
 ghost use Rattle.std.specs.Prelude.{◌≡◌, ◌∷◌, IfOk, IsSome, List, Some, map};
-ghost use Rattle.kr_code.specs.Resolved.{Numbering};
-ghost use Rattle.kr_mean.specs.Code.{Node};
-ghost use Rattle.kr_mean.specs.Runs.{tested_method};
-ghost use Rattle.kr_mean.specs.Space.{IsVector, space_of};
-ghost use Rattle.kr_mean.specs.Verdicts.{verdict_of, verdict_with};
-ghost use Rattle.kr_space_layout.specs.Bounds.{bare};
-ghost use Rattle.kr_space_problem.specs.Posed.{posed};
+ghost use Rattle.kr_contract.specs.Vocabulary.{bare, IsVector, Node, Numbering, posed, space_of, tested_method, verdict_of, verdict_with};
 ghost use Rattle.kr_contract.specs.Kept.{IsKept};
 
 use crate::heap::{Kept, bring};

@@ -28,7 +28,12 @@ struct World {
 
 /// Takes what a call has left; what it gives.
 fn take(world: &mut World, run: Executed) -> Result<Option<Value>, Stop> {
-    let Executed { end, heap, left } = run;
+    let Executed {
+        end,
+        heap,
+        left,
+        thrown: _,
+    } = run;
     world.heap = heap;
     world.left = left;
     end
@@ -259,6 +264,7 @@ fn seen_test(
     let mut env = Env {
         this: value_in(layout, vector, 0),
         arguments,
+        thrown: None,
         result: None,
         olds: Vec::new(alloc),
     };

@@ -36,6 +36,8 @@ fn count(tally: &mut Tally, verdict: Verdict) {
     match verdict {
         Verdict::Pass => add_one(&mut tally.pass),
         Verdict::Ensures(_) => add_one(&mut tally.failed),
+        // no problem here has a `signals` clause
+        Verdict::Signals(_) => {}
         Verdict::RepOk => add_one(&mut tally.rep_ok),
         Verdict::Trap(_) => add_one(&mut tally.trap),
         Verdict::CheckTrap(_) => add_one(&mut tally.check_trap),

@@ -1,4 +1,5 @@
-pub mod TypeNames
-pub mod Refusals
 pub mod Makings
+pub mod Refusals
+pub mod TypeNames
+pub mod Vocabulary
 pub mod Writers

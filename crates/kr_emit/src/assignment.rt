@@ -1,17 +1,7 @@
 // What a structure sets.
 ghost use Rattle.std.specs.Prelude.{◌≡◌, ◌++◌, [], OnOk, codes, false, flat_map, map, All};
 ghost use Rattle.std.proofs.Common.{get_or};
-ghost use Rattle.kr_ast.specs.Arena.{tree_in};
-ghost use Rattle.kr_ast.specs.Files.{file_at};
-ghost use Rattle.kr_classes_members.specs.Shown.{IsField, field_shown, headings_in};
-ghost use Rattle.kr_classes_table.specs.Table.{type_named};
-ghost use Rattle.kr_mean.specs.Places.{place_of};
-ghost use Rattle.kr_mean.specs.Problem.{slot_at};
-ghost use Rattle.kr_space_problem.specs.Posed.{posed};
-ghost use Rattle.kr_report.specs.Texts.{field_names};
-ghost use Rattle.kr_text.specs.Lines.{line_bytes};
-ghost use Rattle.kr_value.specs.declared.object.Spot.TheVariants.{Element, Field as FieldSpot};
-ghost use Rattle.kr_emit_meaning.specs.Builders.{assigned_text, assignment_text, is_long, is_long_spot, local_text, set_text, spot_text, value_text};
+ghost use Rattle.kr_emit.specs.Vocabulary.{assigned_text, assignment_text, Element, field_names, field_shown, FieldSpot, file_at, headings_in, is_long, is_long_spot, IsField, line_bytes, local_text, place_of, posed, set_text, slot_at, spot_text, tree_in, type_named, value_text};
 
 use crate::creation::class_of_object;
 use crate::line::add_all;

@@ -1,11 +1,6 @@
 // E2: the name and the number of the builders' class.
 ghost use Rattle.std.specs.Prelude.{◌≡◌, ◌++◌, List, Some, flat_map, option_to_list, slice_get, bytes_eq};
-ghost use Rattle.kr_ast.specs.Arena.{Arena, root};
-ghost use Rattle.kr_classes.specs.Faults.{fault_at};
-ghost use Rattle.kr_classes_names.specs.Shown.{AreHeads, IsHeading, heading_shown};
-ghost use Rattle.kr_classes_table.specs.Rules.{least};
-ghost use Rattle.kr_classes_table.specs.Table.{headings_of};
-ghost use Rattle.kr_emit_meaning.specs.Buildable.{MOST_CLASSES, name_fault, number_fault};
+ghost use Rattle.kr_emit.specs.Vocabulary.{AreHeads, Arena, fault_at, heading_shown, headings_of, IsHeading, least, MOST_CLASSES, name_fault, number_fault, root};
 ghost use Rattle.std.specs.Prelude.{map};
 
 use kr_ast::{Tree, tree_of};

@@ -1,11 +1,6 @@
 // The end of the class, and the listing's last line.
 ghost use Rattle.std.specs.Prelude.{List, codes};
-ghost use Rattle.kr_base.specs.declared.entry.Entry.{Entry};
-ghost use Rattle.kr_mean.specs.declared.mode.Mode.TheVariants.{List as Listing};
-ghost use Rattle.kr_report.specs.Endings.{EndsListing};
-ghost use Rattle.kr_report_streaming.specs.Followed.{led_by};
-ghost use Rattle.kr_report_streaming.specs.Lines.{entries_answer};
-ghost use Rattle.kr_survey.specs.Takings.{Hands};
+ghost use Rattle.kr_emit.specs.Vocabulary.{EndsListing, entries_answer, Entry, Hands, led_by, Listing};
 ghost use Rattle.kr_emit.specs.Writers.{WritesBuilders, entries_numbered};
 ghost use Rattle.kr_emit.specs.declared.making.Builder.{Builder as BuilderOf};
 ghost use Rattle.kr_emit.specs.declared.writer.BuilderWriter.{BuilderWriter as WriterOf};

@@ -1,13 +1,6 @@
 // E1: what the creation of an object runs.
 ghost use Rattle.std.specs.Prelude.{◌≡◌, ◌<◌, List, flat_map, length, not, ◌&&◌};
-ghost use Rattle.kr_ast.specs.Arena.{Arena};
-ghost use Rattle.kr_classes.specs.Faults.{fault_at};
-ghost use Rattle.kr_classes_members.specs.Kept.{AreMembers};
-ghost use Rattle.kr_classes_members.specs.Shown.{IsField, field_shown, table_in};
-ghost use Rattle.kr_classes_table.specs.Rules.{break_if, least};
-ghost use Rattle.kr_classes_table.specs.Table.{own_fields};
-ghost use Rattle.kr_mean.specs.Problem.{upto};
-ghost use Rattle.kr_emit_meaning.specs.Buildable.{constructor_fault, constructors_of, construction_faults, field_fault, is_built};
+ghost use Rattle.kr_emit.specs.Vocabulary.{AreMembers, Arena, break_if, construction_faults, constructor_fault, constructors_of, fault_at, field_fault, field_shown, is_built, IsField, least, own_fields, table_in, upto};
 ghost use Rattle.std.specs.Prelude.{[], if◌then◌else◌};
 
 use crate::counted::is_built;

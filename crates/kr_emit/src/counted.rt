@@ -1,11 +1,6 @@
 // Classes whose construction the creation of an object runs.
 ghost use Rattle.std.specs.Prelude.{◌≡◌, ◌<◌, ◌&&◌, List, length, nat_lt};
-ghost use Rattle.kr_ast.specs.Arena.{Arena};
-ghost use Rattle.kr_classes_members.specs.Kept.{AreMembers};
-ghost use Rattle.kr_classes_members.specs.Shown.{table_in};
-ghost use Rattle.kr_mean.specs.Problem.{domain_at};
-ghost use Rattle.kr_space_layout.specs.Bounds.{bare};
-ghost use Rattle.kr_emit_meaning.specs.Buildable.{is_built, is_class_below, is_counted};
+ghost use Rattle.kr_emit.specs.Vocabulary.{AreMembers, Arena, bare, domain_at, is_built, is_class_below, is_counted, table_in};
 
 use kr_classes_members::Members;
 use kr_classes_table::ClassId;

@@ -1,12 +1,6 @@
 // The creation of a structure's objects.
 ghost use Rattle.std.specs.Prelude.{◌≡◌, ◌++◌, [], OnOk, codes, flat_map};
-ghost use Rattle.kr_mean.specs.Places.{place_of};
-ghost use Rattle.kr_mean.specs.Problem.{slot_at};
-ghost use Rattle.kr_space_layout.specs.Bounds.{bare};
-ghost use Rattle.kr_space_problem.specs.Posed.{IsPosed, posed};
-ghost use Rattle.kr_text.specs.Lines.{line_bytes};
-ghost use Rattle.kr_emit_meaning.specs.Buildable.{array_elements};
-ghost use Rattle.kr_emit_meaning.specs.Builders.{class_of_object, class_text, created_text, creation_text, declared_text, element_text, length_at, length_text, local_text};
+ghost use Rattle.kr_emit.specs.Vocabulary.{array_elements, bare, class_of_object, class_text, created_text, creation_text, declared_text, element_text, IsPosed, length_at, length_text, line_bytes, local_text, place_of, posed, slot_at};
 ghost use Rattle.kr_emit.specs.Makings.{head_text};
 ghost use Rattle.kr_emit.specs.TypeNames.{type_name};
 

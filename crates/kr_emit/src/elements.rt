@@ -1,11 +1,7 @@
 // E3: the elements of arrays.
 ghost use Rattle.std.specs.Prelude.{◌≡◌, ◌<◌, ◌++◌, All, IfOk, OnOk, codes, flat_map, fold, length};
-ghost use Rattle.kr_classes_names.specs.Types.{count, type_at};
-ghost use Rattle.kr_fin.specs.Least.{lesser, least};
-ghost use Rattle.kr_mean.specs.Problem.{ClassDomain, domain_at};
-ghost use Rattle.kr_space_layout.specs.Bounds.{bare};
-ghost use Rattle.kr_space_problem.specs.Posed.{IsPosed, posed};
-ghost use Rattle.kr_emit_meaning.specs.Buildable.{array_elements, elements_fault, is_named, rank_of};
+ghost use Rattle.kr_fin.specs.Least.{least};
+ghost use Rattle.kr_emit.specs.Vocabulary.{array_elements, bare, ClassDomain, count, domain_at, elements_fault, is_named, IsPosed, lesser, posed, rank_of, type_at};
 
 use crate::types::is_named;
 use kr_base::{Fault, NoMemory};

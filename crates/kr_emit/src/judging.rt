@@ -1,9 +1,6 @@
 // Whether builders can be written for a problem.
 ghost use Rattle.std.specs.Prelude.{◌≡◌, ◌<◌, IfErr, IfOk, None, length};
-ghost use Rattle.kr_classes.specs.Faults.{fault_at};
-ghost use Rattle.kr_classes_table.specs.Rules.{least};
-ghost use Rattle.kr_space_problem.specs.Posed.{IsPosed, posed};
-ghost use Rattle.kr_emit_meaning.specs.Buildable.{E1, E2, build_fault};
+ghost use Rattle.kr_emit.specs.Vocabulary.{build_fault, E1, E2, fault_at, IsPosed, least, posed};
 ghost use Rattle.kr_emit.specs.Refusals.{Refuses};
 
 use crate::class_name::class_name_place;

@@ -1,9 +1,7 @@
 // Texts added to a line.
 ghost use Rattle.std.specs.Prelude.{◌≡◌, ◌++◌, OnOk, decimal};
 ghost use Rattle.std.specs.Fmt.{signed_decimal};
-ghost use Rattle.kr_base.specs.Cuts.{cut_text};
-ghost use Rattle.kr_text.specs.Lines.{line_bytes};
-ghost use Rattle.kr_text.specs.Texts.{joined};
+ghost use Rattle.kr_emit.specs.Vocabulary.{cut_text, joined, line_bytes};
 
 use itoa::Buffer;
 use kr_base::{Cut, Failed, NoMemory};

@@ -1,8 +1,5 @@
 // The builders of a problem's entries, by one worker, who waits for nobody.
-ghost use Rattle.kr_base.specs.Told.{Writes};
-ghost use Rattle.kr_report.specs.Endings.{EndsListing};
-ghost use Rattle.kr_space_problem.specs.Posed.{posed};
-ghost use Rattle.kr_emit_meaning.specs.Emitted.{built, class_line};
+ghost use Rattle.kr_emit.specs.Vocabulary.{built, class_line, EndsListing, posed, Writes};
 
 use crate::making::{Builder, ToBuilders};
 use crate::writer::BuilderWriter;

@@ -1,7 +1,6 @@
 // Initial values that are literals.
 ghost use Rattle.std.specs.Prelude.{◌≡◌, ◌<◌, length};
-ghost use Rattle.kr_ast.specs.Arena.{tree_in};
-ghost use Rattle.kr_emit_meaning.specs.Buildable.{is_literal, is_negated, is_number};
+ghost use Rattle.kr_emit.specs.Vocabulary.{is_literal, is_negated, is_number, tree_in};
 
 use kr_ast::{Node, Tree, UnaryOperator};
 

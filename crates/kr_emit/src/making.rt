@@ -1,7 +1,6 @@
 // Rows made into builders.
-ghost use Rattle.std.specs.Prelude.{◌≡◌, IfOk};
-ghost use Rattle.kr_space_problem.specs.Posed.{posed};
-ghost use Rattle.kr_emit_meaning.specs.Builders.{front_text, rest_text};
+ghost use Rattle.std.specs.Prelude.{◌≡◌, OnOk};
+ghost use Rattle.kr_emit.specs.Vocabulary.{front_text, posed, rest_text};
 
 use crate::texts::{builder_front, builder_rest};
 use kr_base::{Cut, NoMemory};
@@ -12,6 +11,7 @@ use kr_survey::Making;
 use kr_text::Line;
 use std::alloc::Global;
 use std::marker::Model;
+use std::mem;
 
 /// A row's key, and its builder before and after its number.
 #[derive(Drop)]
@@ -43,22 +43,24 @@ impl<'p> ToBuilders<'p> {
         ToBuilders { alloc, prepared }
     }
 
-    /// What comes before a builder's number.
-    fn front(&self, row: &Row, line: &mut Line) -> Result<Text, NoMemory>
-        ensures { IfOk result (λ text. text ≡ front_text (posed self.now) row.now) }
+    /// Makes a text what comes before a builder's number.
+    fn write_front(&self, row: &Row, line: &mut Line, text: &mut Text) -> Result<(), NoMemory>
+        ensures { OnOk result (text.new ≡ front_text (posed self.now) row.now) }
     {
         line.clear();
         builder_front(line, self.prepared, row)?;
-        Ok(Text::new(line.bytes().to_vec(self.alloc)?))
+        text.assign(line.bytes())?;
+        Ok(())
     }
 
-    /// What comes after it.
-    fn rest(&self, row: &Row, line: &mut Line) -> Result<Text, NoMemory>
-        ensures { IfOk result (λ text. text ≡ rest_text (posed self.now) row.now) }
+    /// Makes a text what comes after it.
+    fn write_rest(&self, row: &Row, line: &mut Line, text: &mut Text) -> Result<(), NoMemory>
+        ensures { OnOk result (text.new ≡ rest_text (posed self.now) row.now) }
     {
         line.clear();
         builder_rest(self.alloc, line, self.prepared, row)?;
-        Ok(Text::new(line.bytes().to_vec(self.alloc)?))
+        text.assign(line.bytes())?;
+        Ok(())
     }
 }
 
@@ -76,14 +78,21 @@ impl<'p> Making<Row> for ToBuilders<'p> {
         Line::new(self.alloc)
     }
 
-    fn make(&self, room: &mut Line, row: Row) -> Result<Builder, NoMemory> {
-        let front = self.front(&row, room)?;
-        match self.rest(&row, room) {
-            Ok(rest) => Ok(Builder {
-                key: row.key,
-                front,
-                rest,
-            }),
+    fn blank(&self) -> Builder {
+        Builder {
+            key: Cut::empty(self.alloc),
+            front: Text::new(Vec::new(self.alloc)),
+            rest: Text::new(Vec::new(self.alloc)),
+        }
+    }
+
+    fn make(&self, room: &mut Line, row: &mut Row, made: &mut Builder) -> Result<(), NoMemory> {
+        self.write_front(&*row, room, &mut made.front)?;
+        match self.write_rest(&*row, room, &mut made.rest) {
+            Ok(()) => {
+                mem::swap(&mut made.key, &mut row.key);
+                Ok(())
+            }
             Err(why) => Err(why),
         }
     }

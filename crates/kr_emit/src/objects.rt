@@ -1,9 +1,7 @@
 // The objects of a structure, and their locals.
 ghost use Rattle.std.specs.Prelude.{◌≡◌, ◌==◌, ◌++◌, IfOk, OnOk};
 ghost use Rattle.std.specs.List.{position_or_len};
-ghost use Rattle.kr_mean.specs.Runs.{contains_number};
-ghost use Rattle.kr_text.specs.Lines.{line_bytes};
-ghost use Rattle.kr_emit_meaning.specs.Builders.{local_text, objects_in};
+ghost use Rattle.kr_emit.specs.Vocabulary.{contains_number, line_bytes, local_text, objects_in};
 ghost use Rattle.kr_emit.specs.Makings.{HasReferred, IsAdded};
 
 use crate::line::add_all;

@@ -4,9 +4,10 @@ ghost use Rattle.kr_emit.specs.Writers.{line_at, numbered, text_at};
 
 use crate::making::Builder;
 use itoa::Buffer;
-use kr_base::NoMemory;
+use kr_base::{Cut, NoMemory};
 use kr_report_streaming::{RowLine, Text};
 use std::alloc::Global;
+use std::mem;
 
 /// A builder's text.
 fn text_of(alloc: Global, builder: &Builder, number: u64) -> Result<Text, NoMemory>
@@ -19,18 +20,17 @@ fn text_of(alloc: Global, builder: &Builder, number: u64) -> Result<Text, NoMemo
     Ok(Text::new(bytes))
 }
 
-/// A builder as a line.
-pub(crate) fn line_of(alloc: Global, builder: Builder, number: u64) -> Result<RowLine, NoMemory>
-    ensures { IfOk result (λ line. line ≡ line_at number builder) }
+/// A builder as a line, which takes its key.
+pub(crate) fn line_of(
+    alloc: Global,
+    builder: &mut Builder,
+    number: u64,
+) -> Result<RowLine, NoMemory>
+    ensures { IfOk result (λ line. line ≡ line_at number builder.old) }
 {
-    let text = text_of(alloc, &builder, number)?;
-    let Builder {
-        key,
-        front: _,
-        rest: _,
-    } = builder;
+    let text = text_of(alloc, &*builder, number)?;
     Ok(RowLine {
-        key,
+        key: mem::replace(&mut builder.key, Cut::empty(alloc)),
         text,
         failing: false,
     })
@@ -45,7 +45,8 @@ fn add_line(
 ) -> Result<(), NoMemory>
     ensures { OnOk result (lines.new.items ≡ lines.old.items ++ line_at number builder ∷ []) }
 {
-    let line = line_of(alloc, builder, number)?;
+    let mut builder = builder;
+    let line = line_of(alloc, &mut builder, number)?;
     lines.push(line)?;
     Ok(())
 }

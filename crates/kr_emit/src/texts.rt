@@ -1,10 +1,6 @@
 // A row's builder, before and after its number.
 ghost use Rattle.std.specs.Prelude.{◌≡◌, ◌++◌, OnOk};
-ghost use Rattle.kr_mean.specs.Runs.{root_class};
-ghost use Rattle.kr_space_layout.specs.Bounds.{bare};
-ghost use Rattle.kr_space_problem.specs.Posed.{posed};
-ghost use Rattle.kr_text.specs.Lines.{line_bytes};
-ghost use Rattle.kr_emit_meaning.specs.Builders.{body_text, front_text, rest_text};
+ghost use Rattle.kr_emit.specs.Vocabulary.{bare, body_text, front_text, line_bytes, posed, rest_text, root_class};
 
 use crate::assignment::add_assignments;
 use crate::creation::add_creations;

@@ -1,11 +1,6 @@
 // Types as a builder writes them, without memory.
 ghost use Rattle.std.specs.Prelude.{◌≡◌, List, map};
-ghost use Rattle.kr_ast.specs.Arena.{Arena, root};
-ghost use Rattle.kr_classes_names.specs.Shown.{AreHeads};
-ghost use Rattle.kr_classes_table.specs.Table.{headings_of};
-ghost use Rattle.kr_space_problem.specs.Posed.{IsPosed, posed};
-ghost use Rattle.kr_emit_meaning.specs.Buildable.{array_elements, is_named};
-ghost use Rattle.kr_emit_meaning.specs.Builders.{class_text, element_text, heading_at, is_long, width_text};
+ghost use Rattle.kr_emit.specs.Vocabulary.{AreHeads, Arena, array_elements, class_text, element_text, heading_at, headings_of, is_long, is_named, IsPosed, posed, root, width_text};
 ghost use Rattle.kr_emit.specs.TypeNames.{IsFormOf, type_name};
 
 use kr_ast::{Tree, tree_of};

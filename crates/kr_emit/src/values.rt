@@ -1,7 +1,6 @@
 // Values as a builder writes them.
 ghost use Rattle.std.specs.Prelude.{◌≡◌, ◌++◌, OnOk};
-ghost use Rattle.kr_text.specs.Lines.{line_bytes};
-ghost use Rattle.kr_emit_meaning.specs.Builders.{letter_text, value_text};
+ghost use Rattle.kr_emit.specs.Vocabulary.{letter_text, line_bytes, value_text};
 ghost use Rattle.std.specs.Fmt.{signed_decimal};
 
 use crate::line::add_number;

@@ -1,7 +1,6 @@
 // Builders written as they are handed over.
 ghost use Rattle.std.specs.Prelude.{◌≡◌, ◌↔◌, ◌++◌, List, Some, IfOk, length, min, true};
-ghost use Rattle.kr_survey.specs.Takings.{Took, is_past};
-ghost use Rattle.kr_survey.specs.declared.taker.Room.TheVariants.{Full, More};
+ghost use Rattle.kr_emit.specs.Vocabulary.{Full, is_past, More, Took};
 ghost use Rattle.kr_emit.specs.Writers.{WritesBuilders};
 ghost use Rattle.kr_emit.specs.declared.making.Builder.{Builder as BuilderOf};
 ghost use Rattle.kr_emit.specs.declared.writer.BuilderWriter.{BuilderWriter as WriterOf};
@@ -11,7 +10,7 @@ use crate::putting::{line_of, lines_of};
 use crate::writer::BuilderWriter;
 use kr_base::Sink;
 use kr_report_streaming::LineWriter;
-use kr_survey::{Halt, Room, RowList, Taker};
+use kr_survey::{Halt, Room, RowList, RowTaker, Taker};
 
 /// A number, or the last one of 32 bits if that is less.
 fn at_most(number: usize) -> u32
@@ -38,20 +37,6 @@ impl<K: Sink> Taker<K> for BuilderWriter {
         <LineWriter as Taker<K>>::limit(&self.lines)
     }
 
-    fn take_row(&mut self, row: Builder, out: &mut K) -> Result<Room, Halt> {
-        let line = match line_of(self.alloc, row, u64::from(self.count)) {
-            Ok(line) => line,
-            Err(why) => return Err(Halt::Memory(why)),
-        };
-        match self.lines.take_row(line, out) {
-            Err(halt) => Err(halt),
-            Ok(room) => {
-                self.count = self.count.saturating_add(1);
-                Ok(room)
-            }
-        }
-    }
-
     fn take(&mut self, rows: RowList<Builder>, out: &mut K) -> Result<Room, Halt>
         ensures took { (start : WriterOf) (from : K) (done : List BuilderOf) → WritesBuilders K.taken K.faults start from done self.old out.old (Some More) → Took (WritesBuilders K.taken K.faults) start from done rows self.new out.new result }
         ensures limit { Some self.new.lines.limit ≡ Some self.old.lines.limit }
@@ -67,6 +52,22 @@ impl<K: Sink> Taker<K> for BuilderWriter {
             Err(halt) => Err(halt),
             Ok(room) => {
                 self.count = self.count.saturating_add(more);
+                Ok(room)
+            }
+        }
+    }
+}
+
+impl<K: Sink> RowTaker<K> for BuilderWriter {
+    fn take_row(&mut self, row: &mut Builder, out: &mut K) -> Result<Room, Halt> {
+        let mut line = match line_of(self.alloc, row, u64::from(self.count)) {
+            Ok(line) => line,
+            Err(why) => return Err(Halt::Memory(why)),
+        };
+        match self.lines.take_row(&mut line, out) {
+            Err(halt) => Err(halt),
+            Ok(room) => {
+                self.count = self.count.saturating_add(1);
                 Ok(room)
             }
         }

@@ -1,85 +1,38 @@
 -- Accepted sources and finitizations: what builders need of them.
-use Rattle.std.proofs.Common.{◌≡◌, ℕ, ◌+◌, ◌<◌, ◌≤◌, List, [], ◌∷◌, ◌++◌, length, Option, Some, None, Result, Ok, Err, refl, sym, ap, subst}
-use Rattle.std.specs.Prelude.{flat_map, MatchOption}
+use Rattle.std.proofs.Common.{◌≡◌, ℕ, ◌<◌, ◌≤◌, List, length, sym, ap, subst}
 use Rattle.kr_ast.specs.Tree.{Tree}
 use Rattle.kr_value.specs.declared.object.Class.TheVariants.{Object, Array}
 use Rattle.kr_classes_table.proofs.Tables.{table_law}
 use Rattle.kr_classes_table.specs.Ancestors.{IsWhole}
-use Rattle.kr_classes_table.specs.Arrays.{arrays_in, arrays_named, array_types_of}
-use Rattle.kr_classes_table.specs.Nodes.{nodes}
-use Rattle.kr_classes_table.specs.Table.{Table, headings_of, table_of}
-use Rattle.kr_classes_table.specs.Types.{JavaType, ClassType}
-use Rattle.kr_fin.proofs.Leasts.{least_of_all}
-use Rattle.kr_fin.specs.Least.{IsLeast}
-use Rattle.kr_fin.specs.declared.document.FinDoc.{FinDoc}
-use Rattle.kr_laws_shapes.proofs.Shapes.{file_shape}
+use Rattle.kr_classes_table.specs.Table.{Table, table_of}
+use Rattle.kr_classes_table.specs.Types.{ClassType}
+use Rattle.kr_laws_never_stuck.proofs.Accepted.{posed, program_files, program_is}
 use Rattle.kr_laws_never_stuck.proofs.Apart as places
-use Rattle.kr_laws_never_stuck.proofs.Arrays.{once_more}
 use Rattle.kr_laws_never_stuck.proofs.Documents.{read_pairs}
 use Rattle.kr_laws_never_stuck.proofs.Fields.{field_keyed, fields_apart}
 use Rattle.kr_laws_never_stuck.proofs.Parameters.{parameter_found}
 use Rattle.kr_laws_never_stuck.proofs.Programs.{well_typed}
 use Rattle.kr_laws_never_stuck.proofs.Typed.{domains_typed}
 use Rattle.kr_laws_never_stuck.proofs.Unbroken.{Unbroken, unbroken}
-use Rattle.kr_laws_never_stuck.specs.Grown.{AreGrown, AreProgram}
 use Rattle.kr_laws_never_stuck.specs.Keys.{HasKeys}
-use Rattle.kr_laws_never_stuck.specs.NeverStuck.{IsAccepted}
+use Rattle.kr_laws_never_stuck.specs.Accepted.{IsAccepted}
 use Rattle.kr_laws_never_stuck.specs.WellTyped.{AreFiles}
 use Rattle.kr_laws_safety.specs.Domains.{HaveDomainsTypes}
 use Rattle.kr_laws_safety.specs.Typed.{IsTypedProgram}
 use Rattle.kr_laws_slots.proofs.Numbering.{width_at}
 use Rattle.kr_mean.specs.Problem.{Problem, domain_at}
-use Rattle.kr_mean.specs.Program.{Program, program_with}
+use Rattle.kr_mean.specs.Program.{Program}
 use Rattle.kr_mean.specs.WellFormed.{IsWellFormed}
 use Rattle.kr_mean.specs.declared.mode.Mode.{Mode}
 use Rattle.kr_space.proofs.ReadLimits.{read_limits}
 use Rattle.kr_space_meaning.proofs.WellFormed.{well_formed}
-use Rattle.kr_space_meaning.specs.Bounds.{bounded, problem_in, problem_of, setting_of}
-use Rattle.kr_space_meaning.specs.Meaning.{faults_of, meaning, unless}
-use Rattle.kr_space_meaning.specs.Order.{Fault, least, space_rank}
+use Rattle.kr_space_meaning.specs.Bounds.{problem_of}
 use Rattle.kr_types_meaning.proofs.WellTyped.{well_typed_law}
-use Rattle.kr_laws_shapes.specs.Shapes.{AreClasses}
-use Rattle.kr_laws_shapes.proofs.Predefined.{predefined_shape}
 use Rattle.kr_types_meaning.specs.Typing.{IsWellTyped}
 use Rattle.kr_emit_meaning.specs.Buildable.{array_elements}
 use Rattle.kr_emit_laws.proofs.Numbered.{numbered}
 use Rattle.kr_emit_laws.proofs.Posed.{IsSound, domains_sound, IsNamed}
 use Rattle.kr_emit_laws.proofs.Wider.{IsNumbered}
-
-grown_files : (n : ℕ) (sources : List (List ℕ)) (files : List Tree) → AreGrown n sources files → AreFiles files
-grown_files n [] [] g = tt
-grown_files n (bytes ∷ sources) (file ∷ files) g = (file_shape g.0.tokens file g.0.derived, grown_files (n + 1) sources files g.1)
-grown_files n _ _ g = absurd g
-
-program_files : (sources : List (List ℕ)) (files : List Tree) → AreProgram sources files → AreFiles files
-program_files sources [] g = absurd g
-program_files sources (tree ∷ files) g = (subst AreClasses (sym g.0) predefined_shape, grown_files 0 sources files g.1)
-
--- a document whose problem it is breaks no rule
-record IsPosed (files : List Tree) (document : FinDoc) (mode : Mode) (problem : Problem) : Type 0 where
-  unbroken : faults_of files document mode ≡ []
-  is : problem_of files document mode ≡ problem
-
-posed : (files : List Tree) (document : FinDoc) (mode : Mode) (problem : Problem) → meaning files document mode ≡ Ok problem → IsPosed files document mode problem
-unfolding meaning
-posed files document mode problem e = go (least (faults_of files document mode)) refl e
-  where
-    inside : Result Problem Fault → Problem
-    inside (Ok p) = p
-    inside (Err f) = problem
-
-    go : (o : Option Fault) → least (faults_of files document mode) ≡ o → unless o (problem_of files document mode) ≡ Ok problem → IsPosed files document mode problem
-    go None n e = record { unbroken = subst (λ (o : Option Fault). MatchOption o (faults_of files document mode ≡ []) (IsLeast space_rank (faults_of files document mode))) n (least_of_all space_rank (faults_of files document mode)); is = ap inside e }
-    go (Some f) n e = absurd (cc (e))
-
--- its program is that of the files, with more array types
-program_is : (files : List Tree) (document : FinDoc) (mode : Mode) → (more : List JavaType) × ((problem_of files document mode).program ≡ program_with (table_of files) (array_types_of files ++ more))
-unfolding problem_in setting_of
-program_is files document mode =
-    let setting = setting_of files document in
-    let named = flat_map (λ a. arrays_in a.0) (bounded (table_of files).headings document.arrays) in
-    let m = once_more (flat_map (arrays_named (headings_of files)) (flat_map nodes files)) named in
-    (m.0, ap (program_with (table_of files)) m.1)
 
 -- what builders need of the sources and their problem
 pub record IsSuited (files : List Tree) (problem : Problem) : Type 0 where

@@ -1,13 +1,14 @@
 -- In files that break no class rule lines of classes end, and superclasses are classes.
-use Rattle.std.proofs.Common.{◌≡◌, refl, sym, ap, ◌∙◌, subst, inl, inr, ◌⊎◌, ℕ, zero, suc, ◌+◌, ◌<◌, ◌≤◌, false, List, [], ◌∷◌, length, arith, Some, None}
+use Rattle.std.proofs.Common.{◌≡◌, sym, ap, ◌∙◌, subst, inl, inr, ◌⊎◌, ℕ, zero, suc, ◌+◌, ◌<◌, ◌≤◌, false, List, [], ◌∷◌, length, arith, Some}
 use Rattle.std.specs.Prelude.{option_and_then}
+use Rattle.std.proofs.lemmas.Bool.{cases_lt}
 use Rattle.kr_base.proofs.ListLemmas.{append_is_nil}
 use Rattle.kr_ast.specs.Tree as trees
 use Rattle.kr_ast.specs.Tree.{Tree}
 use Rattle.kr_classes_table.specs.Table.{Table, Class, Heading, classes_from, class_at, number_of, class_named, is_number, outer_of, ancestors, is_among, line_within}
 use Rattle.kr_classes_table.specs.Rules.{each_class, C3}
 use Rattle.kr_classes_table.specs.Ancestors.{IsAcyclic, IsClosed}
-use Rattle.kr_classes_table.proofs.Tables.{bounded_from, within, long, past, unbroken}
+use Rattle.kr_classes_table.proofs.Tables.{bounded_from, within, long, no_line, past, unbroken}
 
 named : (hs : List Heading) (t : Tree) (d : ℕ) → class_named hs t ≡ Some d → d < length hs
 named hs (trees.NamedType p n) d e = let b = bounded_from 0 hs n d e in omega (arith, b)
@@ -37,15 +38,8 @@ each t k (d ∷ ds) c e l m =
       | inr b ↦ each t (k + 1) ds c parts.1 b (omega (arith, m))
     ]
 
-no_line : (n : ℕ) (t : Table) (c : ℕ) → is_among c (line_within n t None) ≡ false
-no_line zero t c = refl
-no_line (suc n) t c = refl
-
-inside_or_past : (c n : ℕ) → (c < n) ⊎ (n ≤ c)
-inside_or_past c n = grind arith
-
 pub is_acyclic : (t : Table) → each_class (C3 t) 0 t.classes ≡ [] → IsAcyclic t
-is_acyclic t e c = elim (inside_or_past c (length t.classes)) [
+is_acyclic t e c = elim (cases_lt c (length t.classes)) [
   | inl b ↦ each t 0 t.classes c e (omega arith) (omega (arith, b))
   | inr b ↦ subst (λ o. is_among c (line_within (length t.classes) t o) ≡ false) (sym (ap (λ o. option_and_then (λ (x : Class). x.super) o) (past t.classes c b))) (no_line (length t.classes) t c)
 ]

@@ -2,11 +2,11 @@
 use Rattle.std.proofs.Common.{◌≡◌, ℕ, suc, ◌+◌, ◌⊎◌, inl, inr, Bool, true, false, ◌||◌, List, [], ◌∷◌, ◌++◌, get_or, Some, refl, sym, ap, ◌∙◌, arith, subst}
 use Rattle.std.specs.Prelude.{codes, flat_map, not, ℤ, if◌then◌else◌}
 use Rattle.std.specs.List.{position_or_len}
-use Rattle.std.proofs.lemmas.Bool.{cases_Bool}
+use Rattle.std.proofs.lemmas.Bool.{cases_Bool, or_left, or_right}
 use Rattle.std.proofs.lemmas.List.Concat.{flat_map-append}
 use Rattle.kr_base.specs.declared.place.Place.{Place}
 use Rattle.kr_ast.specs.Tree as trees
-use Rattle.kr_ast.specs.Tree.{Tree, Cons, Nil}
+use Rattle.kr_ast.specs.Tree.{Tree, Nil}
 use Rattle.kr_classes_table.specs.Arrays.{array_number, array_number_from, array_types_of, arrays_in, arrays_named, is_listed, once}
 use Rattle.kr_classes_table.specs.Nodes.{nodes}
 use Rattle.kr_classes_table.specs.Table.{Heading, headings_of, type_named}
@@ -14,8 +14,9 @@ use Rattle.kr_classes_table.specs.Types.{JavaType, ArrayType, VoidType, is_same}
 use Rattle.kr_laws_safety.proofs.Heaps.{same_type}
 use Rattle.kr_laws_safety.proofs.Vectors.{type_same}
 use Rattle.kr_laws_slots.proofs.Membership.{Has}
+use Rattle.kr_laws_never_stuck.proofs.Codes.{listed_back, listed_front}
 use Rattle.kr_emit_text.specs.Pieces as pieces
-use Rattle.kr_emit_text.specs.Pieces.{behind}
+use Rattle.kr_emit_text.specs.Pieces.{after_pieces}
 use Rattle.kr_emit_text.specs.Syntax.{Builder, CreatesArray, Line, TypeName}
 use Rattle.kr_emit_text.specs.BuilderTree.{body_start, body_tree, file_tree, line_start, method_end, methods_tree, result_end, result_start, statement_end, statement_tree, type_tree, class_tree}
 
@@ -60,26 +61,6 @@ type_there (u ∷ us) t h = go (is_same t u) refl h (λ i. type_there us t i)
 
 -- ---- listed types
 
-or_left : (a b : Bool) → a ≡ true → (a || b) ≡ true
-or_left true b e = refl
-or_left false b e = absurd (cc (e))
-
-or_right : (a b : Bool) → b ≡ true → (a || b) ≡ true
-or_right true b e = refl
-or_right false b e = e
-
-pub listed_first : (t : JavaType) (xs ys : List JavaType) → is_listed t xs ≡ true → is_listed t (xs ++ ys) ≡ true
-listed_first t [] ys h = absurd (cc (h))
-listed_first t (x ∷ xs) ys h = go (is_same t x) h (λ i. listed_first t xs ys i)
-  where
-    go : (b : Bool) → (b || is_listed t xs) ≡ true → (is_listed t xs ≡ true → is_listed t (xs ++ ys) ≡ true) → (b || is_listed t (xs ++ ys)) ≡ true
-    go true h r = refl
-    go false h r = r h
-
-pub listed_last : (t : JavaType) (xs ys : List JavaType) → is_listed t ys ≡ true → is_listed t (xs ++ ys) ≡ true
-listed_last t [] ys h = h
-listed_last t (x ∷ xs) ys h = or_right (is_same t x) (is_listed t (xs ++ ys)) (listed_last t xs ys h)
-
 -- a type of a list is one of those that are listed once, or was seen before
 pub listed_once : (t : JavaType) (seen xs : List JavaType) → is_listed t xs ≡ true → (is_listed t seen ≡ true) ⊎ (is_listed t (once seen xs) ≡ true)
 listed_once t seen [] h = absurd (cc (h))
@@ -104,18 +85,18 @@ module _ (hs : List Heading) (name : TypeName) (e : JavaType) (means : (p : Plac
   Lists ns = is_listed (ArrayType e) (flat_map (arrays_named hs) ns) ≡ true
 
   lists_first : (xs ys : List Tree) → Lists xs → Lists (xs ++ ys)
-  lists_first xs ys h = ap (is_listed (ArrayType e)) (flat_map-append (arrays_named hs) xs ys) ∙ listed_first (ArrayType e) (flat_map (arrays_named hs) xs) (flat_map (arrays_named hs) ys) h
+  lists_first xs ys h = ap (is_listed (ArrayType e)) (flat_map-append (arrays_named hs) xs ys) ∙ listed_front (ArrayType e) (flat_map (arrays_named hs) xs) (flat_map (arrays_named hs) ys) h
 
   lists_last : (xs ys : List Tree) → Lists ys → Lists (xs ++ ys)
-  lists_last xs ys h = ap (is_listed (ArrayType e)) (flat_map-append (arrays_named hs) xs ys) ∙ listed_last (ArrayType e) (flat_map (arrays_named hs) xs) (flat_map (arrays_named hs) ys) h
+  lists_last xs ys h = ap (is_listed (ArrayType e)) (flat_map-append (arrays_named hs) xs ys) ∙ listed_back (ArrayType e) (flat_map (arrays_named hs) xs) (flat_map (arrays_named hs) ys) h
 
   named : (p : Place) → is_listed (ArrayType e) (arrays_named hs (trees.ArrayType p (type_tree p name))) ≡ true
   named p =
       ap (λ (t : JavaType). is_listed (ArrayType e) (arrays_in t ++ ArrayType t ∷ [])) (means p)
-      ∙ listed_last (ArrayType e) (arrays_in e) (ArrayType e ∷ []) (or_left (is_same (ArrayType e) (ArrayType e)) false (type_same (ArrayType e)))
+      ∙ listed_back (ArrayType e) (arrays_in e) (ArrayType e ∷ []) (or_left (is_same (ArrayType e) (ArrayType e)) false (type_same (ArrayType e)))
 
   in_line : (front : List ℕ) (n : ℕ) (size : ℤ) → Lists (nodes (statement_tree at front (CreatesArray name n size)))
-  in_line front n size = listed_first (ArrayType e) (arrays_named hs (trees.ArrayType (at front) (type_tree (at front) name))) _ (named (at front))
+  in_line front n size = listed_front (ArrayType e) (arrays_named hs (trees.ArrayType (at front) (type_tree (at front) name))) _ (named (at front))
 
   in_body : (front : List ℕ) (lines : List Line) (n : ℕ) (size : ℤ) → Has (CreatesArray name n size) lines → Lists (nodes (body_tree at front lines))
   in_body front [] n size h = absurd h
@@ -145,7 +126,7 @@ module _ (hs : List Heading) (name : TypeName) (e : JavaType) (means : (p : Plac
   pub array_listed : (files : List Tree) (builders : List Builder) (b : Builder) (n : ℕ) (size : ℤ) → headings_of (files ++ file_tree at builders ∷ []) ≡ hs → Has b builders → Has (CreatesArray name n size) b.lines
       → is_listed (ArrayType e) (array_types_of (files ++ file_tree at builders ∷ [])) ≡ true
   array_listed files builders b n size is h i =
-      let front : List ℕ = behind [] (pieces.class_head []) in
+      let front : List ℕ = after_pieces [] (pieces.class_head []) in
       let ms : List Tree = nodes (methods_tree at front 0 builders) in
       let tree : Lists (nodes (file_tree at builders)) = lists_first (nodes (class_tree at builders)) [] (in_methods front 0 builders b n size h i) in
       let all : Lists (flat_map nodes (files ++ file_tree at builders ∷ [])) =

@@ -19,9 +19,11 @@ use Rattle.kr_mean.specs.declared.flow.Flow.TheVariants.{Next}
 use Rattle.kr_mean.specs.declared.kind.Kind.TheVariants.{ArrayTooLong}
 use Rattle.kr_mean.specs.declared.kind.Stop.TheVariants.{Trapped}
 use Rattle.kr_mean.specs.Program.{Program, class_scope, constructor_of, declared_fields, default_of, spot_of_field}
-use Rattle.kr_mean.specs.Steps.{Local, Run, ◌>>=◌, ◌>>◌, assign, declare, give, make, plain_local, stop, store_new}
-use Rattle.kr_mean.specs.Meaning.{Parts, all_declared, all_initialised, constructed, constructed_by, create, create_array, declared, declaring_locals, execute, initial_value, initialised, make_array, unbounded, value}
+use Rattle.kr_mean.specs.Steps.{Local, Run, ◌>>◌, assign, declare, give, make, plain_local, stop, store_new}
+use Rattle.kr_mean.specs.Meaning.{all_declared, all_initialised, constructed, constructed_by, create, create_array, declared, declaring_locals, execute, initial_value, initialised, make_array, unbounded, value}
 use Rattle.kr_laws_runs.proofs.Respects.{AllOf}
+use Rattle.kr_laws_safety.proofs.Creations.{initialised_present, is_nil}
+use Rattle.kr_laws_safety.proofs.Statements.{initial_present}
 use Rattle.kr_emit_laws.proofs.Heaps.{here, object, put_here}
 use Rattle.kr_emit_laws.proofs.Goes.{Goes, Memory, goes_assign, goes_declare, goes_give, goes_make, goes_more, goes_node, goes_statement, goes_store_new, goes_then, goes_tick, goes_within, with_heap, with_locals}
 
@@ -31,10 +33,6 @@ abbrev pub making : List HeapObject → ℕ → List Value → Memory → Memory
 making heap c values m = with_heap (heap ++ object (Object c) values ∷ []) m
 
 -- ---- initial values
-
-abbrev pub is_nil : Tree → Bool
-is_nil trees.Nil = true
-is_nil t = false
 
 -- an expression has a value wherever it is run, and changes nothing
 abbrev pub HasValue : Program → Scope → Tree → Type 0
@@ -56,10 +54,6 @@ pub record Fills (run : Run (Unit {0})) (heap : List HeapObject) (c : ℕ) (befo
   pub values : List Value
   pub long : length values ≡ length before
   pub goes : (m : Memory) → Goes run (making heap c before m) tt (making heap c values m) cost
-
-initialised_present : (program : Program) (p : Parts) (o : Value) (f : Field) (e : Tree) → is_nil e ≡ false → initialised program p o f e ≡ (p.value (class_scope program f.class) e >>= (λ v. store_new program f o v))
-initialised_present program p o f trees.Nil q = absurd (cc (q))
-initialised_present program p o f _ q = refl
 
 field_fills : (program : Program) (heap : List HeapObject) (c : ℕ) (values : List Value) (f : Field) → IsSimple program c f → Fills (initialised program (unbounded program) (Reference (length heap)) f f.initial) heap c values 2
 field_fills program heap c values f simple = go simple.initial
@@ -174,10 +168,6 @@ creates_array program s p t e type n k is number small given = record {
 }
 
 -- ---- locals
-
-initial_present : (p : Parts) (s : Scope) (k : ℕ) (e : Tree) → is_nil e ≡ false → initial_value p s k e ≡ (p.value s e >>= (λ v. assign k v))
-initial_present p s k trees.Nil q = absurd (cc (q))
-initial_present p s k _ q = refl
 
 -- the scope of a local's initial value, which is that of the statements after it
 abbrev pub with_new : Scope → Tree → List ℕ → Scope

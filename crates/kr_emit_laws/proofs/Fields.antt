@@ -4,7 +4,6 @@ use Rattle.std.specs.Prelude.{map, flat_map, reverse, bytes_eq, drop, option_to_
 use Rattle.std.proofs.lemmas.Bool.{cases_lt}
 use Rattle.std.proofs.lemmas.List.{append-nil, length-append, reverse-append}
 use Rattle.std.proofs.lemmas.List.Concat.{flat_map-append}
-use Rattle.std.proofs.lemmas.Slice.Eq.{bytes_eq-Decides}
 use Rattle.kr_base.proofs.ListLemmas.{append_is_nil}
 use Rattle.kr_base.specs.declared.place.Place.{Place}
 use Rattle.kr_classes_table.specs.Rules.{break_if, is_name_among, repeated}
@@ -13,6 +12,7 @@ use Rattle.kr_classes_table.proofs.Tables.{unbroken as not_broken}
 use Rattle.kr_classes_table.specs.Ancestors.{IsWhole}
 use Rattle.kr_mean.specs.Program.{Program, position_from}
 use Rattle.kr_laws_never_stuck.proofs.Chains.{Chain, chain}
+use Rattle.kr_laws_never_stuck.proofs.Declared.{equal_names, names_equal}
 use Rattle.kr_laws_never_stuck.proofs.Unbroken.{Unbroken}
 use Rattle.kr_emit_laws.proofs.Creations.{declared_on}
 
@@ -24,12 +24,6 @@ tally false = 0
 abbrev times : List ℕ → List Field → ℕ
 times n [] = 0
 times n (f ∷ fs) = tally (bytes_eq f.name n) + times n fs
-
-names_equal : (m n : List ℕ) → bytes_eq m n ≡ true → m ≡ n
-names_equal m n e = (bytes_eq-Decides m n).0 e
-
-equal_names : (m n : List ℕ) → m ≡ n → bytes_eq m n ≡ true
-equal_names m n e = (bytes_eq-Decides m n).1 e
 
 times_both : (n : List ℕ) (xs ys : List Field) → times n (xs ++ ys) ≡ times n xs + times n ys
 times_both n [] ys = omega arith

@@ -24,7 +24,7 @@ pub record Memory : Type 0 where
 
 -- outside of the search, so that nothing is a candidate
 abbrev pub state : Memory → ℕ → State
-state m fuel = record { this_value = m.this_value; locals = m.locals; result = None; olds = []; heap = m.heap; candidates = 0; fuel = fuel }
+state m fuel = record { this_value = m.this_value; locals = m.locals; result = None; olds = []; thrown = None; heap = m.heap; candidates = 0; fuel = fuel }
 
 pub record Left {A : Type 0} (o : Outcome A) (a : A) (to : Memory) (least : ℕ) : Type 0 where
   pub fuel : ℕ

@@ -13,10 +13,10 @@ use Rattle.kr_types_meaning.specs.Scopes.{Scope, in_class, static_if, declaring,
 use Rattle.kr_types_meaning.specs.Rules.{parameter_rule, implied_rule}
 use Rattle.kr_types_meaning.specs.Typing.{on_maybe, class_rule, has_constructor, judged}
 use Rattle.kr_laws_shapes.specs.Shapes.{AreParameters, IsSignature, IsMember, IsClass, AreClasses}
+use Rattle.kr_laws_types.proofs.Typed.{below_none}
 use Rattle.kr_emit_laws.specs.Larger.{AreNames}
 use Rattle.kr_emit_laws.proofs.TypingNames.{IsFree, class_kept}
 use Rattle.kr_emit_laws.proofs.Rules.{at}
-use Rattle.kr_emit_laws.proofs.Parts.{below_none}
 use Rattle.kr_emit_laws.proofs.TypingLines.{each_same}
 use Rattle.kr_emit_laws.proofs.TypingExpressions.{type_kept, result_kept}
 use Rattle.kr_emit_laws.proofs.Members.{member_scope}

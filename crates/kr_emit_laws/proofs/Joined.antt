@@ -15,7 +15,7 @@ use Rattle.kr_mean.specs.declared.row.Row.{Row}
 use Rattle.kr_emit_meaning.specs.Buildable.{build_fault, builders_name}
 use Rattle.kr_emit_meaning.specs.Builders.{objects_in}
 use Rattle.kr_emit_text.specs.Pieces as pieces
-use Rattle.kr_emit_text.specs.Pieces.{behind}
+use Rattle.kr_emit_text.specs.Pieces.{after_pieces}
 use Rattle.kr_emit_text.specs.Syntax.{Builder, builders_of}
 use Rattle.kr_emit_text.specs.BuilderTree.{builder_tree, method_end, methods_tree}
 use Rattle.kr_emit_laws.proofs.Acyclic.{is_acyclic, is_closed}
@@ -43,13 +43,13 @@ last_class [] d = refl
 last_class (x ∷ ds) d = last_class ds d
 
 abbrev first_front : List ℕ
-first_front = behind [] (pieces.class_head [])
+first_front = after_pieces [] (pieces.class_head [])
 
 abbrev class_place : (List ℕ → Place) → Place
 class_place at = at (codes "class" ++ codes " ")
 
 module _ (files : List Tree) (problem : Problem) (rows : List Row) (at : List ℕ → Place) (suited : IsSuited files problem) (faults : class_fault (table_of files) ≡ None) (buildable : build_fault problem ≡ None)
-    (added : IsAdded files (at (codes "class" ++ codes " ")) builders_name (methods_tree at (behind [] (pieces.class_head [])) 0 (builders_of problem rows))) where
+    (added : IsAdded files (at (codes "class" ++ codes " ")) builders_name (methods_tree at (after_pieces [] (pieces.class_head [])) 0 (builders_of problem rows))) where
   abbrev members : Tree
   members = methods_tree at first_front 0 (builders_of problem rows)
 

@@ -56,4 +56,4 @@ module _ (t u : Table) (w : List ℕ) (free : IsFree w) (g : IsLarger t u w) whe
       record { known = ap is_known same ∙ h.known; few = h.few; lines = subst (λ (a : JavaType). LinesFit u a [] b.lines) (sym same) (lines_kept (meant_type t b.type) [] b.lines h.lines) }
 
 pub fit : FitLaw
-fit table larger b g h = builder_kept table larger builders_name (record { named = refl; set = refl; list = refl }) g b h
+fit table larger b g h = builder_kept table larger builders_name (record { named = refl; set = refl; list = refl; throwable = refl }) g b h

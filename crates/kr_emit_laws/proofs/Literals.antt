@@ -13,7 +13,8 @@ use Rattle.kr_mean.specs.Operators.{operated_alone, unary_operation}
 use Rattle.kr_mean.specs.Program.{Program}
 use Rattle.kr_mean.specs.Steps.{say}
 use Rattle.kr_emit_meaning.specs.Buildable.{is_literal, is_number}
-use Rattle.kr_emit_laws.proofs.Creations.{HasValue, is_nil}
+use Rattle.kr_laws_safety.proofs.Creations.{is_nil}
+use Rattle.kr_emit_laws.proofs.Creations.{HasValue}
 use Rattle.kr_emit_laws.proofs.Expressions.{goes_null, goes_truth}
 use Rattle.kr_emit_laws.proofs.Goes.{Goes, Memory, goes_give, goes_more, goes_node, goes_then}
 

@@ -1,27 +1,25 @@
 -- The locals of a builder: each has its number's name and one type.
 use Rattle.std.proofs.Common.{◌≡◌, refl, ap, ◌∙◌, ℕ, suc, ◌<◌, ◌≤◌, Bool, true, false, nat_eq, List, [], ◌∷◌, length, rules, arith, Option, Some, None, if◌then◌else◌}
 use Rattle.std.specs.Prelude.{bytes_eq}
+use Rattle.std.proofs.lemmas.Bool.{eqb-true}
 use Rattle.kr_classes_table.specs.Types.{JavaType}
 use Rattle.kr_classes_table.specs.Table.{Field}
 use Rattle.kr_types_meaning.specs.Scopes.{Scope, Local, LocalName, meant_by, field_or_none}
 use Rattle.kr_types_meaning.specs.Rules.{is_new}
+use Rattle.kr_laws_never_stuck.proofs.Declared.{equal_names}
 use Rattle.kr_emit_laws.specs.Fitting.{local_type}
-use Rattle.kr_emit_laws.proofs.TypingNames.{equal_names}
 
 -- of their types, the newest first
 abbrev pub locals_of : (ℕ → List ℕ) → List JavaType → List Local
 locals_of name [] = []
 locals_of name (a ∷ ts) = record { name = name (length ts); type = a } ∷ locals_of name ts
 
-same : (a b : ℕ) → nat_eq a b ≡ true → a ≡ b
-same a b p = grind (arith, rules)
-
 pub local_below : (ts : List JavaType) (i : ℕ) (a : JavaType) → local_type ts i ≡ Some a → i < length ts
 local_below [] i a e = absurd (cc (e))
 local_below (b ∷ ts) i a e = go (nat_eq (length ts) i) refl e (local_below ts i a)
   where
     go : (x : Bool) → nat_eq (length ts) i ≡ x → (if x then Some b else local_type ts i) ≡ Some a → (local_type ts i ≡ Some a → i < length ts) → i < suc (length ts)
-    go true q e r = let s = same (length ts) i q in omega (arith, s)
+    go true q e r = let s = eqb-true (length ts) i q in omega (arith, s)
     go false q e r = let s = r e in omega (arith, s)
 
 module _ (name : ℕ → List ℕ) (most : ℕ) (apart : (i j : ℕ) → i < most → j < most → bytes_eq (name i) (name j) ≡ true → i ≡ j) where
@@ -40,7 +38,7 @@ module _ (name : ℕ → List ℕ) (most : ℕ) (apart : (i j : ℕ) → i < mos
           → (k : ℕ) × ((if bytes_eq (name (length ts)) (name i) then LocalName (length (locals_of name ts)) b else meant_by (locals_of name ts) f (name i)) ≡ LocalName k a)
       go true q e r =
           let s : b ≡ a = cc (e) in
-          (length (locals_of name ts), ap (λ z. if z then LocalName (length (locals_of name ts)) b else meant_by (locals_of name ts) f (name i)) (equal_names (name (length ts)) (name i) (ap name (same (length ts) i q))) ∙ ap (LocalName (length (locals_of name ts))) s)
+          (length (locals_of name ts), ap (λ z. if z then LocalName (length (locals_of name ts)) b else meant_by (locals_of name ts) f (name i)) (equal_names (name (length ts)) (name i) (ap name (eqb-true (length ts) i q))) ∙ ap (LocalName (length (locals_of name ts))) s)
       go false q e r =
           let rest = r e in
           let below = local_below ts i a e in

@@ -8,16 +8,17 @@ use Rattle.kr_ast.specs.Tree.{Tree}
 use Rattle.kr_classes_table.specs.Types.{JavaType}
 use Rattle.kr_classes_table.specs.Rules.{Fault}
 use Rattle.kr_classes_table.specs.Table.{Table, Constructor, type_named}
-use Rattle.kr_types_meaning.specs.Scopes.{Scope, Requiring, Ensuring, scope_of, in_class, static_if, declaring, field_kind, bind_local, in_contract, after}
-use Rattle.kr_types_meaning.specs.Rules.{contract_rule, parameter_rule, super_constructor_rule, implied_rule}
-use Rattle.kr_types_meaning.specs.Typing.{Judged, judge, on_maybe, plain, class_rule, has_constructor, judged}
-use Rattle.kr_laws_shapes.specs.Shapes.{IsVariableType, IsResultType, Several, AreParameters, IsContractLine, AreContractLines, IsSignature, MayCallSuper, IsMember, AreClasses}
+use Rattle.kr_types_meaning.specs.Scopes.{Scope, Requiring, Ensuring, Signalling, scope_of, in_class, static_if, declaring, field_kind, in_contract, in_signals, caught_type, after}
+use Rattle.kr_types_meaning.specs.Rules.{Judgement, contract_rule, caught_rule, then_rule, super_constructor_rule, implied_rule}
+use Rattle.kr_types_meaning.specs.Typing.{Judged, judge, on_one, on_maybe, signals, plain, class_rule, has_constructor, judged}
+use Rattle.kr_laws_shapes.specs.Shapes.{IsExpression, IsSignalled, IsResultType, Several, AreParameters, IsContractLine, AreContractLines, IsSignature, MayCallSuper, IsMember, AreClasses}
+use Rattle.kr_laws_types.proofs.Typed.{below_none}
 use Rattle.kr_emit_laws.specs.Larger.{IsLarger}
 use Rattle.kr_emit_laws.proofs.TypingNames.{IsFree, known_same}
-use Rattle.kr_emit_laws.proofs.Rules.{at, Keeps, equal, type_keeps, parameter_keeps, super_constructor_keeps, implied_keeps}
-use Rattle.kr_emit_laws.proofs.Parts.{below_none, judge_keeps, on_maybe_keeps, one_keeps, list_keeps, append_alike}
+use Rattle.kr_emit_laws.proofs.Rules.{at, Keeps, equal, then_keeps, caught_keeps, type_keeps, super_constructor_keeps, implied_keeps}
+use Rattle.kr_emit_laws.proofs.Parts.{judge_keeps, on_one_keeps, on_maybe_keeps, one_keeps, list_keeps, append_alike}
 use Rattle.kr_emit_laws.proofs.TypingExpressions.{result_kept, written_same, written_alike, alike}
-use Rattle.kr_emit_laws.proofs.Statements.{Leaves, follows, pair, behind, declarators_alike, code_alike}
+use Rattle.kr_emit_laws.proofs.Statements.{Leaves, follows, pair, alike_after, class_variable, parameter_written, parameter_leaves, parameter_alike, declarators_alike, code_alike}
 
 -- no class in it has this name
 abbrev pub Others : List ℕ → Tree → Type 0
@@ -36,27 +37,13 @@ member_scope v s _ h = absurd h
 module _ (t u : Table) (w : List ℕ) (free : IsFree w) (g : IsLarger t u w) where
   -- ---- parameters
 
-  parameter_leaves : (s : Scope) (p : Place) (k : Tree) (n : List ℕ) → IsVariableType k → (judged (at t s) (trees.Parameter p k n)).faults ≡ [] → Leaves t u w free g s (trees.Parameter p k n)
-  unfolding judged
-  parameter_leaves s p k n h f = record {
-    to = bind_local n (type_named t.headings k) s;
-    old = refl;
-    new = ap (λ (z : JavaType). at u (bind_local n z s)) (written_same t u w free g s k h (below_none p (parameter_rule (at t s) n) (judged (at t s) k).faults f));
-  }
-
-  parameter_alike : (s : Scope) (p : Place) (k : Tree) (n : List ℕ) → IsVariableType k → (judged (at t s) (trees.Parameter p k n)).faults ≡ [] → judged (at u s) (trees.Parameter p k n) ≡ judged (at t s) (trees.Parameter p k n)
-  unfolding judged
-  parameter_alike s p k n h f =
-      ap (λ (z : Judged). judge p (parameter_rule (at u s) n) z.faults) (written_alike t u w free g s k h (below_none p (parameter_rule (at t s) n) (judged (at t s) k).faults f))
-      ∙ judge_keeps p (parameter_rule (at t s) n) (parameter_rule (at u s) n) (judged (at t s) k).faults (parameter_keeps t u w free g s n) f
-
   pub parameters_leave : (s : Scope) (ps : Tree) → AreParameters ps → (judged (at t s) ps).faults ≡ [] → Leaves t u w free g s ps
   unfolding judged
   parameters_leave s trees.Nil h f = record { to = s; old = refl; new = refl }
   parameters_leave s (trees.Cons (trees.Parameter p k n) b) h f =
       let a = trees.Parameter p k n in
       let parts = append_is_nil (judged (at t s) a).faults (judged (after (at t s) a) b).faults f in
-      let first = parameter_leaves s p k n h.0 parts.0 in
+      let first = parameter_leaves t u w free g s p k n h.0 parts.0 in
       follows t u w free g s a b first (parameters_leave first.to b h.1 (subst (λ (z : Scope). (judged z b).faults ≡ []) first.old parts.1))
   parameters_leave s (trees.Cons _ b) h f = absurd h
   parameters_leave s _ h f = absurd h
@@ -67,22 +54,65 @@ module _ (t u : Table) (w : List ℕ) (free : IsFree w) (g : IsLarger t u w) whe
   parameters_alike s (trees.Cons (trees.Parameter p k n) b) h f =
       let a = trees.Parameter p k n in
       let parts = append_is_nil (judged (at t s) a).faults (judged (after (at t s) a) b).faults f in
-      let first = parameter_leaves s p k n h.0 parts.0 in
-      pair t u w free g s a b first (parameter_alike s p k n h.0) (parameters_alike first.to b h.1) f
+      let first = parameter_leaves t u w free g s p k n h.0 parts.0 in
+      pair t u w free g s a b first (parameter_alike t u w free g s p k n h.0) (parameters_alike first.to b h.1) f
   parameters_alike s (trees.Cons _ b) h f = absurd h
   parameters_alike s _ h f = absurd h
 
   -- ---- signatures
 
+  -- a `signals`, by what it declares
+  signalled : (s : Scope) (p : Place) (d e : Tree) → (first : Leaves t u w free g s d) → caught_type (at u s) d ≡ caught_type (at t s) d → ((judged (at t s) d).faults ≡ [] → judged (at u s) d ≡ judged (at t s) d) → IsExpression e → (judged (at t s) (trees.Signals p d e)).faults ≡ []
+      → judged (at u s) (trees.Signals p d e) ≡ judged (at t s) (trees.Signals p d e)
+  unfolding judged
+  signalled s p d e first type same h f =
+      let x = judged (at t s) d in
+      let y = judged (in_signals d (at t s)) e in
+      let old_rule : JavaType → Judgement = λ a. then_rule (contract_rule (at t s) a) (caught_rule (at t s) 43 (caught_type (at t s) d)) in
+      let new_rule : JavaType → JavaType → Judgement = λ z a. then_rule (contract_rule (at u s) a) (caught_rule (at u s) 43 z) in
+      let rule = on_one old_rule y.typed in
+      let parts = append_is_nil x.faults y.faults (below_none p rule (x.faults ++ y.faults) f) in
+      let there : judged (in_signals d (at u s)) e ≡ y =
+      ap (λ (z : Scope). judged (in_contract Signalling z) e) first.new
+      ∙ (alike t u w free g false (in_contract Signalling first.to) e h (subst (λ (z : Scope). (judged (in_contract Signalling z) e).faults ≡ []) first.old parts.1) ∙ ap (λ (z : Scope). judged (in_contract Signalling z) e) (sym first.old)) in
+      ap (λ (z : Judged). signals p (at u s) d z (judged (in_signals d (at u s)) e)) (same parts.0)
+      ∙ (ap (λ (z : Judged). signals p (at u s) d x z) there
+      ∙ (ap (λ (z : JavaType). judge p (on_one (new_rule z) y.typed) (x.faults ++ y.faults)) type
+      ∙ judge_keeps p rule (on_one (new_rule (caught_type (at t s) d)) y.typed) (x.faults ++ y.faults)
+      (on_one_keeps old_rule (new_rule (caught_type (at t s) d)) y.typed (λ a. then_keeps (contract_rule (at t s) a) _ _ (caught_keeps t u w free g s 43 (caught_type (at t s) d)))) f))
+
+  -- what it declares isn't broken
+  declared_fine : (s : Scope) (p : Place) (d e : Tree) → (judged (at t s) (trees.Signals p d e)).faults ≡ [] → (judged (at t s) d).faults ≡ []
+  unfolding judged
+  declared_fine s p d e f =
+      let x = judged (at t s) d in
+      let y = judged (in_signals d (at t s)) e in
+      (append_is_nil x.faults y.faults (below_none p (on_one (λ a. then_rule (contract_rule (at t s) a) (caught_rule (at t s) 43 (caught_type (at t s) d))) y.typed) (x.faults ++ y.faults) f)).0
+
+  signals_alike : (s : Scope) (p : Place) (d e : Tree) → IsSignalled d → IsExpression e → (judged (at t s) (trees.Signals p d e)).faults ≡ [] → judged (at u s) (trees.Signals p d e) ≡ judged (at t s) (trees.Signals p d e)
+  signals_alike s p (trees.Parameter q k n) e c h f =
+      let d = trees.Parameter q k n in
+      let fine = declared_fine s p d e f in
+      signalled s p d e (parameter_leaves t u w free g s q k n (class_variable k c) fine) (written_same t u w free g s k (class_variable k c) (parameter_written t u w free g s q k n fine)) (parameter_alike t u w free g s q k n (class_variable k c)) h f
+  signals_alike s p (trees.NamedType q n) e c h f =
+      let d = trees.NamedType q n in
+      signalled s p d e (record { to = s; old = refl; new = refl }) (written_same t u w free g s d c (declared_fine s p d e f)) (written_alike t u w free g s d c) h f
+  signals_alike s p (trees.QualifiedType q o n) e c h f =
+      let d = trees.QualifiedType q o n in
+      signalled s p d e (record { to = s; old = refl; new = refl }) (written_same t u w free g s d c (declared_fine s p d e f)) (written_alike t u w free g s d c) h f
+  signals_alike s p _ e c h f = absurd c
+
   line_alike : (s : Scope) (c : Tree) → IsContractLine c → (judged (at t s) c).faults ≡ [] → judged (at u s) c ≡ judged (at t s) c
   unfolding judged
   line_alike s (trees.Requires p e) h f = one_keeps p (contract_rule (at t s)) (contract_rule (at u s)) (judged (at t (in_contract Requiring s)) e) (judged (at u (in_contract Requiring s)) e) (alike t u w free g false (in_contract Requiring s) e h) (λ a. equal _ _ refl) f
   line_alike s (trees.Ensures p e) h f = one_keeps p (contract_rule (at t s)) (contract_rule (at u s)) (judged (at t (in_contract Ensuring s)) e) (judged (at u (in_contract Ensuring s)) e) (alike t u w free g false (in_contract Ensuring s) e h) (λ a. equal _ _ refl) f
+  line_alike s (trees.Signals p d e) h f = signals_alike s p d e h.0 h.1 f
   line_alike s _ h f = absurd h
 
   line_leaves : (s : Scope) (c : Tree) → IsContractLine c → Leaves t u w free g s c
   line_leaves s (trees.Requires p e) h = record { to = s; old = refl; new = refl }
   line_leaves s (trees.Ensures p e) h = record { to = s; old = refl; new = refl }
+  line_leaves s (trees.Signals p d e) h = record { to = s; old = refl; new = refl }
   line_leaves s _ h = absurd h
 
   lines_alike : (s : Scope) (cs : Tree) → AreContractLines cs → (judged (at t s) cs).faults ≡ [] → judged (at u s) cs ≡ judged (at t s) cs
@@ -135,7 +165,7 @@ module _ (t u : Table) (w : List ℕ) (free : IsFree w) (g : IsLarger t u w) whe
       let leaves = signature_leaves s e h f in
       ap plain (append_alike ((judged (at t s) r).faults ++ (judged (at t s) ps).faults) (judged (after (at t s) e) cs).faults ((judged (at u s) r).faults ++ (judged (at u s) ps).faults) (judged (after (at u s) e) cs).faults
       (append_alike (judged (at t s) r).faults (judged (at t s) ps).faults (judged (at u s) r).faults (judged (at u s) ps).faults (λ b. ap (λ (z : Judged). z.faults) (result_alike s r h.0 b)) (λ b. ap (λ (z : Judged). z.faults) (parameters_alike s ps h.1 b)))
-      (λ b. ap (λ (z : Judged). z.faults) (behind t u w free g s e cs leaves (lines_alike leaves.to cs h.2) b)) f)
+      (λ b. ap (λ (z : Judged). z.faults) (alike_after t u w free g s e cs leaves (lines_alike leaves.to cs h.2) b)) f)
   signature_alike s _ h f = absurd h
 
   -- ---- members
@@ -188,7 +218,7 @@ module _ (t u : Table) (w : List ℕ) (free : IsFree w) (g : IsLarger t u w) whe
       let parts = append_is_nil (judged (at t to) e).faults (judged (after (at t to) e) b).faults f in
       let leaves = signature_leaves to e h.0 parts.0 in
       ap plain (append_alike (judged (at t to) e).faults (judged (after (at t to) e) b).faults (judged (at u to) e).faults (judged (after (at u to) e) b).faults (λ q. ap (λ (z : Judged). z.faults) (signature_alike to e h.0 q))
-      (λ q. ap (λ (z : Judged). z.faults) (behind t u w free g to e b leaves (code_alike t u w free g Several leaves.to b h.1) q)) f)
+      (λ q. ap (λ (z : Judged). z.faults) (alike_after t u w free g to e b leaves (code_alike t u w free g Several leaves.to b h.1) q)) f)
   member_alike false s (trees.Constructor p ps c b) h o f =
       let to = after (at t s) ps in
       let tn = after (at u s) ps in
@@ -197,11 +227,11 @@ module _ (t u : Table) (w : List ℕ) (free : IsFree w) (g : IsLarger t u w) whe
       let parts = append_is_nil ((judged (at t s) ps).faults ++ (judged to c).faults) (judged to b).faults below in
       let front = append_is_nil (judged (at t s) ps).faults (judged to c).faults parts.0 in
       let first = parameters_leave s ps h.0 front.0 in
-      let call = behind t u w free g s ps c first (super_alike first.to c h.1) in
+      let call = alike_after t u w free g s ps c first (super_alike first.to c h.1) in
       ap (λ (z : List Fault). judge p (on_maybe (λ k. implied_rule (at u s)) (judged tn c).typed) z)
       (append_alike ((judged (at t s) ps).faults ++ (judged to c).faults) (judged to b).faults ((judged (at u s) ps).faults ++ (judged tn c).faults) (judged tn b).faults
       (append_alike (judged (at t s) ps).faults (judged to c).faults (judged (at u s) ps).faults (judged tn c).faults (λ q. ap (λ (z : Judged). z.faults) (parameters_alike s ps h.0 q)) (λ q. ap (λ (z : Judged). z.faults) (call q)))
-      (λ q. ap (λ (z : Judged). z.faults) (behind t u w free g s ps b first (code_alike t u w free g Several first.to b h.2) q)) below)
+      (λ q. ap (λ (z : Judged). z.faults) (alike_after t u w free g s ps b first (code_alike t u w free g Several first.to b h.2) q)) below)
       ∙ (ap (λ (z : Judged). judge p (on_maybe (λ k. implied_rule (at u s)) z.typed) ((judged (at t s) ps).faults ++ (judged to c).faults ++ (judged to b).faults)) (call front.1)
       ∙ judge_keeps p v (on_maybe (λ k. implied_rule (at u s)) (judged to c).typed) ((judged (at t s) ps).faults ++ (judged to c).faults ++ (judged to b).faults)
       (on_maybe_keeps (λ k. implied_rule (at t s)) (λ k. implied_rule (at u s)) (judged to c).typed (λ k. implied_keeps t u w free g s)) f)

@@ -7,13 +7,14 @@ use Rattle.std.proofs.lemmas.List.{append-nil, append_cancel_left}
 use Rattle.std.proofs.lemmas.Slice.Eq.{bytes_eq-Decides}
 use Rattle.kr_base.specs.declared.place.Place.{Place}
 use Rattle.kr_classes_table.specs.Constants.{or_else, outer_class}
-use Rattle.kr_classes_table.specs.Table.{Class, Heading, Method, Table, class_at, items, line_of, line_within, method_named, methods_in, own_methods, super_of, type_named}
+use Rattle.kr_classes_table.specs.Table.{Class, Heading, Method, class_at, items, line_of, line_within, method_named, methods_in, own_methods, super_of, type_named}
 use Rattle.kr_classes_table.specs.Types.{is_void}
 use Rattle.kr_types_meaning.specs.Scopes.{static_only}
 use Rattle.kr_mean.specs.Program.{Program}
 use Rattle.kr_emit_text.specs.Pieces.{method_name}
 use Rattle.kr_emit_text.specs.Syntax.{Builder, SimpleName}
 use Rattle.kr_emit_text.specs.BuilderTree.{body_start, body_tree, method_end, methods_tree, result_end, result_start, type_tree}
+use Rattle.kr_laws_runs.proofs.Overriders.{no_line}
 use Rattle.kr_emit_laws.proofs.Calls.{IsBuilder}
 
 abbrev pub no_builder : Builder
@@ -82,10 +83,6 @@ found_from hs c at front k (b ∷ bs) (suc i) n h e small =
     }
 
 -- ---- in a table whose class of a number has these methods
-
-no_line : (n : ℕ) (t : Table) → line_within n t None ≡ []
-no_line zero t = refl
-no_line (suc n) t = refl
 
 pub builder_of_class : (program : Program) (c : ℕ) (d : Class) (at : List ℕ → Place) (front : List ℕ) (bs : List Builder) (n : ℕ) → class_at program.table.classes c ≡ Some d → d.super ≡ None → d.methods ≡ flat_map (methods_in program.table.headings c) (items (methods_tree at front 0 bs))
     → n < length bs → n < 2 ^ 64 → ((p : Place) → is_void (type_named program.table.headings (type_tree p (get_or bs n no_builder).type)) ≡ false) → IsBuilder program c n at (get_or bs n no_builder).lines

@@ -9,6 +9,7 @@ use Rattle.kr_parse_grammar.specs.Grammar as grammar
 use Rattle.kr_parse_grammar.specs.Grammar.{Der, Derives}
 use Rattle.kr_classes_table.specs.Table.{Heading, items, heading_of, with_nested, headings_from}
 use Rattle.kr_laws_shapes.specs.Shapes.{IsMember, IsClass, AreClasses}
+use Rattle.kr_space_meaning.proofs.Each.{each_back, each_front}
 use Rattle.kr_emit_laws.proofs.Members.{Others}
 
 -- ---- depths
@@ -72,14 +73,6 @@ file_nests i t d = nest d.2
 
 -- ---- names
 
-all_front : {A : Type 0} (P : A → Type 0) (xs ys : List A) → AllByRecursion P (xs ++ ys) → AllByRecursion P xs
-all_front P [] ys h = tt
-all_front P (x ∷ xs) ys h = (h.0, all_front P xs ys h.1)
-
-all_back : {A : Type 0} (P : A → Type 0) (xs ys : List A) → AllByRecursion P (xs ++ ys) → AllByRecursion P ys
-all_back P [] ys h = h
-all_back P (x ∷ xs) ys h = all_back P xs ys h.1
-
 module _ (w : List ℕ) where
   abbrev pub IsOther : Heading → Type 0
   IsOther h = bytes_eq w h.name ≡ false
@@ -110,14 +103,14 @@ module _ (w : List ℕ) where
   own_other k (trees.Class p n e ms) h o a = (a.0, once_other k ms h.1 o a.1)
   own_other k _ h o a = absurd h
 
-  -- the classes of a list, of which each is numbered behind those before it
+  -- the classes of a list, of which each is numbered after those before it
   file_other : (k : ℕ) (file : Tree) (more : List Tree) → AreClasses file → Outers file → AllByRecursion IsOther (headings_from k (items file ++ more)) → Others w file × ((j : ℕ) × AllByRecursion IsOther (headings_from j more))
   file_other k trees.Nil more h o a = (tt, (k, a))
   file_other k (trees.Cons m b) more h o a =
       let own = with_nested k (heading_of None m) in
       let rest = headings_from (k + length own) (items b ++ more) in
-      let next = file_other (k + length own) b more h.1 o.1 (all_back IsOther own rest a) in
-      ((own_other k m h.0 o.0 (all_front IsOther own rest a), next.0), next.1)
+      let next = file_other (k + length own) b more h.1 o.1 (each_back IsOther own rest a) in
+      ((own_other k m h.0 o.0 (each_front IsOther own rest a), next.0), next.1)
   file_other k _ more h o a = absurd h
 
   pub files_other : (k : ℕ) (files : List Tree) → AllByRecursion AreClasses files → AllByRecursion Outers files → AllByRecursion IsOther (headings_from k (flat_map items files)) → AllByRecursion (Others w) files

@@ -6,18 +6,14 @@ use Rattle.kr_classes_table.specs.Types.{JavaType}
 use Rattle.kr_classes_table.specs.Rules.{Fault}
 use Rattle.kr_types_meaning.specs.Rules.{Typed, Untyped, Value, Variable, Values, Judgement, Fits, Breaks, fine, condition_rule}
 use Rattle.kr_types_meaning.specs.Typing.{Judged, judge, on_one, on_two, on_list, on_maybe, one, two, three, one_and_list, list, maybe, test}
+use Rattle.kr_laws_types.proofs.Typed.{below_none}
 use Rattle.kr_emit_laws.proofs.Rules.{Keeps, equal}
-
--- a node that isn't broken has no broken node below
-pub below_none : (p : Place) (v : Judgement) (below : List Fault) → (judge p v below).faults ≡ [] → below ≡ []
-below_none p (Fits x) below e = e
-below_none p (Breaks r) below e = absurd (push_is_some below (record { place = p; rule = r }) e)
 
 pub judge_keeps : (p : Place) (v w : Judgement) (below : List Fault) → Keeps v w → (judge p v below).faults ≡ [] → judge p w below ≡ judge p v below
 judge_keeps p (Fits x) w below k e = ap (λ z. judge p z below) (k.kept x refl)
 judge_keeps p (Breaks r) w below k e = absurd (push_is_some below (record { place = p; rule = r }) e)
 
-on_one_keeps : (f h : JavaType → Judgement) (x : Typed) → ((a : JavaType) → Keeps (f a) (h a)) → Keeps (on_one f x) (on_one h x)
+pub on_one_keeps : (f h : JavaType → Judgement) (x : Typed) → ((a : JavaType) → Keeps (f a) (h a)) → Keeps (on_one f x) (on_one h x)
 on_one_keeps f h (Value a) k = k a
 on_one_keeps f h (Variable a) k = k a
 on_one_keeps f h (Values ts) k = equal fine fine refl

@@ -21,8 +21,9 @@ use Rattle.kr_space_meaning.proofs.Plain.{length-element_spots}
 use Rattle.kr_space_meaning.specs.Bounds.{Setting, array_class_domain, bounded, classed, declared, declared_by, domains_of, elements_key, field_values, greatest, lengths_of, object_domain, problem_in, problem_of, setting_of, typed_bound}
 use Rattle.kr_space_meaning.specs.Limits.{AreLengths, IsWithinLimits}
 use Rattle.kr_space_meaning.specs.Names.{Written, ArrayOf, SetOf, ListOf, Word, array_or_none, array_type, of_elements, type_of, type_within, word_type, written}
+use Rattle.kr_laws_never_stuck.proofs.Codes.{listed_back, listed_front}
 use Rattle.kr_emit_meaning.specs.Buildable.{element_of}
-use Rattle.kr_emit_laws.proofs.Arrays.{listed_first, listed_last, listed_once, number_is, type_there}
+use Rattle.kr_emit_laws.proofs.Arrays.{listed_once, number_is, type_there}
 
 -- some name means the class
 abbrev pub IsNamed : List Heading → ℕ → Type 0
@@ -132,15 +133,15 @@ self_listed : (hs : List Heading) (name : List ℕ) (t : JavaType) → array_typ
 self_listed hs name t e =
     let u = (is_array hs name t e).1 in
     subst (λ (t : JavaType). is_listed t (arrays_in t) ≡ true) (sym u.1)
-    (listed_last (ArrayType u.0) (arrays_in u.0) (ArrayType u.0 ∷ []) (ap (λ (b : Bool). b || false) (type_same (ArrayType u.0))))
+    (listed_back (ArrayType u.0) (arrays_in u.0) (ArrayType u.0 ∷ []) (ap (λ (b : Bool). b || false) (type_same (ArrayType u.0))))
 
 all_listed : (hs : List Heading) (setting : Setting) (bounds : List (JavaType × ArrayBound)) → AllByRecursion (IsListed hs setting) bounds → AllByRecursion (λ (a : JavaType × ArrayBound). IsListed hs setting a × (is_listed a.0 (flat_map (λ (b : JavaType × ArrayBound). arrays_in b.0) bounds) ≡ true)) bounds
 all_listed hs setting [] h = tt
 all_listed hs setting (a ∷ more) h =
     let rest : List JavaType = flat_map (λ (b : JavaType × ArrayBound). arrays_in b.0) more in (
-      (h.0, listed_first a.0 (arrays_in a.0) rest (self_listed hs a.1.name a.0 h.0.named)),
+      (h.0, listed_front a.0 (arrays_in a.0) rest (self_listed hs a.1.name a.0 h.0.named)),
       each_weaker (λ (b : JavaType × ArrayBound). IsListed hs setting b × (is_listed b.0 rest ≡ true)) (λ (b : JavaType × ArrayBound). IsListed hs setting b × (is_listed b.0 (arrays_in a.0 ++ rest) ≡ true)) more
-          (λ b l. (l.0, listed_last b.0 (arrays_in a.0) rest l.1)) (all_listed hs setting more h.1),
+          (λ b l. (l.0, listed_back b.0 (arrays_in a.0) rest l.1)) (all_listed hs setting more h.1),
     )
 
 numbered_at : (types : List JavaType) (t : JavaType) → is_listed t types ≡ true → get_or types (unwrap_or (array_number types t) 0) VoidType ≡ t
@@ -156,7 +157,7 @@ module _ (files : List Tree) (document : FinDoc) (limits : IsWithinLimits docume
       let hs : List Heading = (table_of files).headings in
       let mine : List JavaType = flat_map (λ (a : JavaType × ArrayBound). arrays_in a.0) setting.arrays in
       each_weaker (λ (a : JavaType × ArrayBound). IsListed hs setting a × (is_listed a.0 mine ≡ true)) (IsBound setting) setting.arrays
-      (λ a l. record { named = l.0.named; number = numbered_at setting.types a.0 (only a.0 (listed_once a.0 [] (array_types_of files ++ mine) (listed_last a.0 (array_types_of files) mine l.1))); short = l.0.short })
+      (λ a l. record { named = l.0.named; number = numbered_at setting.types a.0 (only a.0 (listed_once a.0 [] (array_types_of files ++ mine) (listed_back a.0 (array_types_of files) mine l.1))); short = l.0.short })
       (all_listed hs setting setting.arrays (bounds_named hs setting document.arrays (recursion_from_All (λ (b : ArrayBound). All AreLengths b.lengths) document.arrays limits.lengths)))
     where
       only : (t : JavaType) → (is_listed t [] ≡ true) ⊎ (is_listed t (once [] (array_types_of files ++ flat_map (λ (a : JavaType × ArrayBound). arrays_in a.0) (bounded (table_of files).headings document.arrays))) ≡ true)

@@ -5,15 +5,16 @@ use Rattle.kr_base.specs.declared.place.Place.{Place}
 use Rattle.kr_ast.specs.Tree.{Tree}
 use Rattle.kr_ast.specs.declared.node.BinaryOperator.{BinaryOperator}
 use Rattle.kr_classes_table.specs.Types.{JavaType, BooleanType, NullType, ClassType, ArrayType, SetType, ListType, InferredType, UnknownType, AppliedType, is_known, is_element, is_reference, is_collection}
-use Rattle.kr_classes_table.specs.Table.{Table, Parameter, Method, applied, type_named, super_of, is_subtype, is_widened, is_assignable, are_related, field_named, method_named, constructor_parameters}
+use Rattle.kr_classes_table.specs.Table.{Table, Parameter, Method, applied, class_or, type_named, super_of, is_subtype, is_widened, is_assignable, are_related, field_named, method_named, constructor_parameters}
 use Rattle.kr_classes_table.specs.Constants.{constant_only, or_else, outer_class, field_meant, value_at}
 use Rattle.kr_types_meaning.specs.declared.operators.OperatorKind.{OperatorKind}
 use Rattle.kr_types_meaning.specs.declared.operators.OperatorKind.TheVariants.{Arithmetic, Shift, Comparison, Equality, Bitwise, Logical}
 use Rattle.kr_types_meaning.specs.Scopes.{Scope, Declaring, Locals, Fields, Constants, Meant, LocalName, FieldName, NoName, meant, meant_by, static_only, method_meant, super_parameters}
-use Rattle.kr_types_meaning.specs.Rules.{Typed, Value, Judgement, Fits, Breaks, ask, fine, takes, is_boolean, related_references, arguments_fit, is_code, is_new, is_simple, is_broken, type_rule, diamond_rule, name_rule, kind_of, kind_rule, operator_rule, boolean_if, both_boolean, choice_rule, cast_rule, instance_rule, written_rule, assignment_rule, compound_rule, access_rule, field_rule, constant_rule, result_rule, arguments_rule, call_rule, static_rule, above_rule, super_rule, plain_call_rule, member_call_rule, collection_rule, method_rule, object_call_rule, creation_fits, creation_rule, return_rule, initial_fits, declaration_rule, parameter_rule, super_constructor_rule, implied_rule}
+use Rattle.kr_types_meaning.specs.Rules.{Typed, Value, Judgement, Fits, Breaks, ask, fine, takes, is_boolean, related_references, arguments_fit, is_code, is_new, is_simple, is_broken, type_rule, diamond_rule, name_rule, kind_of, kind_rule, operator_rule, boolean_if, both_boolean, choice_rule, cast_rule, instance_rule, written_rule, assignment_rule, compound_rule, access_rule, field_rule, constant_rule, result_rule, arguments_rule, call_rule, static_rule, above_rule, super_rule, member_call_rule, collection_rule, method_rule, object_call_rule, creation_fits, creation_rule, return_rule, initial_fits, declaration_rule, parameter_rule, super_constructor_rule, implied_rule, throwable, throw_rule, caught_rule, then_rule}
 use Rattle.kr_types_meaning.specs.Promotion.{are_numbers}
+use Rattle.kr_laws_never_stuck.proofs.Declared.{names_equal}
 use Rattle.kr_emit_laws.specs.Larger.{IsLarger}
-use Rattle.kr_emit_laws.proofs.TypingNames.{IsFree, names_equal, known_same, head_same}
+use Rattle.kr_emit_laws.proofs.TypingNames.{IsFree, known_same, head_same}
 use Rattle.kr_emit_laws.proofs.TypingLines.{each_same}
 
 -- a scope in a table
@@ -33,6 +34,10 @@ broken r w = record { kept = λ x q. absurd (cc (q)) }
 pub asked : (b : Bool) (r : ℕ) (v w : Judgement) → Keeps v w → Keeps (ask b r v) (ask b r w)
 asked true r v w h = h
 asked false r v w h = broken r (Breaks r)
+
+pub then_keeps : (v w x : Judgement) → Keeps w x → Keeps (then_rule v w) (then_rule v x)
+then_keeps (Fits y) w x k = k
+then_keeps (Breaks r) w x k = broken r (Breaks r)
 
 -- ---- types
 
@@ -83,6 +88,20 @@ module _ (t u : Table) (w : List ℕ) (free : IsFree w) (g : IsLarger t u w) whe
   module _ (s : Scope) where
     takes_same : (to from : JavaType) → takes (at u s) to from ≡ takes (at t s) to from
     takes_same to from = ap (λ z. not (is_known to) || z) (assignable_same from to)
+
+    -- ---- what is thrown
+
+    throwable_same : throwable (at u s) ≡ throwable (at t s)
+    throwable_same = ap (λ z. class_or z (UnknownType [] (codes "Throwable"))) (g.names.other (codes "Throwable") free.throwable)
+
+    thrown_same : (a : JavaType) → is_assignable u a (throwable (at u s)) ≡ is_assignable t a (throwable (at t s))
+    thrown_same a = ap (is_assignable u a) throwable_same ∙ assignable_same a (throwable (at t s))
+
+    pub throw_keeps : (a : JavaType) → Keeps (throw_rule (at t s) a) (throw_rule (at u s) a)
+    throw_keeps a = equal _ _ (ap (λ z. ask z 41 fine) (thrown_same a))
+
+    pub caught_keeps : (r : ℕ) (a : JavaType) → Keeps (caught_rule (at t s) r a) (caught_rule (at u s) r a)
+    caught_keeps r a = equal _ _ (ap (λ z. ask (not (is_known a) || z) r fine) (thrown_same a))
 
     references_same : (a b : JavaType) → related_references (at u s) a b ≡ related_references (at t s) a b
     references_same a b = ap (λ z. is_reference a && is_reference b && z) (related_same a b)

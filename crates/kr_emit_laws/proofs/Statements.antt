@@ -1,19 +1,28 @@
 -- Statements without broken nodes are judged alike in the larger table, and leave the same scopes.
 use Rattle.std.proofs.Common.{◌≡◌, refl, sym, ap, ◌∙◌, subst, inl, inr, ℕ, Bool, true, false, List, [], ◌++◌}
+use Rattle.kr_base.specs.declared.place.Place.{Place}
 use Rattle.kr_base.proofs.ListLemmas.{append_is_nil}
 use Rattle.kr_ast.specs.Tree as trees
 use Rattle.kr_ast.specs.Tree.{Tree}
 use Rattle.kr_classes_table.specs.Types.{JavaType}
 use Rattle.kr_classes_table.specs.Table.{Table, type_named}
-use Rattle.kr_types_meaning.specs.Scopes.{Scope, Declaring, Locals, Fields, Constants, statement, in_loop, declaring, bind_as, after}
-use Rattle.kr_types_meaning.specs.Rules.{condition_rule, declaration_rule, return_rule}
-use Rattle.kr_types_meaning.specs.Typing.{Judged, on_one, plain, both, judged}
-use Rattle.kr_laws_shapes.specs.Shapes.{MayBeExpression, IsVariableType, IsDeclarator, AreDeclarators, Sort, One, Several, IsCode}
+use Rattle.kr_types_meaning.specs.Scopes.{Scope, Declaring, Locals, Fields, Constants, statement, in_loop, declaring, bind_local, bind_as, after}
+use Rattle.kr_types_meaning.specs.Rules.{condition_rule, parameter_rule, declaration_rule, return_rule, throw_rule, caught_rule}
+use Rattle.kr_types_meaning.specs.Laws.{IsClassName}
+use Rattle.kr_types_meaning.specs.Typing.{Judged, judge, on_one, plain, both, judged}
+use Rattle.kr_laws_shapes.specs.Shapes.{MayBeExpression, IsVariableType, IsDeclarator, AreDeclarators, Sort, One, Several, Catch, Catches, IsCode}
+use Rattle.kr_laws_types.proofs.Typed.{below_none}
 use Rattle.kr_emit_laws.specs.Larger.{IsLarger}
 use Rattle.kr_emit_laws.proofs.TypingNames.{IsFree}
-use Rattle.kr_emit_laws.proofs.Rules.{at, return_keeps, declaration_keeps}
-use Rattle.kr_emit_laws.proofs.Parts.{below_none, maybe_keeps, test_keeps, append_alike}
+use Rattle.kr_emit_laws.proofs.Rules.{at, return_keeps, declaration_keeps, parameter_keeps, throw_keeps, caught_keeps}
+use Rattle.kr_emit_laws.proofs.Parts.{judge_keeps, one_keeps, maybe_keeps, test_keeps, append_alike}
 use Rattle.kr_emit_laws.proofs.TypingExpressions.{written_same, written_alike, alike}
+
+-- a class's name is a type of variables
+pub class_variable : (k : Tree) → IsClassName k → IsVariableType k
+class_variable (trees.NamedType p n) h = tt
+class_variable (trees.QualifiedType p o n) h = tt
+class_variable _ h = absurd h
 
 module _ (t u : Table) (w : List ℕ) (free : IsFree w) (g : IsLarger t u w) where
   -- the scope after a node: one in the one table, and the same in the other
@@ -29,14 +38,14 @@ module _ (t u : Table) (w : List ℕ) (free : IsFree w) (g : IsLarger t u w) whe
   follows s a b first next = record { to = next.to; old = ap (λ (z : Scope). after z b) first.old ∙ next.old; new = ap (λ (z : Scope). after z b) first.new ∙ next.new }
 
   -- the second of two nodes, in the scope that the first leaves
-  pub behind : (s : Scope) (a b : Tree) → (first : Leaves s a) → ((judged (at t first.to) b).faults ≡ [] → judged (at u first.to) b ≡ judged (at t first.to) b) → (judged (after (at t s) a) b).faults ≡ [] → judged (after (at u s) a) b ≡ judged (after (at t s) a) b
-  behind s a b first h f = ap (λ (z : Scope). judged z b) first.new ∙ (h (subst (λ (z : Scope). (judged z b).faults ≡ []) first.old f) ∙ ap (λ (z : Scope). judged z b) (sym first.old))
+  pub alike_after : (s : Scope) (a b : Tree) → (first : Leaves s a) → ((judged (at t first.to) b).faults ≡ [] → judged (at u first.to) b ≡ judged (at t first.to) b) → (judged (after (at t s) a) b).faults ≡ [] → judged (after (at u s) a) b ≡ judged (after (at t s) a) b
+  alike_after s a b first h f = ap (λ (z : Scope). judged z b) first.new ∙ (h (subst (λ (z : Scope). (judged z b).faults ≡ []) first.old f) ∙ ap (λ (z : Scope). judged z b) (sym first.old))
 
   pub pair : (s : Scope) (a b : Tree) → (first : Leaves s a) → ((judged (at t s) a).faults ≡ [] → judged (at u s) a ≡ judged (at t s) a) → ((judged (at t first.to) b).faults ≡ [] → judged (at u first.to) b ≡ judged (at t first.to) b)
       → (both (judged (at t s) a) (judged (after (at t s) a) b)).faults ≡ [] → both (judged (at u s) a) (judged (after (at u s) a) b) ≡ both (judged (at t s) a) (judged (after (at t s) a) b)
   pair s a b first h k f =
       let parts = append_is_nil (judged (at t s) a).faults (judged (after (at t s) a) b).faults f in
-      ap (λ (z : Judged). both z (judged (after (at u s) a) b)) (h parts.0) ∙ ap (both (judged (at t s) a)) (behind s a b first k parts.1)
+      ap (λ (z : Judged). both z (judged (after (at u s) a) b)) (h parts.0) ∙ ap (both (judged (at t s) a)) (alike_after s a b first k parts.1)
 
   -- ---- expressions
 
@@ -86,6 +95,26 @@ module _ (t u : Table) (w : List ℕ) (free : IsFree w) (g : IsLarger t u w) whe
       ∙ ap (λ (z : Judged). plain ((judged (at t s) k).faults ++ z.faults))
       (ap (λ (z : JavaType). judged (at u (record s { declaring = what; declared = z })) ds) (written_same t u w free g s k h parts.0) ∙ declarators_alike to ds m parts.1)
 
+  -- ---- parameters
+
+  pub parameter_written : (s : Scope) (p : Place) (k : Tree) (n : List ℕ) → (judged (at t s) (trees.Parameter p k n)).faults ≡ [] → (judged (at t s) k).faults ≡ []
+  unfolding judged
+  parameter_written s p k n f = below_none p (parameter_rule (at t s) n) (judged (at t s) k).faults f
+
+  pub parameter_leaves : (s : Scope) (p : Place) (k : Tree) (n : List ℕ) → IsVariableType k → (judged (at t s) (trees.Parameter p k n)).faults ≡ [] → Leaves s (trees.Parameter p k n)
+  unfolding judged
+  parameter_leaves s p k n h f = record {
+    to = bind_local n (type_named t.headings k) s;
+    old = refl;
+    new = ap (λ (z : JavaType). at u (bind_local n z s)) (written_same t u w free g s k h (parameter_written s p k n f));
+  }
+
+  pub parameter_alike : (s : Scope) (p : Place) (k : Tree) (n : List ℕ) → IsVariableType k → (judged (at t s) (trees.Parameter p k n)).faults ≡ [] → judged (at u s) (trees.Parameter p k n) ≡ judged (at t s) (trees.Parameter p k n)
+  unfolding judged
+  parameter_alike s p k n h f =
+      ap (λ (z : Judged). judge p (parameter_rule (at u s) n) z.faults) (written_alike t u w free g s k h (parameter_written s p k n f))
+      ∙ judge_keeps p (parameter_rule (at t s) n) (parameter_rule (at u s) n) (judged (at t s) k).faults (parameter_keeps t u w free g s n) f
+
   -- ---- statements
 
   statement_leaves : (s : Scope) (d : Bool) (e : Tree) → IsCode (One d) e → (judged (at t s) e).faults ≡ [] → Leaves s e
@@ -106,6 +135,8 @@ module _ (t u : Table) (w : List ℕ) (free : IsFree w) (g : IsLarger t u w) whe
   statement_leaves s d (trees.While p c a) h f = stays s (trees.While p c a) refl refl
   statement_leaves s d (trees.Do p a c) h f = stays s (trees.Do p a c) refl refl
   statement_leaves s d (trees.For p i c v a) h f = stays s (trees.For p i c v a) refl refl
+  statement_leaves s d (trees.Throw p e) h f = stays s (trees.Throw p e) refl refl
+  statement_leaves s d (trees.Try p b cs) h f = stays s (trees.Try p b cs) refl refl
   statement_leaves s d _ h f = absurd h
 
   pub code_leaves : (s : Scope) (b : Tree) → IsCode Several b → (judged (at t s) b).faults ≡ [] → Leaves s b
@@ -152,9 +183,31 @@ module _ (t u : Table) (w : List ℕ) (free : IsFree w) (g : IsLarger t u w) whe
       let inner = append_is_nil (judged (at t s) i).faults (judged (statement to) v).faults front.0 in
       let first = code_leaves s i h.0 inner.0 in
       test_keeps p (judged to c) (judged tn c) ((judged (at t s) i).faults ++ (judged (statement to) v).faults ++ (judged (in_loop to) a).faults) ((judged (at u s) i).faults ++ (judged (statement tn) v).faults ++ (judged (in_loop tn) a).faults)
-      (behind s i c first (maybe_alike first.to c h.1))
+      (alike_after s i c first (maybe_alike first.to c h.1))
       (append_alike ((judged (at t s) i).faults ++ (judged (statement to) v).faults) (judged (in_loop to) a).faults ((judged (at u s) i).faults ++ (judged (statement tn) v).faults) (judged (in_loop tn) a).faults
       (append_alike (judged (at t s) i).faults (judged (statement to) v).faults (judged (at u s) i).faults (judged (statement tn) v).faults (faults_of (at t s) (at u s) i (code_alike Several s i h.0))
       (λ b. ap (λ (z : Scope). (judged (statement z) v).faults) first.new ∙ (ap (λ (z : Judged). z.faults) (alike t u w free g true (statement first.to) v h.2 (subst (λ (z : Scope). (judged (statement z) v).faults ≡ []) first.old b)) ∙ ap (λ (z : Scope). (judged (statement z) v).faults) (sym first.old))))
       (λ b. ap (λ (z : Scope). (judged (in_loop z) a).faults) first.new ∙ (ap (λ (z : Judged). z.faults) (code_alike (One false) (in_loop first.to) a h.3 (subst (λ (z : Scope). (judged (in_loop z) a).faults ≡ []) first.old b)) ∙ ap (λ (z : Scope). (judged (in_loop z) a).faults) (sym first.old)))) f
+  code_alike (One d) s (trees.Throw p e) h f = one_keeps p (throw_rule (at t s)) (throw_rule (at u s)) (judged (at t s) e) (judged (at u s) e) (alike t u w free g false s e h) (throw_keeps t u w free g s) f
+  code_alike (One d) s (trees.Try p b cs) h f =
+      ap plain (append_alike (judged (at t s) b).faults (judged (at t s) cs).faults (judged (at u s) b).faults (judged (at u s) cs).faults (faults_of (at t s) (at u s) b (code_alike (One false) s b h.1)) (faults_of (at t s) (at u s) cs (code_alike Catches s cs h.2)) f)
   code_alike (One d) s _ h f = absurd h
+  code_alike Catch s (trees.Catch p (trees.Parameter q k n) b) h f =
+      let d = trees.Parameter q k n in
+      let xs = (judged (at t s) d).faults in
+      let ys = (judged (after (at t s) d) b).faults in
+      let xs2 = (judged (at u s) d).faults in
+      let ys2 = (judged (after (at u s) d) b).faults in
+      let below = below_none p (caught_rule (at t s) 42 (type_named t.headings k)) (xs ++ ys) f in
+      let parts = append_is_nil xs ys below in
+      let first = parameter_leaves s q k n (class_variable k h.0) parts.0 in
+      ap (λ (z : JavaType). judge p (caught_rule (at u s) 42 z) (xs2 ++ ys2)) (written_same t u w free g s k (class_variable k h.0) (parameter_written s q k n parts.0))
+      ∙ (ap (judge p (caught_rule (at u s) 42 (type_named t.headings k)))
+      (append_alike xs ys xs2 ys2 (faults_of (at t s) (at u s) d (parameter_alike s q k n (class_variable k h.0))) (λ e. ap (λ (z : Judged). z.faults) (alike_after s d b first (code_alike (One false) first.to b h.1) e)) below)
+      ∙ judge_keeps p (caught_rule (at t s) 42 (type_named t.headings k)) (caught_rule (at u s) 42 (type_named t.headings k)) (xs ++ ys) (caught_keeps t u w free g s 42 (type_named t.headings k)) f)
+  code_alike Catch s (trees.Catch p _ b) h f = absurd h.0
+  code_alike Catch s _ h f = absurd h
+  code_alike Catches s trees.Nil h f = refl
+  code_alike Catches s (trees.Cons (trees.Catch p d x) b) h f = pair s (trees.Catch p d x) b (record { to = s; old = refl; new = refl }) (code_alike Catch s (trees.Catch p d x) h.0) (code_alike Catches s b h.1) f
+  code_alike Catches s (trees.Cons _ b) h f = absurd h.0
+  code_alike Catches s _ h f = absurd h

@@ -17,9 +17,11 @@ use Rattle.kr_types_meaning.specs.Typing.{judge, class_rule, judged, outside}
 use Rattle.kr_types_meaning.proofs.WellTyped.{well_typed_law}
 use Rattle.kr_laws_shapes.specs.Shapes.{AreClasses}
 use Rattle.kr_laws_shapes.proofs.Shapes.{file_shape}
+use Rattle.kr_space_meaning.proofs.Each.{each_weaker}
+use Rattle.kr_laws_never_stuck.proofs.Declared.{equal_names}
 use Rattle.kr_emit_laws.specs.Larger.{AreNames, IsLarger}
 use Rattle.kr_emit_laws.specs.OneMore.{IsDerived, AreMethods, method_names, IsAddable, file_of, one_more, new_heading, IsAdded, OneMoreLaw}
-use Rattle.kr_emit_laws.proofs.TypingNames.{IsFree, equal_names, other_way}
+use Rattle.kr_emit_laws.proofs.TypingNames.{IsFree, other_way}
 use Rattle.kr_emit_laws.proofs.TypingLines.{IsPlain, larger}
 use Rattle.kr_emit_laws.proofs.Rules.{at, field_meant_same}
 use Rattle.kr_emit_laws.proofs.Members.{Others, file_alike}
@@ -46,10 +48,6 @@ each_none f (x ∷ xs) e = let parts = append_is_nil (f x) (flat_map f xs) e in 
 each_both : {A : Type 0} (P Q R : A → Type 0) (xs : List A) → ((x : A) → P x → Q x → R x) → AllByRecursion P xs → AllByRecursion Q xs → AllByRecursion R xs
 each_both P Q R [] f h k = tt
 each_both P Q R (x ∷ xs) f h k = (f x h.0 k.0, each_both P Q R xs f h.1 k.1)
-
-each_of : {A : Type 0} (P Q : A → Type 0) (xs : List A) → ((x : A) → P x → Q x) → AllByRecursion P xs → AllByRecursion Q xs
-each_of P Q [] f h = tt
-each_of P Q (x ∷ xs) f h = (f x h.0, each_of P Q xs f h.1)
 
 -- ---- methods alone
 
@@ -133,9 +131,6 @@ outer_more (x ∷ hs) h (suc c) e = outer_more hs h c e
 abbrev table_with : List Heading → Table
 table_with hs = record { headings = hs; classes = classes_from hs 0 hs }
 
-zero_add : (k : ℕ) → 0 + k ≡ k
-zero_add k = omega arith
-
 table_is : (files : List Tree) → table_of files ≡ table_with (headings_of files)
 unfolding table_of
 table_is files = refl
@@ -155,16 +150,16 @@ module _ (files : List Tree) (place : Place) (name : List ℕ) (ms : Tree) (deri
       ∙ ap (λ z. headings_from 0 own ++ ((new_heading place name ms ∷ z) ++ [])) (no_classes (0 + length (headings_from 0 own)) ms add.methods))
 
   free : IsFree name
-  free = record { named = add.named; set = add.set; list = add.list }
+  free = record { named = add.named; set = add.set; list = add.list; throwable = add.throwable }
 
   names : AreNames hs (hs ++ h ∷ []) name
   names = record { kept = λ n c e. number_kept 0 hs (h ∷ []) n c e; other = λ n e. number_other 0 hs h n e; outer = λ c. outer_more hs h c refl }
 
   shapes : AllByRecursion AreClasses files
-  shapes = each_of IsDerived AreClasses files (λ x d. file_shape d.0 x d.1) derived
+  shapes = each_weaker IsDerived AreClasses files (λ x d. file_shape d.0 x d.1) derived
 
   nests : AllByRecursion Outers files
-  nests = each_of IsDerived Outers files (λ x d. file_nests d.0 x d.1) derived
+  nests = each_weaker IsDerived Outers files (λ x d. file_nests d.0 x d.1) derived
 
   others : AllByRecursion (Others name) files
   others = files_other name 0 files shapes nests add.new
@@ -202,7 +197,7 @@ module _ (files : List Tree) (place : Place) (name : List ℕ) (ms : Tree) (deri
         no_constants (x ∷ ds) = ap (λ z. constants_in x ++ z) (no_constants ds)
 
     number : number_of (hs ++ h ∷ []) name ≡ Some (length hs)
-    number = let z : 0 + length hs ≡ length hs = omega arith in number_new 0 hs h name (equal_names name name refl) (each_of (λ g. bytes_eq name g.name ≡ false) (λ g. bytes_eq g.name name ≡ false) hs (λ g e. other_way name g.name e) add.new) ∙ ap (λ j. Some j) z
+    number = let z : 0 + length hs ≡ length hs = omega arith in number_new 0 hs h name (equal_names name name refl) (each_weaker (λ g. bytes_eq name g.name ≡ false) (λ g. bytes_eq g.name name ≡ false) hs (λ g e. other_way name g.name e) add.new) ∙ ap (λ j. Some j) z
 
     unbroken_all : AreUnbroken U
     unbroken_all =
@@ -260,7 +255,7 @@ module _ (files : List Tree) (place : Place) (name : List ℕ) (ms : Tree) (deri
           ∙ (more
           ∙ (ap (λ (v : Table). v.classes ++ class_of (hs ++ h ∷ []) (0 + length hs) h ∷ []) (sym (table_is files))
           ∙ (ap (λ (xs : List Heading). (table_of files).classes ++ class_of xs (0 + length hs) h ∷ []) (sym headings_more)
-          ∙ ap (λ (k : ℕ). (table_of files).classes ++ class_of (headings_of (one_more files place name ms)) k h ∷ []) (zero_add (length hs)))));
+          ∙ ap (λ (k : ℕ). (table_of files).classes ++ class_of (headings_of (one_more files place name ms)) k h ∷ []) (let z : 0 + length hs ≡ length hs = omega arith in z))));
       larger = subst (λ (v : Table). IsLarger (table_of files) v name) (sym table_more) (subst (λ (v : Table). IsLarger v U name) (sym (table_is files)) g);
       values = ap values_of table_more ∙ (values ∙ ap values_of (sym (table_is files)));
       classed = ap class_fault table_more ∙ accepted U unbroken_all;

@@ -17,13 +17,15 @@ use Rattle.kr_types_meaning.specs.Typing.{outside}
 use Rattle.kr_emit_meaning.specs.Buildable.{BuildFault, build_fault, builders_name, construction_at, name_at, name_fault, number_fault, first_of, E2}
 use Rattle.kr_emit_text.specs.BuilderTree.{methods_tree, method_end, result_end}
 use Rattle.kr_emit_text.specs.Pieces as pieces
-use Rattle.kr_emit_text.specs.Pieces.{behind, method_name}
+use Rattle.kr_emit_text.specs.Pieces.{after_pieces, method_name}
 use Rattle.kr_emit_text.specs.Syntax.{Builder}
+use Rattle.kr_emit_text.proofs.Names.{headings_are}
+use Rattle.kr_laws_never_stuck.proofs.Declared.{names_equal}
 use Rattle.kr_emit_laws.specs.TypingBeside.{with_file, BesideLaw}
 use Rattle.kr_emit_laws.specs.OneMore.{AreMethods, method_names, IsAddable}
 use Rattle.kr_emit_laws.proofs.TypingAdded.{added}
 use Rattle.kr_emit_laws.proofs.TypingBodies.{methods_law}
-use Rattle.kr_emit_laws.proofs.TypingNames.{names_equal, other_way}
+use Rattle.kr_emit_laws.proofs.TypingNames.{other_way}
 
 -- ---- names of methods
 
@@ -99,17 +101,14 @@ addable files problem place front builders same e few =
       named = refl;
       set = refl;
       list = refl;
+      throwable = refl;
       new = subst (λ (xs : List Heading). AllByRecursion (λ h. bytes_eq builders_name h.name ≡ false) xs) same (all_new hs parts.0);
       few = subst (λ (xs : List Heading). length xs ≤ 76) same (short hs 76 (no_number (slice_get hs 76) parts.1));
     }
 
-headings_are : (files : List Tree) → (table_of files).headings ≡ headings_of files
-unfolding table_of
-headings_are files = refl
-
 pub beside : BesideLaw
 beside files problem place builders derived classes types table e few =
-    let front = behind [] (pieces.class_head []) in
+    let front = after_pieces [] (pieces.class_head []) in
     let all = added files (place (codes "class" ++ codes " ")) builders_name (methods_tree place front 0 builders) derived classes types
     (addable files problem place front builders (ap (λ (t : Table). t.headings) table ∙ headings_are files) e (omega (arith, few))) in
     record {

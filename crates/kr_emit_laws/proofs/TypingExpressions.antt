@@ -14,37 +14,12 @@ use Rattle.kr_types_meaning.specs.Rules.{Value, Judgement, Fits, ask, array_rule
 use Rattle.kr_types_meaning.specs.Typing.{Judged, judge, on_one, on_list, both, field_of, method_of, judged}
 use Rattle.kr_laws_shapes.specs.Expressions.{IsWritten, IsCreated, Shaped}
 use Rattle.kr_laws_shapes.specs.Shapes.{IsResultType}
+use Rattle.kr_laws_never_stuck.proofs.Walks.{shaped_after}
+use Rattle.kr_laws_types.proofs.Typed.{below_none}
 use Rattle.kr_emit_laws.specs.Larger.{AreNames, IsLarger}
 use Rattle.kr_emit_laws.proofs.TypingNames.{IsFree, known_same, taker_same}
 use Rattle.kr_emit_laws.proofs.Rules.{at, Keeps, equal, type_keeps, diamond_keeps, meant_same, name_keeps, operator_keeps, choice_keeps, cast_keeps, instance_keeps, assignment_keeps, compound_keeps, access_keeps, constant_keeps, call_keeps, static_keeps, super_keeps, object_call_keeps, creation_keeps}
-use Rattle.kr_emit_laws.proofs.Parts.{below_none, judge_keeps, one_of, one_keeps, two_of, two_keeps, three_keeps, one_and_list_keeps, list_keeps}
-
--- expressions leave their scope
-pub shaped_after : (s : Scope) (e : Tree) → Shaped false e → after s e ≡ s
-shaped_after s (trees.Number p n) h = refl
-shaped_after s (trees.LongNumber p n) h = refl
-shaped_after s (trees.Truth p b) h = refl
-shaped_after s (trees.Null p) h = refl
-shaped_after s (trees.This p) h = refl
-shaped_after s (trees.Variable p n) h = refl
-shaped_after s (trees.FieldAccess p e n) h = refl
-shaped_after s (trees.ArrayAccess p a i) h = refl
-shaped_after s (trees.Call p n es) h = refl
-shaped_after s (trees.MethodCall p e n es) h = refl
-shaped_after s (trees.SuperCall p n es) h = refl
-shaped_after s (trees.ObjectCreation p t es) h = refl
-shaped_after s (trees.ArrayCreation p t e) h = refl
-shaped_after s (trees.Unary p o e) h = refl
-shaped_after s (trees.Step p o e) h = refl
-shaped_after s (trees.Binary p o a b) h = refl
-shaped_after s (trees.InstanceOf p e t) h = refl
-shaped_after s (trees.Conditional p c a b) h = refl
-shaped_after s (trees.Cast p t e) h = refl
-shaped_after s (trees.Assignment p a b) h = refl
-shaped_after s (trees.CompoundAssignment p o a b) h = refl
-shaped_after s (trees.Result p) h = refl
-shaped_after s (trees.Old p e) h = refl
-shaped_after s _ h = absurd h
+use Rattle.kr_emit_laws.proofs.Parts.{judge_keeps, one_of, one_keeps, two_of, two_keeps, three_keeps, one_and_list_keeps, list_keeps}
 
 -- ---- types
 

@@ -1,9 +1,9 @@
 -- Lines of classes in a table with one class more, which extends nothing and has nothing but methods.
-use Rattle.std.proofs.Common.{◌≡◌, refl, sym, ap, ◌∙◌, subst, inl, inr, ◌⊎◌, ℕ, zero, suc, ◌<◌, ◌≤◌, Bool, true, false, ◌||◌, nat_eq, List, [], ◌∷◌, ◌++◌, length, rules, arith, length-append, Option, Some, None}
+use Rattle.std.proofs.Common.{◌≡◌, refl, sym, ap, ◌∙◌, subst, inl, inr, ℕ, zero, suc, ◌<◌, ◌≤◌, true, false, ◌||◌, nat_eq, List, [], ◌∷◌, ◌++◌, length, rules, arith, length-append, Option, Some, None}
 use Rattle.std.specs.Prelude.{option_and_then, option_to_list, flat_map, find, bytes_eq, reverse}
 use Rattle.std.specs.List.{list_any, IsDistinct, AllByRecursion}
 use Rattle.std.proofs.lemmas.Map.Steps.{length-le_from_distinct_below}
-use Rattle.std.proofs.lemmas.Bool.{or_right, or_left, or_cases}
+use Rattle.std.proofs.lemmas.Bool.{cases_lt, eqb-true, false_from_ne_true, or_cases, or_left, or_parts, or_right}
 use Rattle.kr_classes_table.specs.Table.{Table, Class, Field, Method, number_of, class_at, super_of, line_within, ancestors, line_of, is_among, is_below, own_fields, own_methods, field_on, field_named, method_on, method_named, fields_of, is_instance}
 use Rattle.kr_classes_table.specs.Constants.{outer_class}
 use Rattle.kr_classes_table.specs.Ancestors.{IsAcyclic, IsClosed}
@@ -36,17 +36,6 @@ each_same f g (x ∷ xs) h = ap (λ z. z ++ flat_map f xs) (h x) ∙ ap (λ z. g
 
 -- ---- lines that aren't cut
 
-same : (a b : ℕ) → nat_eq a b ≡ true → a ≡ b
-same a b p = grind (arith, rules)
-
-left_false : (a b : Bool) → a || b ≡ false → a ≡ false
-left_false true b e = absurd (cc (e))
-left_false false b e = refl
-
-right_false : (a b : Bool) → a || b ≡ false → b ≡ false
-right_false true b e = absurd (cc (e))
-right_false false b e = e
-
 -- one of a line is one of a longer line
 longer : (j k : ℕ) (t : Table) (o : Option ℕ) (d : ℕ) → j ≤ k → is_among d (line_within j t o) ≡ true → is_among d (line_within k t o) ≡ true
 longer zero k t o d l h = absurd (cc (h))
@@ -66,7 +55,7 @@ uncut (suc k) t (Some c) l = ap (λ xs. c ∷ xs) (uncut k t (super_of t c) (ome
 
 others : (c : ℕ) (xs : List ℕ) → is_among c xs ≡ false → AllByRecursion (λ y. nat_eq c y ≡ false) xs
 others c [] e = _
-others c (x ∷ xs) e = (left_false (nat_eq c x) (is_among c xs) e, others c xs (right_false (nat_eq c x) (is_among c xs) e))
+others c (x ∷ xs) e = let parts = or_parts (nat_eq c x) (is_among c xs) e in (parts.0, others c xs parts.1)
 
 distinct : (n k : ℕ) (t : Table) (o : Option ℕ) → ((j c : ℕ) → j ≤ n → is_among c (line_within j t (super_of t c)) ≡ false) → k ≤ suc n → IsDistinct nat_eq (line_within k t o)
 unfolding IsDistinct
@@ -78,7 +67,7 @@ inside : (k : ℕ) (t : Table) (o : Option ℕ) → ((x : ℕ) → o ≡ Some x 
 inside zero t o b z q h = absurd (cc (h))
 inside (suc k) t None b z q h = absurd (cc (h))
 inside (suc k) t (Some c) b z q h = elim (or_cases (nat_eq q c) (is_among q (line_within k t (super_of t c))) h) [
-  | inl p ↦ subst (λ x. x < length t.classes) (sym (same q c p)) (b c refl)
+  | inl p ↦ subst (λ x. x < length t.classes) (sym (eqb-true q c p)) (b c refl)
   | inr p ↦ inside k t (super_of t c) (z c) z q p
 ]
 
@@ -86,19 +75,12 @@ as_any : (q : ℕ) (xs : List ℕ) → list_any (nat_eq q) xs ≡ is_among q xs
 as_any q [] = refl
 as_any q (x ∷ xs) = ap (λ b. nat_eq q x || b) (as_any q xs)
 
-not_true : (b : Bool) → (b ≡ true → ⊥) → b ≡ false
-not_true true k = absurd (k refl)
-not_true false k = refl
-
 whole_line : (t : Table) (c : ℕ) → IsAcyclic t → IsClosed t → line_within (suc (length t.classes)) t (super_of t c) ≡ ancestors t c
 whole_line t c acyclic closed =
     let n = length t.classes in
     let o = super_of t c in
-    let apart : (j x : ℕ) → j ≤ n → is_among x (line_within j t (super_of t x)) ≡ false = λ j x l. not_true _ (λ b. absurd (cc (acyclic x, longer j n t (super_of t x) x l b))) in
+    let apart : (j x : ℕ) → j ≤ n → is_among x (line_within j t (super_of t x)) ≡ false = λ j x l. false_from_ne_true _ (λ b. absurd (cc (acyclic x, longer j n t (super_of t x) x l b))) in
     uncut n t o (length-le_from_distinct_below (line_within (suc n) t o) n (distinct n (suc n) t o apart (omega arith)) (λ q b. inside (suc n) t o (closed c) closed q (sym (as_any q (line_within (suc n) t o)) ∙ b)))
-
-inside_or_past : (c n : ℕ) → (c < n) ⊎ (n ≤ c)
-inside_or_past c n = grind arith
 
 -- ---- two tables
 
@@ -171,7 +153,7 @@ module _ (t u : Table) (d : Class) (more : u.classes ≡ t.classes ++ d ∷ []) 
   methods_same c n l = ap (λ cs. method_on u cs n) (lines_same c) ∙ ap (find (λ (m : Method). bytes_eq m.name n)) (line_methods_same (line_of t c) here)
     where
       here : (q : ℕ) → is_among q (line_of t c) ≡ true → q < length t.classes
-      here q e = elim (or_cases (nat_eq q c) (is_among q (ancestors t c)) e) [ inl p ↦ subst (λ x. x < length t.classes) (sym (same q c p)) l | inr p ↦ above_inside c q p ]
+      here q e = elim (or_cases (nat_eq q c) (is_among q (ancestors t c)) e) [ inl p ↦ subst (λ x. x < length t.classes) (sym (eqb-true q c p)) l | inr p ↦ above_inside c q p ]
 
   none_within : (k : ℕ) → line_within k t None ≡ []
   none_within zero = refl
@@ -184,10 +166,10 @@ module _ (t u : Table) (d : Class) (more : u.classes ≡ t.classes ++ d ∷ []) 
       ∙ ap (λ o. find (λ (m : Method). bytes_eq m.name n) (flat_map (λ (x : Class). x.methods) (option_to_list o) ++ [])) gone
 
   pub methods_kept : (c : ℕ) (n : List ℕ) (m : Method) → method_named t c n ≡ Some m → method_named u c n ≡ Some m
-  methods_kept c n m e = elim (inside_or_past c (length t.classes)) [ inl l ↦ methods_same c n l ∙ e | inr l ↦ absurd (cc (no_methods c n l, e)) ]
+  methods_kept c n m e = elim (cases_lt c (length t.classes)) [ inl l ↦ methods_same c n l ∙ e | inr l ↦ absurd (cc (no_methods c n l, e)) ]
 
   inner_none : (c o : ℕ) (n : List ℕ) → outer_class t c ≡ Some o → method_named t c n ≡ None → method_named u c n ≡ None
-  inner_none c o n e f = elim (inside_or_past c (length t.classes)) [
+  inner_none c o n e f = elim (cases_lt c (length t.classes)) [
     | inl l ↦ methods_same c n l ∙ f
     | inr l ↦ absurd (cc (ap (option_and_then (λ (x : Class). x.outer)) (past t.classes c l), e))
   ]

@@ -1,6 +1,5 @@
 -- Types that are known mean the same where one name more means a class.
 use Rattle.std.proofs.Common.{◌≡◌, refl, sym, ap, ◌∙◌, ℕ, Bool, true, false, ◌&&◌, List, [], ◌∷◌, Option, Some, None}
-use Rattle.std.proofs.lemmas.Slice.Eq.{bytes_eq-Decides}
 use Rattle.std.specs.Prelude.{bytes_eq, codes, option_and_then, if◌then◌else◌}
 use Rattle.kr_base.specs.declared.place.Place.{Place}
 use Rattle.kr_ast.specs.declared.node.Primitive.TheVariants as primitives
@@ -8,13 +7,8 @@ use Rattle.kr_ast.specs.Tree as trees
 use Rattle.kr_ast.specs.Tree.{Tree}
 use Rattle.kr_classes_table.specs.Types.{JavaType, ArrayType, SetType, ListType, InferredType, UnknownType, AppliedType, is_known, is_element}
 use Rattle.kr_classes_table.specs.Table.{Heading, number_of, outer_of, is_number, class_named, class_or, applied, type_named}
+use Rattle.kr_laws_never_stuck.proofs.Declared.{equal_names, names_equal}
 use Rattle.kr_emit_laws.specs.Larger.{AreNames}
-
-pub names_equal : (m n : List ℕ) → bytes_eq m n ≡ true → m ≡ n
-names_equal m n e = (bytes_eq-Decides m n).0 e
-
-pub equal_names : (m n : List ℕ) → m ≡ n → bytes_eq m n ≡ true
-equal_names m n e = (bytes_eq-Decides m n).1 e
 
 pub other_way : (m n : List ℕ) → bytes_eq m n ≡ false → bytes_eq n m ≡ false
 other_way m n e = go (bytes_eq n m) refl
@@ -28,6 +22,7 @@ pub record IsFree (name : List ℕ) : Type 0 where
   pub named : bytes_eq name [] ≡ false
   pub set : bytes_eq name (codes "HashSet") ≡ false
   pub list : bytes_eq name (codes "LinkedList") ≡ false
+  pub throwable : bytes_eq name (codes "Throwable") ≡ false
 
 -- ---- an argument
 

@@ -1,7 +1,8 @@
 -- The class rules in a table with one class more.
-use Rattle.std.proofs.Common.{◌≡◌, refl, sym, ap, ◌∙◌, subst, ℕ, zero, suc, ◌+◌, ◌-◌, ◌≤◌, Bool, true, false, not, ◌&&◌, ◌||◌, List, [], ◌∷◌, ◌++◌, length, map, drop, nat_lt, arith, Option, Some, None, if◌then◌else◌}
+use Rattle.std.proofs.Common.{◌≡◌, refl, sym, ap, ◌∙◌, subst, ℕ, zero, suc, ◌+◌, ◌-◌, ◌≤◌, true, false, not, ◌&&◌, ◌||◌, List, [], ◌∷◌, ◌++◌, length, map, drop, nat_lt, arith, Option, Some, None, if◌then◌else◌}
 use Rattle.std.specs.Prelude.{bytes_eq, codes, flat_map, option_to_list}
 use Rattle.std.specs.List.{AllByRecursion}
+use Rattle.std.proofs.lemmas.Bool.{or_from}
 use Rattle.std.proofs.lemmas.Bool.Decides.{nat_tests}
 use Rattle.kr_base.specs.declared.place.Place.{Place}
 use Rattle.kr_base.proofs.ListLemmas.{append_is_nil}
@@ -10,21 +11,13 @@ use Rattle.kr_classes_table.specs.Table.{Heading, Table, Class, Field, Method, C
 use Rattle.kr_classes_table.specs.Rules.{Fault, break_if, each_class, least, first_of, is_name_among, repeated, same_types, overrides, inherited, result_fits, past, own_instance_fields, C1, C2, C3, C4, C5, C6, C7, C8, class_fault}
 use Rattle.kr_classes_table.specs.Ancestors.{IsAcyclic, IsClosed}
 use Rattle.kr_classes_table.proofs.Least.{is_least}
+use Rattle.kr_laws_never_stuck.proofs.Unbroken.{AllNone, all_none}
 use Rattle.kr_emit_laws.specs.Larger.{IsLarger}
 use Rattle.kr_emit_laws.proofs.TypingNames.{IsFree}
 use Rattle.kr_emit_laws.proofs.TypingLines.{each_same, IsPlain, ancestors_same, line_fields_same, fields_of_same, inherited_same}
 use Rattle.kr_emit_laws.proofs.Rules.{assignable_same}
 
 -- ---- rules that none breaks
-
-abbrev AllNone : List (Option Fault) → Type 0
-AllNone [] = Unit {0}
-AllNone (f ∷ fs) = (f ≡ None) × AllNone fs
-
-all_none : (fs : List (Option Fault)) → first_of fs ≡ None → AllNone fs
-all_none [] e = tt
-all_none (None ∷ fs) e = (refl, all_none fs e)
-all_none (Some f ∷ fs) e = absurd (cc (e))
 
 none_first : (fs : List (Option Fault)) → AllNone fs → first_of fs ≡ None
 none_first [] h = refl
@@ -80,15 +73,11 @@ each_nil f (x ∷ xs) h = ap (λ z. z ++ flat_map f xs) (h x) ∙ each_nil f xs 
 
 -- ---- names
 
-or_false : (a b : Bool) → a ≡ false → b ≡ false → (a || b) ≡ false
-or_false true b e f = absurd (cc (e))
-or_false false b e f = f
-
 repeated_more : (r : ℕ) (seen : List (List ℕ)) (xs : List (List ℕ × Place)) (n : List ℕ) (p : Place) → repeated r seen xs ≡ [] → is_name_among n seen ≡ false → AllByRecursion (λ (x : List ℕ × Place). bytes_eq n x.0 ≡ false) xs → repeated r seen (xs ++ (n, p) ∷ []) ≡ []
 repeated_more r seen [] n p e f h = ap (λ b. break_if b r p ++ []) f
 repeated_more r seen ((m, q) ∷ xs) n p e f h =
     let parts = append_is_nil (break_if (is_name_among m seen) r q) (repeated r (m ∷ seen) xs) e in
-    ap (λ z. z ++ repeated r (m ∷ seen) (xs ++ (n, p) ∷ [])) parts.0 ∙ repeated_more r (m ∷ seen) xs n p parts.1 (or_false (bytes_eq n m) (is_name_among n seen) h.0 f) h.1
+    ap (λ z. z ++ repeated r (m ∷ seen) (xs ++ (n, p) ∷ [])) parts.0 ∙ repeated_more r (m ∷ seen) xs n p parts.1 (or_from (bytes_eq n m) (is_name_among n seen) h.0 f) h.1
 
 abbrev named_at : Class → List ℕ × Place
 named_at d = (d.name, d.place)
@@ -179,18 +168,18 @@ module _ (t u : Table) (w : List ℕ) (free : IsFree w) (g : IsLarger t u w) (d 
   unbroken_more hs is names set list few extends methods own h =
       let zero_n : 0 + length t.classes ≡ length t.classes = omega arith in
       let at_n : (rule : ℕ → Class → List Fault) → rule (length t.classes) d ≡ [] → rule (0 + length t.classes) d ≡ [] = λ rule e. subst (λ (j : ℕ). rule j d ≡ []) (sym zero_n) e in
-      let behind : (rule other : ℕ → Class → List Fault) → each_class rule 0 t.classes ≡ [] → ((c : ℕ) (x : Class) → other c x ≡ rule c x) → other (length t.classes) d ≡ [] → each_class other 0 u.classes ≡ [] =
+      let one_after : (rule other : ℕ → Class → List Fault) → each_class rule 0 t.classes ≡ [] → ((c : ℕ) (x : Class) → other c x ≡ rule c x) → other (length t.classes) d ≡ [] → each_class other 0 u.classes ≡ [] =
       λ rule other e s f. subst (λ (ds : List Class). each_class other 0 ds ≡ []) (sym more) (each_more rule other 0 t.classes d e s (at_n other f)) in
       record {
         C1 = ap (λ (ds : List Class). repeated 1 (codes "HashSet" ∷ codes "LinkedList" ∷ []) (map named_at ds)) more
             ∙ (ap (repeated 1 (codes "HashSet" ∷ codes "LinkedList" ∷ [])) (map_more t.classes d)
-            ∙ repeated_more 1 (codes "HashSet" ∷ codes "LinkedList" ∷ []) (map named_at t.classes) d.name d.place h.C1 (or_false (bytes_eq d.name (codes "HashSet")) (bytes_eq d.name (codes "LinkedList") || false) set (or_false (bytes_eq d.name (codes "LinkedList")) false list refl))
+            ∙ repeated_more 1 (codes "HashSet" ∷ codes "LinkedList" ∷ []) (map named_at t.classes) d.name d.place h.C1 (or_from (bytes_eq d.name (codes "HashSet")) (bytes_eq d.name (codes "LinkedList") || false) set (or_from (bytes_eq d.name (codes "LinkedList")) false list refl))
             (subst (λ (ds : List Class). AllByRecursion (λ (x : List ℕ × Place). bytes_eq d.name x.0 ≡ false) (map named_at ds)) (sym is) (all_names d.name hs 0 hs names)));
-        C2 = behind (C2 t) (C2 u) h.C2 (λ c x. refl) extends;
-        C3 = behind (C3 t) (C3 u) h.C3 C3_same C3_new;
-        C4 = behind (C4 t) (C4 u) h.C4 C4_same C4_new;
-        C5 = behind (C5 t) (C5 u) h.C5 C5_same (C5_new methods);
-        C6 = behind (C6 t) (C6 u) h.C6 (λ c x. refl) own;
-        C7 = behind (C7 t) (C7 u) h.C7 C7_same C7_new;
-        C8 = behind (C8 t) (C8 u) h.C8 C8_same (C8_new few);
+        C2 = one_after (C2 t) (C2 u) h.C2 (λ c x. refl) extends;
+        C3 = one_after (C3 t) (C3 u) h.C3 C3_same C3_new;
+        C4 = one_after (C4 t) (C4 u) h.C4 C4_same C4_new;
+        C5 = one_after (C5 t) (C5 u) h.C5 C5_same (C5_new methods);
+        C6 = one_after (C6 t) (C6 u) h.C6 (λ c x. refl) own;
+        C7 = one_after (C7 t) (C7 u) h.C7 C7_same C7_new;
+        C8 = one_after (C8 t) (C8 u) h.C8 C8_same (C8_new few);
       }

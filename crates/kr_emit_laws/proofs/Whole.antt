@@ -20,9 +20,9 @@ use Rattle.kr_emit_text.specs.Accepted.{HasBuilderTree, rows_listed}
 use Rattle.kr_emit_text.specs.BuilderTree.{builder_tree}
 use Rattle.kr_emit_text.specs.Laws.{HasLengths, IsCode}
 use Rattle.kr_emit_text.specs.Pieces as pieces
-use Rattle.kr_emit_text.specs.Pieces.{behind, code, text_of}
+use Rattle.kr_emit_text.specs.Pieces.{after_pieces, code, text_of}
 use Rattle.kr_emit_text.specs.Syntax.{Builder, builder_of, builders_of}
-use Rattle.kr_laws_never_stuck.specs.NeverStuck.{IsAccepted}
+use Rattle.kr_laws_never_stuck.specs.Accepted.{IsAccepted}
 use Rattle.kr_lex.specs.Places.{place_after}
 use Rattle.kr_mean.specs.Entries.{all_entries, structure_of}
 use Rattle.kr_mean.specs.Problem.{Problem}
@@ -126,7 +126,7 @@ module _ (sources : List (List ℕ)) (bytes : List ℕ) (problem : Problem) (lim
       builder_fits accepted.files problem rows at (beside accepted.files problem rows at sound accepted.classes buildable added) n row r.vector there r.structure r.within (omega (arith, rows_few, inside rows n row there)) r.objects r.lines)
 
   typed : type_fault (with_builders accepted.files (builder_tree at problem rows)) ≡ None
-  typed = added.typed (methods_law at (behind [] (pieces.class_head [])) 0 (in_class builders_name (outside (table_of (with_builders accepted.files (builder_tree at problem rows))))) (builders_of problem rows) refl refl fits)
+  typed = added.typed (methods_law at (after_pieces [] (pieces.class_head [])) 0 (in_class builders_name (outside (table_of (with_builders accepted.files (builder_tree at problem rows))))) (builders_of problem rows) refl refl fits)
 
   whole : AreBuilders accepted.files (length sources) problem rows text
   whole =

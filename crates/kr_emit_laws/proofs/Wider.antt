@@ -7,6 +7,7 @@ use Rattle.kr_base.proofs.ListLemmas.{append_is_nil}
 use Rattle.kr_base.specs.declared.place.Place.{Place}
 use Rattle.kr_value.specs.declared.object.Class.TheVariants.{Object}
 use Rattle.kr_classes_table.proofs.Tables.{unbroken as not_broken}
+use Rattle.kr_classes_table.proofs.Tables.{past}
 use Rattle.kr_classes_table.specs.Ancestors.{IsWhole}
 use Rattle.kr_classes_table.specs.Rules.{Fault}
 use Rattle.kr_classes_table.specs.Table.{Class, Constructor, Field, Heading, Table, class_at, field_named, fields_of, is_among, is_below, is_instance, is_number, line_of, number_of, outer_of, own_fields, type_named, class_or}
@@ -111,11 +112,6 @@ counted t e (d ∷ ds) zero c l is some below =
     (ap (λ (b : Bool). b && is_class_below t e d.class) (lt-ltb 0 d.count some) ∙ (ap (is_class_below t e) is ∙ below))
 counted t e (d ∷ ds) (suc i) c l is some below = or_right (nat_lt 0 d.count && is_class_below t e d.class) (is_built t e ds) (counted t e ds i c (omega (arith, l)) is some below)
 
-class_past : (ds : List Class) (c : ℕ) → length ds ≤ c → class_at ds c ≡ None
-class_past [] c l = refl
-class_past (d ∷ ds) zero l = absurd (omega (arith, l))
-class_past (d ∷ ds) (suc c) l = class_past ds c (omega (arith, l))
-
 module _ (problem : Problem) (e1 : E1 problem ≡ []) where
   abbrev table : Table
   table = problem.program.table
@@ -132,9 +128,9 @@ module _ (problem : Problem) (e1 : E1 problem ≡ []) where
       go : (e < length table.classes) ⊎ (length table.classes ≤ e) → (constructors_of table e ≡ []) × AreLiterals (flat_map is_instance (own_fields table e))
       go (inl lt) = none (ap (λ (b : Bool). let l : List Fault = if b then construction_faults table e else [] in l) (sym built) ∙ nil_at (class_faults problem) 0 (length table.classes) e e1 (omega arith) (omega (arith, lt)))
       go (inr le) =
-          let past : class_at table.classes e ≡ None = class_past table.classes e le in (
-            ap (λ (x : Option Class). flat_map (λ (d : Class). d.constructors) (option_to_list x)) past,
-            subst (λ (x : Option Class). AreLiterals (flat_map is_instance (flat_map (λ (d : Class). d.fields) (option_to_list x)))) (sym past) tt,
+          let gone : class_at table.classes e ≡ None = past table.classes e le in (
+            ap (λ (x : Option Class). flat_map (λ (d : Class). d.constructors) (option_to_list x)) gone,
+            subst (λ (x : Option Class). AreLiterals (flat_map is_instance (flat_map (λ (d : Class). d.fields) (option_to_list x)))) (sym gone) tt,
           )
 
   module _ (program : Program) (wider : IsWider problem.program.table program.table) (typed : IsTypedProgram problem.program) where

@@ -7,10 +7,10 @@ use Rattle.kr_emit_meaning.specs.Buildable.{build_fault, builders_name}
 use Rattle.kr_emit_meaning.specs.Builders.{objects_in}
 use Rattle.kr_emit_text.specs.BuilderTree.{builder_tree, methods_tree}
 use Rattle.kr_emit_text.specs.Pieces as pieces
-use Rattle.kr_emit_text.specs.Pieces.{behind}
+use Rattle.kr_emit_text.specs.Pieces.{after_pieces}
 use Rattle.kr_emit_text.specs.Syntax.{builders_of}
 use Rattle.kr_emit_laws.specs.OneMore.{IsAdded}
-use Rattle.kr_laws_never_stuck.specs.NeverStuck.{IsAccepted}
+use Rattle.kr_laws_never_stuck.specs.Accepted.{IsAccepted}
 use Rattle.kr_mean.specs.Entries.{structure_of}
 use Rattle.kr_mean.specs.Problem.{Problem}
 use Rattle.kr_mean.specs.Program.{program_of}
@@ -22,7 +22,7 @@ use Rattle.kr_emit_laws.specs.Laws.{with_builders}
 
 -- the methods of the rows' builders
 abbrev pub members_of : (List ℕ → Place) → Problem → List Row → Tree
-members_of at problem rows = methods_tree at (behind [] (pieces.class_head [])) 0 (builders_of problem rows)
+members_of at problem rows = methods_tree at (after_pieces [] (pieces.class_head [])) 0 (builders_of problem rows)
 
 -- the class of the builders comes after those of the files, and breaks no class rule
 abbrev pub AreAdded : List Tree → (List ℕ → Place) → Problem → List Row → Type 0

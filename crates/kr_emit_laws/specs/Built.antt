@@ -71,7 +71,7 @@ call_of n = trees.Call nowhere (codes "b" ++ decimal n) trees.Nil
 
 -- no object is there
 abbrev pub empty_state : ℕ → State
-empty_state fuel = record { this_value = Null; locals = []; result = None; olds = []; heap = []; candidates = 0; fuel = fuel }
+empty_state fuel = record { this_value = Null; locals = []; result = None; olds = []; thrown = None; heap = []; candidates = 0; fuel = fuel }
 
 -- the fuel that is enough for a structure
 abbrev pub enough : List (ℕ × Value) → ℕ

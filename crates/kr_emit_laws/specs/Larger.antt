@@ -1,4 +1,4 @@
--- Between crates: a class table with one class more, behind the others.
+-- Between crates: a class table with one class more, after the others.
 use Rattle.std.specs.Prelude.{ℕ, ◌≡◌, List, Some, None, false, bytes_eq, flat_map, option_to_list}
 use Rattle.kr_classes_table.specs.Table.{Heading, Table, Method, number_of, outer_of, super_of, is_below, field_named, method_named, class_at}
 use Rattle.kr_classes_table.specs.Constants.{outer_class}

@@ -7,7 +7,7 @@ use Rattle.kr_classes_table.specs.Table.{headings_of, table_of}
 use Rattle.kr_emit_meaning.specs.Buildable.{build_fault}
 use Rattle.kr_emit_meaning.specs.Emitted.{emitted}
 use Rattle.kr_emit_text.specs.Accepted.{rows_listed}
-use Rattle.kr_laws_never_stuck.specs.NeverStuck.{IsAccepted}
+use Rattle.kr_laws_never_stuck.specs.Accepted.{IsAccepted}
 use Rattle.kr_lex.specs.Lexemes.{Lexemes}
 use Rattle.kr_lex.specs.Spells.{AreTokens}
 use Rattle.kr_mean.specs.Problem.{Problem}

@@ -36,6 +36,7 @@ pub record IsAddable (files : List Tree) (name : List ℕ) (members : Tree) : Ty
   pub named : bytes_eq name [] ≡ false
   pub set : bytes_eq name (codes "HashSet") ≡ false
   pub list : bytes_eq name (codes "LinkedList") ≡ false
+  pub throwable : bytes_eq name (codes "Throwable") ≡ false
   pub new : AllByRecursion (λ h. bytes_eq name h.name ≡ false) (headings_of files)
   pub few : length (headings_of files) ≤ MOST_CLASSES
 

@@ -1,5 +1,5 @@
 -- The text of an accepted listing's builders has tokens and their tree.
-use Rattle.std.proofs.Common.{◌≡◌, ℕ, ◌+◌, ◌^◌, ◌<◌, ◌≤◌, List, [], ◌∷◌, length, sym, subst, arith}
+use Rattle.std.proofs.Common.{◌≡◌, ℕ, ◌^◌, ◌<◌, ◌≤◌, List, [], ◌∷◌, length, sym, subst, arith}
 use Rattle.std.specs.Prelude.{None}
 use Rattle.std.specs.List.{AllByRecursion}
 use Rattle.kr_ast.specs.Tree.{Tree}
@@ -25,33 +25,29 @@ use Rattle.kr_emit_text.proofs.Read.{read}
 use Rattle.kr_emit_text.proofs.Sized.{lengths}
 use Rattle.kr_emit_text.proofs.Writable.{printable}
 use Rattle.kr_emit_text.proofs.Written.{writable}
-use Rattle.kr_laws_never_stuck.specs.Grown.{AreGrown, AreProgram}
+use Rattle.kr_laws_never_stuck.proofs.Accepted.{posed, program_files}
+use Rattle.kr_laws_never_stuck.specs.Grown.{AreProgram}
 use Rattle.kr_laws_never_stuck.specs.Keys.{HasKeys}
-use Rattle.kr_laws_never_stuck.specs.WellTyped.{AreFiles}
 use Rattle.kr_laws_never_stuck.proofs.Apart as places
 use Rattle.kr_laws_never_stuck.proofs.Documents.{read_pairs}
 use Rattle.kr_laws_never_stuck.proofs.Fields.{field_keyed}
 use Rattle.kr_laws_never_stuck.proofs.Parameters.{parameter_found}
 use Rattle.kr_laws_never_stuck.proofs.Typed.{domains_typed}
 use Rattle.kr_laws_safety.specs.Domains.{HaveDomainsTypes}
-use Rattle.kr_laws_shapes.proofs.Shapes.{file_shape}
 use Rattle.kr_mean.specs.Entries.{all_entries}
 use Rattle.kr_mean.specs.Problem.{Problem}
 use Rattle.kr_mean.specs.WellFormed.{IsWellFormed}
 use Rattle.kr_mean.specs.declared.mode.Mode.TheVariants.{List as Listing}
 use Rattle.kr_mean.specs.declared.row.Row.{Row}
 use Rattle.kr_report.specs.Reports.{bytes_of}
-use Rattle.kr_shard_laws.proofs.Accepted.{posed}
 use Rattle.kr_shard_laws.proofs.SourceNames.{named}
 use Rattle.kr_space.proofs.ReadLimits.{read_limits}
 use Rattle.kr_space_meaning.specs.Bounds.{problem_of}
 use Rattle.kr_space_meaning.proofs.Each.{each_weaker}
 use Rattle.kr_space_meaning.proofs.WellFormed.{well_formed}
-use Rattle.kr_laws_shapes.specs.Shapes.{AreClasses}
-use Rattle.kr_laws_shapes.proofs.Predefined.{predefined_shape}
 use Rattle.kr_types_meaning.specs.Typing.{IsWellTyped}
 use Rattle.kr_types_meaning.proofs.WellTyped.{well_typed_law}
-use Rattle.kr_laws_never_stuck.specs.NeverStuck.{IsAccepted}
+use Rattle.kr_laws_never_stuck.specs.Accepted.{IsAccepted}
 
 -- ---- an accepted problem
 
@@ -59,15 +55,6 @@ use Rattle.kr_laws_never_stuck.specs.NeverStuck.{IsAccepted}
 record IsSound (problem : Problem) : Type 0 where
   formed : IsWellFormed problem
   writable : IsWritable problem
-
-grown_files : (n : ℕ) (sources : List (List ℕ)) (files : List Tree) → AreGrown n sources files → AreFiles files
-grown_files n [] [] g = tt
-grown_files n (bytes ∷ sources) (file ∷ files) g = (file_shape g.0.tokens file g.0.derived, grown_files (n + 1) sources files g.1)
-grown_files n _ _ g = absurd g
-
-program_files : (sources : List (List ℕ)) (files : List Tree) → AreProgram sources files → AreFiles files
-program_files sources [] g = absurd g
-program_files sources (tree ∷ files) g = (subst AreClasses (sym g.0) predefined_shape, grown_files 0 sources files g.1)
 
 keys : (sources : List (List ℕ)) (files : List Tree) → AreProgram sources files → class_fault (table_of files) ≡ None → IsWellTyped files → HasKeys (table_of files)
 keys sources files grown faults types =

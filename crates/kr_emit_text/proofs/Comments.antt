@@ -9,6 +9,7 @@ use Rattle.std.proofs.lemmas.Bool.Decides.{nat_tests}
 use Rattle.std.proofs.lemmas.Str.{IsUtf8-from_ascii}
 use Rattle.kr_base.specs.Cuts.{cut_text, dotted}
 use Rattle.kr_lex.specs.Characters.{is_line_end}
+use Rattle.kr_shard_laws.proofs.Numbers.{digit_line}
 use Rattle.kr_emit_text.specs.Printable.{IsComment}
 
 -- ASCII within a line
@@ -30,16 +31,13 @@ plain_append (x ∷ xs) ys h k =
 low_digit : (n : ℕ) → nat_lt (digit_glyph false (n % 10)) 128 ≡ true
 low_digit n = grind (arith, nat_tests)
 
-no_line_feed : (n : ℕ) → (digit_glyph false (n % 10) == 10) ≡ false
-no_line_feed n = grind (arith, nat_tests)
-
 no_return : (n : ℕ) → (digit_glyph false (n % 10) == 13) ≡ false
 no_return n = grind (arith, nat_tests)
 
 plain_digit : (n : ℕ) → is_plain (digit_glyph false (n % 10)) ≡ true
 plain_digit n =
     ap (λ (b : Bool). b && not (is_line_end (digit_glyph false (n % 10)))) (low_digit n)
-    ∙ (ap (λ (b : Bool). not (b || (digit_glyph false (n % 10) == 13))) (no_line_feed n) ∙ ap not (no_return n))
+    ∙ (ap (λ (b : Bool). not (b || (digit_glyph false (n % 10) == 13))) (digit_line n) ∙ ap not (no_return n))
 
 more_digit : (n : ℕ) (acc : List ℕ) → all_plain acc ≡ true → all_plain (digit_glyph false (n % 10) ∷ acc) ≡ true
 more_digit n acc h = ap (λ (b : Bool). b && all_plain acc) (plain_digit n) ∙ h

@@ -19,7 +19,7 @@ use Rattle.kr_parse_grammar.specs.TokenMeanings.{primitive_of}
 use Rattle.kr_emit_meaning.specs.Buildable.{builders_name}
 use Rattle.kr_emit_text.specs.Syntax.{Builder, Line, Creates, CreatesArray, SetsField, SetsElement, Operand, Whole, Boolean, NullOperand, Local, TypeName, PrimitiveName, SimpleName, NestedName}
 use Rattle.kr_emit_text.specs.Pieces as pieces
-use Rattle.kr_emit_text.specs.Pieces.{Piece, tokens_of, behind, local_name}
+use Rattle.kr_emit_text.specs.Pieces.{Piece, tokens_of, after_pieces, local_name}
 use Rattle.kr_emit_text.specs.BuilderTree as tree
 use Rattle.kr_emit_text.specs.Printable.{IsClassName, IsWritten, IsWrittenOperand, IsPrintableLine, IsPrintable, ArePrintable, limit_of}
 use Rattle.kr_emit_text.proofs.Tokens.{number_read, long_read}
@@ -122,7 +122,7 @@ module _ (place : List ℕ → Place) where
   class_type front t more h = grammar.reference_type (grammar.class_type (class_name front t more h))
 
   number : (front : List ℕ) (is_long : Bool) (n : ℕ) (more : List Piece) → n < 10 ^ 64
-      → Der (grammar.Primary forms.Other) (tokens_of place front (pieces.number is_long n more)) (tree.number_tree (place front) is_long n) (tokens_of place (behind front (pieces.number is_long n [])) more)
+      → Der (grammar.Primary forms.Other) (tokens_of place front (pieces.number is_long n more)) (tree.number_tree (place front) is_long n) (tokens_of place (after_pieces front (pieces.number is_long n [])) more)
   number front true n more h =
       subst (λ (v : ℕ). Der (grammar.Primary forms.Other) (tokens_of place front (pieces.number true n more)) (trees.LongNumber (place front) v) (tokens_of place (front ++ (decimal n ++ codes "L")) more)) (long_read n h)
       (grammar.long_number _ refl)
@@ -135,7 +135,7 @@ module _ (place : List ℕ → Place) where
   limit_small false m h = omega (arith, h)
 
   whole : (front : List ℕ) (is_long : Bool) (z : ℤ) (more : List Piece) → IsWritten is_long z
-      → Der grammar.Expression (tokens_of place front (pieces.whole is_long z more)) (tree.whole_tree place front is_long z) (tokens_of place (behind front (pieces.whole is_long z [])) more)
+      → Der grammar.Expression (tokens_of place front (pieces.whole is_long z more)) (tree.whole_tree place front is_long z) (tokens_of place (after_pieces front (pieces.whole is_long z [])) more)
   whole front is_long (pos n) more h = expression (number front is_long n more (limit_small is_long n h))
   whole front is_long (negsuc n) more h = expression_of (grammar.sign {o = Minus} _ refl (unary (number (front ++ codes "-") is_long (suc n) more (limit_small is_long (suc n) h))))
 
@@ -213,4 +213,4 @@ module _ (place : List ℕ → Place) where
 
   -- the tokens of code derive its file
   pub file : (builders : List Builder) (last : List ℕ) → ArePrintable builders → Derives (tokens_of place [] (pieces.code builders last)) (tree.file_tree place builders)
-  file builders last h = one_class (methods (behind [] (pieces.class_head [])) 0 builders last h).1
+  file builders last h = one_class (methods (after_pieces [] (pieces.class_head [])) 0 builders last h).1

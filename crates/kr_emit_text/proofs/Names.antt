@@ -165,7 +165,7 @@ arrays_are : (files : List Tree) (document : FinDoc) (mode : Mode)
 unfolding problem_in setting_of table_of
 arrays_are files document mode = refl
 
-headings_are : (files : List Tree) → (table_of files).headings ≡ headings_of files
+pub headings_are : (files : List Tree) → (table_of files).headings ≡ headings_of files
 unfolding table_of
 headings_are files = refl
 

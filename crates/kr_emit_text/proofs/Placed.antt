@@ -10,7 +10,7 @@ use Rattle.kr_lex.specs.Gaps.{IsGap}
 use Rattle.kr_lex.specs.Places.{place_after}
 use Rattle.kr_lex.specs.Spells.{IsTokenHere, Reaches, here, gap as gap_step, token as token_step, AreTokens}
 use Rattle.kr_parse.specs.Refusals.{is_opening, is_closing, open_behind, IsShallow}
-use Rattle.kr_emit_text.specs.Pieces.{Piece, Gap, Token, text_of, behind, tokens_of}
+use Rattle.kr_emit_text.specs.Pieces.{Piece, Gap, Token, text_of, after_pieces, tokens_of}
 use Rattle.kr_emit_text.proofs.Tokens.{here_utf8}
 
 -- the number of open brackets after a token
@@ -23,13 +23,13 @@ pub data IsPlaced : ℕ → List Piece → Type 0 where
   gap : {n : ℕ} {text : List ℕ} {more : List Piece} → IsGap text (text_of more) → IsUtf8 text → IsPlaced n more → IsPlaced n (Gap text ∷ more)
   token : {n : ℕ} {kind : Kind} {text : List ℕ} {more : List Piece} → n < 64 → IsTokenHere false kind text (text_of more) → IsPlaced (next n kind) more → IsPlaced n (Token kind text ∷ more)
 
-pub behind_is : (front : List ℕ) (ps : List Piece) → behind front ps ≡ front ++ text_of ps
-behind_is front [] = sym (append-nil front)
-behind_is front (Gap text ∷ ps) = behind_is (front ++ text) ps ∙ append_assoc front text (text_of ps)
-behind_is front (Token kind text ∷ ps) = behind_is (front ++ text) ps ∙ append_assoc front text (text_of ps)
+pub after_pieces_is : (front : List ℕ) (ps : List Piece) → after_pieces front ps ≡ front ++ text_of ps
+after_pieces_is front [] = sym (append-nil front)
+after_pieces_is front (Gap text ∷ ps) = after_pieces_is (front ++ text) ps ∙ append_assoc front text (text_of ps)
+after_pieces_is front (Token kind text ∷ ps) = after_pieces_is (front ++ text) ps ∙ append_assoc front text (text_of ps)
 
 -- they lead through their text
-reaches : (file n : ℕ) (front : List ℕ) (ps : List Piece) → IsPlaced n ps → Reaches file false front (text_of ps) (tokens_of (place_after file) front ps) false (behind front ps) []
+reaches : (file n : ℕ) (front : List ℕ) (ps : List Piece) → IsPlaced n ps → Reaches file false front (text_of ps) (tokens_of (place_after file) front ps) false (after_pieces front ps) []
 reaches file n front [] nothing = here
 reaches file n front (Gap text ∷ ps) (gap g u h) = gap_step text (text_of ps) refl g (reaches file n (front ++ text) ps h)
 reaches file n front (Token kind text ∷ ps) (token l t h) = token_step kind text (text_of ps) refl t (reaches file (next n kind) (front ++ text) ps h)
@@ -50,7 +50,7 @@ pub placed_tokens : (file : ℕ) (ps : List Piece) → IsPlaced 0 ps → AreToke
 placed_tokens file ps h =
     record {
       utf8 = utf8 0 ps h;
-      spelled = (false, subst (λ (end : List ℕ). Reaches file false [] (text_of ps) (tokens_of (place_after file) [] ps) false end []) (behind_is [] ps) (reaches file 0 [] ps h));
+      spelled = (false, subst (λ (end : List ℕ). Reaches file false [] (text_of ps) (tokens_of (place_after file) [] ps) false end []) (after_pieces_is [] ps) (reaches file 0 [] ps h));
       end = refl;
     }
 

@@ -1,19 +1,17 @@
 -- The rows of a listing are those of vectors.
 use Rattle.std.proofs.Common.{◌≡◌, ℕ, zero, suc, inl, inr, Bool, true, false, List, [], ◌∷◌, take, refl, subst}
-use Rattle.std.specs.Prelude.{filter, map, ◌&&◌, if◌then◌else◌}
+use Rattle.std.specs.Prelude.{filter, if◌then◌else◌}
 use Rattle.std.specs.List.{AllByRecursion}
 use Rattle.kr_base.specs.Entries.{IsAmong, entries_in, is_spent, is_within, through_spent, within}
 use Rattle.kr_base.specs.declared.entry.Entry.{Entry}
 use Rattle.kr_base.specs.declared.span.Bound.TheVariants.{At}
 use Rattle.kr_base.specs.declared.span.Span.{Span}
+use Rattle.kr_shard_laws.proofs.EntryTexts.{IsOf, entry_is_of}
 use Rattle.kr_emit_text.specs.Accepted.{rows_listed}
-use Rattle.kr_laws_pruning.proofs.Listed.{vectors_are}
-use Rattle.kr_laws_pruning.proofs.Sorting.{among_sorted}
-use Rattle.kr_laws_slots.proofs.Membership.{has_filter_from, has_map_from}
-use Rattle.kr_mean.specs.Entries.{all_entries, all_of, entry_of, is_least, is_settled, mark_for, mark_of, row_of, structure_of, vectors}
+use Rattle.kr_mean.specs.Entries.{all_entries, mark_for, mark_of, row_of, structure_of}
 use Rattle.kr_mean.specs.Problem.{Problem}
 use Rattle.kr_mean.specs.Runs as runs
-use Rattle.kr_mean.specs.Runs.{End, end_on, order_of}
+use Rattle.kr_mean.specs.Runs.{End, end_on}
 use Rattle.kr_mean.specs.Space.{IsVector, space_of}
 use Rattle.kr_mean.specs.declared.row.Row.{Row}
 use Rattle.kr_report.specs.Reports.{rows_in, rows_of_mark}
@@ -53,22 +51,6 @@ pub record IsRowOf (problem : Problem) (row : Row) : Type 0 where
   pub vector : List ℕ
   pub within : IsVector (space_of problem) vector
   pub structure : row.structure ≡ structure_of problem vector
-
--- an entry of a vector
-record IsOf (problem : Problem) (e : Entry Row) : Type 0 where
-  vector : List ℕ
-  within : IsVector (space_of problem) vector
-  is : entry_of (order_of problem) (mark_of problem) vector ≡ e
-
-entry_is_of : (problem : Problem) (e : Entry Row) → IsAmong e (all_entries problem) → IsOf problem e
-unfolding all_entries all_of
-entry_is_of problem e h =
-    let passes = λ (v : List ℕ). is_least (space_of problem) (order_of problem) v && is_settled (space_of problem) (order_of problem) v in
-    let kept = filter passes (vectors (space_of problem)) in
-    let has = among_sorted e (map (entry_of (order_of problem) (mark_of problem)) kept) h in
-    let from = has_map_from (entry_of (order_of problem) (mark_of problem)) e kept has in
-    let there = has_filter_from passes from.0 (vectors (space_of problem)) from.1 in
-    record { vector = from.0; within = vectors_are (space_of problem) from.0 there.0; is = from.2 }
 
 rows_of_vector : (problem : Problem) (v : List ℕ) → IsVector (space_of problem) v → (end : End) → AllByRecursion (IsRowOf problem) (rows_of_mark (mark_for end (row_of problem v)))
 rows_of_vector problem v w runs.True = (record { vector = v; within = w; structure = refl }, tt)

@@ -3,7 +3,7 @@ use Rattle.std.proofs.Common.{◌≡◌, ℕ, zero, suc, ◌+◌, ◌-◌, ◌<�
 use Rattle.std.specs.Prelude.{map, filter, flat_map, not, ◌==◌, if◌then◌else◌}
 use Rattle.std.specs.List.{position_or_len, range_with_len}
 use Rattle.std.proofs.lemmas.Bool.{cases_Bool, eq-eqb, eqb-true, ne_eqb}
-use Rattle.std.proofs.lemmas.List.{append-nil, map-append}
+use Rattle.std.proofs.lemmas.List.{map-append}
 use Rattle.std.proofs.lemmas.List.Concat.{flat_map-append}
 use Rattle.std.proofs.lemmas.List.Folds.{flat_map-map}
 use Rattle.kr_value.specs.declared.object.Class.{Class}
@@ -18,6 +18,7 @@ use Rattle.kr_mean.specs.Runs.{is_same_number}
 use Rattle.kr_mean.specs.Space.{no_choice}
 use Rattle.kr_mean.specs.WellFormed.{IsPlain, IsWellFormed}
 use Rattle.kr_laws_runs.proofs.Respects.{AllOf}
+use Rattle.kr_laws_slots.proofs.Flattened.{flat_flat, flat_same, only_one}
 use Rattle.kr_laws_slots.proofs.Membership.{Has, has_append_right, has_map, has_range}
 use Rattle.kr_laws_slots.proofs.Numbering.{first_slot, parameters, parameter_slot, object_slot, width_at}
 use Rattle.kr_laws_slots.proofs.Places.{class_at, kind, one_object, same_object, same_objects, slots_in_are, spot_is, extent, extent_within}
@@ -29,21 +30,9 @@ use Rattle.kr_emit_meaning.specs.Builders.{objects_in, referred}
 
 -- ---- lists
 
-pub flat_none : {A B : Type 0} (f : A → List B) (P : A → Type 0) (xs : List A) → ((x : A) → P x → f x ≡ []) → AllOf P xs → flat_map f xs ≡ []
-flat_none f P [] h a = refl
-flat_none f P (x ∷ xs) h a = rw (h x a.0) (flat_none f P xs h a.1)
-
-pub flat_same : {A B : Type 0} (f g : A → List B) (P : A → Type 0) (xs : List A) → ((x : A) → P x → f x ≡ g x) → AllOf P xs → flat_map f xs ≡ flat_map g xs
-flat_same f g P [] h a = refl
-flat_same f g P (x ∷ xs) h a = ap (λ y. y ++ flat_map f xs) (h x a.0) ∙ ap (λ ys. g x ++ ys) (flat_same f g P xs h a.1)
-
 pub flat_each : {A B : Type 0} (f g : A → List B) (xs : List A) → ((x : A) → f x ≡ g x) → flat_map f xs ≡ flat_map g xs
 flat_each f g [] h = refl
 flat_each f g (x ∷ xs) h = ap (λ y. y ++ flat_map f xs) (h x) ∙ ap (λ ys. g x ++ ys) (flat_each f g xs h)
-
-flat_flat : {A B C : Type 0} (f : B → List C) (g : A → List B) (xs : List A) → flat_map f (flat_map g xs) ≡ flat_map (λ x. flat_map f (g x)) xs
-flat_flat f g [] = refl
-flat_flat f g (x ∷ xs) = flat_map-append f (g x) (flat_map g xs) ∙ ap (λ ys. flat_map f (g x) ++ ys) (flat_flat f g xs)
 
 flat_out : {A B C : Type 0} (f : B → C) (g : A → List B) (xs : List A) → flat_map (λ x. map f (g x)) xs ≡ map f (flat_map g xs)
 flat_out f g [] = refl
@@ -56,27 +45,6 @@ flat_ranges {B} f g x a (suc n) h =
     let first : f x ≡ g a = ap f (sym (zeros x)) ∙ (h 0 (omega arith) ∙ ap g (zeros a)) in
     let rest : flat_map f (range_with_len (x + 1) n) ≡ flat_map g (range_with_len (a + 1) n) = flat_ranges f g (x + 1) (a + 1) n (λ j l. let on : (k : ℕ) → k + 1 + j ≡ k + suc j = λ k. omega arith in ap f (on x) ∙ (h (suc j) (omega (arith, l)) ∙ sym (ap g (on a)))) in
     ap (λ (ys : List B). ys ++ flat_map f (range_with_len (x + 1) n)) first ∙ ap (λ (ys : List B). g a ++ ys) rest
-
--- of a list whose objects are apart, one object's part
-others : {B : Type 0} (f : DomainObject → List B) (o : DomainObject) (ns : List DomainObject) → (Has o ns → ⊥) → flat_map (λ n. if is_same_object o n then f n else []) ns ≡ []
-others f o [] h = refl
-others f o (n ∷ ns) h = go (cases_Bool (is_same_object o n)) (λ k. others f o ns k)
-  where
-    go : (is_same_object o n ≡ true) ⊎ (is_same_object o n ≡ false) → ((Has o ns → ⊥) → flat_map (λ n. if is_same_object o n then f n else []) ns ≡ []) → flat_map (λ n. if is_same_object o n then f n else []) (n ∷ ns) ≡ []
-    go (inl q) r = absurd (h (inl (sym (same_objects o n q))))
-    go (inr q) r = rw q (r (λ i. h (inr i)))
-
-only_one : {B : Type 0} (f : DomainObject → List B) (o : DomainObject) (os : List DomainObject) → Apart os → Has o os → flat_map (λ m. if is_same_object o m then f m else []) os ≡ f o
-only_one f o [] a h = absurd h
-only_one {B} f o (m ∷ os) a (inl e) =
-    let yes : is_same_object o m ≡ true = ap (λ (x : DomainObject). is_same_object o x) e ∙ same_object o in
-    let none : flat_map (λ n. if is_same_object o n then f n else []) os ≡ [] = others f o os (subst (λ (x : DomainObject). Has x os → ⊥) e a.0) in
-    rw (yes, none) (append-nil (f m) ∙ ap f e)
-only_one f o (m ∷ os) a (inr h) = go (cases_Bool (is_same_object o m)) (only_one f o os a.1 h)
-  where
-    go : (is_same_object o m ≡ true) ⊎ (is_same_object o m ≡ false) → flat_map (λ n. if is_same_object o n then f n else []) os ≡ f o → flat_map (λ n. if is_same_object o n then f n else []) (m ∷ os) ≡ f o
-    go (inl q) r = absurd (a.0 (subst (λ (x : DomainObject). Has x os) (same_objects o m q) h))
-    go (inr q) r = rw q r
 
 -- each once, by other names
 module _ {X Y : Type 0} (same : X → X → Bool) (same_name : Y → Y → Bool) (f : X → Y) (P : X → Type 0) (one : (x y : X) → P x → P y → same_name (f x) (f y) ≡ same x y) where

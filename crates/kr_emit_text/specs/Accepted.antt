@@ -1,4 +1,4 @@
--- Between crates: the text of a listing's builders, read back.
+-- To be believed: the text of a listing's builders, read back.
 use Rattle.std.specs.Prelude.{◌≡◌, ℕ, ◌<◌, ◌^◌, List, None, length, take}
 use Rattle.kr_base.specs.Entries.{entries_in}
 use Rattle.kr_base.specs.declared.span.Bound.TheVariants.{At}
@@ -6,7 +6,7 @@ use Rattle.kr_base.specs.declared.span.Span.{Span}
 use Rattle.kr_emit_meaning.specs.Buildable.{build_fault}
 use Rattle.kr_emit_meaning.specs.Emitted.{emitted}
 use Rattle.kr_emit_text.specs.BuilderTree.{builder_tree}
-use Rattle.kr_laws_never_stuck.specs.NeverStuck.{IsAccepted}
+use Rattle.kr_laws_never_stuck.specs.Accepted.{IsAccepted}
 use Rattle.kr_lex.specs.Lexemes.{Lexemes}
 use Rattle.kr_lex.specs.Places.{place_after}
 use Rattle.kr_lex.specs.Spells.{AreTokens}

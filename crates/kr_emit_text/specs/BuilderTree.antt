@@ -9,7 +9,7 @@ use Rattle.kr_mean.specs.Problem.{Problem}
 use Rattle.kr_mean.specs.declared.row.Row.{Row}
 use Rattle.kr_emit_meaning.specs.Buildable.{builders_name}
 use Rattle.kr_emit_text.specs.Pieces as pieces
-use Rattle.kr_emit_text.specs.Pieces.{behind, local_name, method_name}
+use Rattle.kr_emit_text.specs.Pieces.{after_pieces, local_name, method_name}
 use Rattle.kr_emit_text.specs.Syntax.{Builder, Line, Creates, CreatesArray, SetsField, SetsElement, Operand, Whole, Boolean, NullOperand, Local, TypeName, PrimitiveName, SimpleName, NestedName, builders_of}
 
 -- ---- parts of lines
@@ -37,45 +37,45 @@ operand_tree at front (Local n) = trees.Variable (at front) (local_name n)
 
 -- after a type
 abbrev pub type_end : List ℕ → TypeName → List ℕ
-type_end front t = behind front (pieces.type t [])
+type_end front t = after_pieces front (pieces.type t [])
 
 -- before `new` and the type after it, from the text before ` oN = new T`
 abbrev pub new_start : List ℕ → ℕ → List ℕ
-new_start front n = behind front (pieces.space (pieces.name (local_name n) (pieces.equals [])))
+new_start front n = after_pieces front (pieces.space (pieces.name (local_name n) (pieces.equals [])))
 
 abbrev pub created_start : List ℕ → ℕ → List ℕ
-created_start front n = behind (new_start front n) (pieces.new [])
+created_start front n = after_pieces (new_start front n) (pieces.new [])
 
 abbrev pub created_end : List ℕ → ℕ → TypeName → List ℕ
 created_end front n t = type_end (created_start front n) t
 
 -- after `T[]`
 abbrev pub array_end : List ℕ → TypeName → List ℕ
-array_end front t = behind (type_end front t) (pieces.left (pieces.right []))
+array_end front t = after_pieces (type_end front t) (pieces.left (pieces.right []))
 
 -- before an array's length
 abbrev pub length_start : List ℕ → ℕ → TypeName → List ℕ
-length_start front n t = behind (created_end (array_end front t) n t) (pieces.left [])
+length_start front n t = after_pieces (created_end (array_end front t) n t) (pieces.left [])
 
 abbrev pub length_end : List ℕ → ℤ → List ℕ
-length_end front length = behind front (pieces.whole false length [])
+length_end front length = after_pieces front (pieces.whole false length [])
 
 -- before what a field or an element is set to
 abbrev pub field_start : List ℕ → ℕ → List ℕ → List ℕ
-field_start front n field = behind front (pieces.name (local_name n) (pieces.dot (pieces.name field (pieces.equals []))))
+field_start front n field = after_pieces front (pieces.name (local_name n) (pieces.dot (pieces.name field (pieces.equals []))))
 
 abbrev pub element_start : List ℕ → ℕ → ℕ → List ℕ
-element_start front n index = behind front (pieces.name (local_name n) (pieces.left (pieces.number false index (pieces.right (pieces.equals [])))))
+element_start front n index = after_pieces front (pieces.name (local_name n) (pieces.left (pieces.number false index (pieces.right (pieces.equals [])))))
 
 abbrev pub operand_end : List ℕ → Operand → List ℕ
-operand_end front v = behind front (pieces.operand v [])
+operand_end front v = after_pieces front (pieces.operand v [])
 
 -- after a line
 abbrev pub statement_end : List ℕ → Line → List ℕ
-statement_end front (Creates t n) = behind (created_end (type_end front t) n t) (pieces.parentheses (pieces.semicolon []))
-statement_end front (CreatesArray t n length) = behind (length_end (length_start front n t) length) (pieces.right (pieces.semicolon []))
-statement_end front (SetsField n field v) = behind (operand_end (field_start front n field) v) (pieces.semicolon [])
-statement_end front (SetsElement n index v) = behind (operand_end (element_start front n index) v) (pieces.semicolon [])
+statement_end front (Creates t n) = after_pieces (created_end (type_end front t) n t) (pieces.parentheses (pieces.semicolon []))
+statement_end front (CreatesArray t n length) = after_pieces (length_end (length_start front n t) length) (pieces.right (pieces.semicolon []))
+statement_end front (SetsField n field v) = after_pieces (operand_end (field_start front n field) v) (pieces.semicolon [])
+statement_end front (SetsElement n index v) = after_pieces (operand_end (element_start front n index) v) (pieces.semicolon [])
 
 -- ---- lines
 
@@ -104,7 +104,7 @@ return_tree p q = trees.Return p (trees.Variable q (local_name 0))
 
 -- the text before a line of a body
 abbrev pub line_start : List ℕ → List ℕ
-line_start front = behind front (pieces.indent (pieces.indent []))
+line_start front = after_pieces front (pieces.indent (pieces.indent []))
 
 -- the lines of a body, and its return
 abbrev pub body_tree : (List ℕ → Place) → List ℕ → List Line → Tree
@@ -112,7 +112,7 @@ body_tree at front [] = Cons (return_tree (at (line_start front)) (at (line_star
 body_tree at front (line ∷ lines) = Cons (statement_tree at (line_start front) line) (body_tree at (statement_end (line_start front) line) lines)
 
 abbrev pub body_end : List ℕ → List Line → List ℕ
-body_end front [] = behind front (pieces.body [] [])
+body_end front [] = after_pieces front (pieces.body [] [])
 body_end front (line ∷ lines) = body_end (statement_end (line_start front) line) lines
 
 -- ---- methods and the class
@@ -125,10 +125,10 @@ abbrev pub result_end : List ℕ → Builder → List ℕ
 result_end front b = type_end (result_start front b) b.type
 
 abbrev pub body_start : List ℕ → ℕ → Builder → List ℕ
-body_start front n b = behind (result_end front b) (pieces.method_opening n [])
+body_start front n b = after_pieces (result_end front b) (pieces.method_opening n [])
 
 abbrev pub method_end : List ℕ → ℕ → Builder → List ℕ
-method_end front n b = behind (body_end (body_start front n b) b.lines) (pieces.indent (pieces.close_brace []))
+method_end front n b = after_pieces (body_end (body_start front n b) b.lines) (pieces.indent (pieces.close_brace []))
 
 -- a static method without parameters and contracts, of a type at a place, with its name at another
 abbrev pub method_tree : Place → TypeName → Place → ℕ → Tree → Tree
@@ -142,7 +142,7 @@ methods_tree at front n (b ∷ bs) =
 
 -- the class of the builders
 abbrev pub class_tree : (List ℕ → Place) → List Builder → Tree
-class_tree at builders = trees.Class (at (codes "class" ++ codes " ")) builders_name Nil (methods_tree at (behind [] (pieces.class_head [])) 0 builders)
+class_tree at builders = trees.Class (at (codes "class" ++ codes " ")) builders_name Nil (methods_tree at (after_pieces [] (pieces.class_head [])) 0 builders)
 
 -- its file
 abbrev pub file_tree : (List ℕ → Place) → List Builder → Tree

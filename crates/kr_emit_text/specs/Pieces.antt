@@ -19,10 +19,10 @@ text_of (Gap text ∷ pieces) = text ++ text_of pieces
 text_of (Token kind text ∷ pieces) = text ++ text_of pieces
 
 -- the text up to the pieces' end, from the text before them
-abbrev pub behind : List ℕ → List Piece → List ℕ
-behind front [] = front
-behind front (Gap text ∷ pieces) = behind (front ++ text) pieces
-behind front (Token kind text ∷ pieces) = behind (front ++ text) pieces
+abbrev pub after_pieces : List ℕ → List Piece → List ℕ
+after_pieces front [] = front
+after_pieces front (Gap text ∷ pieces) = after_pieces (front ++ text) pieces
+after_pieces front (Token kind text ∷ pieces) = after_pieces (front ++ text) pieces
 
 -- the tokens, with their places by the text before them
 abbrev pub tokens_of : (List ℕ → Place) → List ℕ → List Piece → List Lexeme

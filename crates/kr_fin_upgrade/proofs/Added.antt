@@ -9,7 +9,7 @@ use Rattle.kr_classes_table.specs.Table.{Heading}
 use Rattle.kr_fin.specs.declared.document.Count.{Count}
 use Rattle.kr_fin.specs.Ascending.{AreCounts}
 use Rattle.kr_space_meaning.specs.Bounds.{declared, declared_by}
-use Rattle.kr_space_meaning.proofs.Each.{each_of_both}
+use Rattle.kr_space_meaning.proofs.Each.{each_back, each_front, each_of_both}
 use Rattle.kr_fin_upgrade.specs.Tables.{count_data}
 use Rattle.kr_fin_upgrade.specs.Upgraded.{add_line, all_lines, has_line, line, put_line}
 use Rattle.kr_fin_upgrade.proofs.Ordered.{all_before}
@@ -68,16 +68,8 @@ module _ (P : List Count → Type 0) where
 -- ---- a property of each line
 
 module _ (P : Count → Type 0) where
-  first_part : (xs ys : List Count) → AllByRecursion P (xs ++ ys) → AllByRecursion P xs
-  first_part [] ys h = tt
-  first_part (x ∷ xs) ys h = (h.0, first_part xs ys h.1)
-
-  second_part : (xs ys : List Count) → AllByRecursion P (xs ++ ys) → AllByRecursion P ys
-  second_part [] ys h = h
-  second_part (x ∷ xs) ys h = second_part xs ys h.1
-
   one_more : (xs ys : List Count) (c : Count) → P c → AllByRecursion P (xs ++ ys) → AllByRecursion P (xs ++ c ∷ ys)
-  one_more xs ys c p h = each_of_both P xs (c ∷ ys) (first_part xs ys h) (p, second_part xs ys h)
+  one_more xs ys c p h = each_of_both P xs (c ∷ ys) (each_front P xs ys h) (p, each_back P xs ys h)
 
   pub each_added : (cs : List Count) (c : Count) → P (line c.name c.count) → AllByRecursion P cs → AllByRecursion P (add_line cs c)
   each_added cs c p h = added (AllByRecursion P) cs c (λ _. h) (λ front back e _. one_more front back (line c.name c.count) p (subst (AllByRecursion P) (sym e) h))

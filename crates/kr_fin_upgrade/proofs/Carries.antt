@@ -26,7 +26,7 @@ use Rattle.kr_space_meaning.specs.Faults.{S1, arrays_unknown, class_unknown, fau
 use Rattle.kr_space_meaning.specs.Meaning.{faults_of}
 use Rattle.kr_space_meaning.specs.Names.{array_type, meant}
 use Rattle.kr_space_meaning.specs.Order.{break_if}
-use Rattle.kr_space_meaning.proofs.Each.{each_flat, each_of_both, none_each, unbroken}
+use Rattle.kr_space_meaning.proofs.Each.{each_flat, each_of_both, each_weaker, none_each, unbroken}
 use Rattle.kr_fin_upgrade.specs.Documents.{IsBound, IsCount, IsDocument, IsItem}
 use Rattle.kr_fin_upgrade.specs.Laws.{AreDomainNames, Poses, UpgradeLaw}
 use Rattle.kr_fin_upgrade.specs.Upgraded.{add_line, all_lines, domain_lines, has_line, line, lines_of, name_lines, up}
@@ -35,7 +35,7 @@ use Rattle.kr_fin_upgrade.proofs.Kept.{kept, neither, root_is_known}
 use Rattle.kr_fin_upgrade.proofs.Meant.{class_is_named}
 use Rattle.kr_fin_upgrade.proofs.OwnRoot.{root_is_own, some_class}
 use Rattle.kr_fin_upgrade.proofs.Stands.{Lined, OfName, OfNames, class_is_known, first_class, halves, names_so, of_domains, of_name, same_name, to_domains, to_name}
-use Rattle.kr_fin_upgrade.proofs.Values.{AreSame, SameItem, SameItems, each_is, each_so, problem_same, second}
+use Rattle.kr_fin_upgrade.proofs.Values.{AreSame, SameItem, SameItems, each_is, problem_same, second}
 use Rattle.kr_fin_upgrade.proofs.Values as values
 
 none_any : {A : Type 0} (p : A → Bool) (xs : List A) → list_any p xs ≡ false → AllByRecursion (λ x. p x ≡ false) xs
@@ -60,7 +60,7 @@ module _ (hs : List Heading) (d : FinDoc) (named : AreDomainNames hs) (is : IsDo
   others = name_lines d.root ++ (domain_lines d.fields ++ domain_lines d.params)
 
   own_classes : AllByRecursion (λ c. c.class ≡ c.name) d.objects
-  own_classes = each_so (IsCount false) (λ c. c.class ≡ c.name) d.objects (λ c h. h.named) (subst (λ (b : Bool). AllByRecursion (IsCount b) d.objects) first is.objects)
+  own_classes = each_weaker (IsCount false) (λ c. c.class ≡ c.name) d.objects (λ c h. h.named) (subst (λ (b : Bool). AllByRecursion (IsCount b) d.objects) first is.objects)
 
   classes : AllByRecursion (λ c. c.class ≡ c.name) lines
   classes = each_folded (λ c. c.class ≡ c.name) [] (lines_of d) tt (each_is (λ c. c.name ≡ c.name) (lines_of d) (λ c. refl))
@@ -114,7 +114,7 @@ module _ (table : Table) (d : FinDoc) (named : AreDomainNames table.headings) (i
   of_same n h = same_name table.headings new_lines d n named first (classes table.headings d named is first) h
 
   same_items : (items : List Item) → AllByRecursion (OfName (values.SameName table new_lines d)) items → SameItems table new_lines d items
-  same_items items h = each_so (OfName (values.SameName table new_lines d)) (SameItem table new_lines d) items one h
+  same_items items h = each_weaker (OfName (values.SameName table new_lines d)) (SameItem table new_lines d) items one h
     where
       one : (i : Item) → OfName (values.SameName table new_lines d) i → SameItem table new_lines d i
       one (Name n) h = h
@@ -124,7 +124,7 @@ module _ (table : Table) (d : FinDoc) (named : AreDomainNames table.headings) (i
 
   same_domains : (ds : List NamedDomain) → OfNames (λ n. is_domain_name n ≡ true → has_line new_lines n ≡ true) ds → AllByRecursion (λ x. SameItems table new_lines d x.domain) ds
   same_domains ds h =
-      each_so (λ x. AllByRecursion (OfName (values.SameName table new_lines d)) x.domain) (λ x. SameItems table new_lines d x.domain) ds (λ x k. same_items x.domain k)
+      each_weaker (λ x. AllByRecursion (OfName (values.SameName table new_lines d)) x.domain) (λ x. SameItems table new_lines d x.domain) ds (λ x k. same_items x.domain k)
       (names_so (λ n. is_domain_name n ≡ true → has_line new_lines n ≡ true) (values.SameName table new_lines d) ds of_same h)
 
   lengths_only : (i : Item) → IsItem Lengths i → SameItem table new_lines d i
@@ -134,12 +134,12 @@ module _ (table : Table) (d : FinDoc) (named : AreDomainNames table.headings) (i
   lengths_only (Truth b) h = tt
 
   same_bounds : AllByRecursion (λ b. SameItems table new_lines d b.lengths) d.arrays
-  same_bounds = each_so IsBound (λ b. SameItems table new_lines d b.lengths) d.arrays (λ b h. each_so (IsItem Lengths) (SameItem table new_lines d) b.lengths lengths_only h.lengths) is.arrays
+  same_bounds = each_weaker IsBound (λ b. SameItems table new_lines d b.lengths) d.arrays (λ b h. each_weaker (IsItem Lengths) (SameItem table new_lines d) b.lengths lengths_only h.lengths) is.arrays
 
   same_arrays : AllByRecursion (λ a. SameItems table new_lines d a.1.lengths) (bounded table.headings d.arrays)
   same_arrays =
       each_flat (λ a. SameItems table new_lines d a.1.lengths) (λ b. typed_bound (array_type table.headings b.name) b) d.arrays
-      (each_so (λ b. SameItems table new_lines d b.lengths) (λ b. AllByRecursion (λ a. SameItems table new_lines d a.1.lengths) (typed_bound (array_type table.headings b.name) b)) d.arrays (λ b h. one (array_type table.headings b.name) b h) same_bounds)
+      (each_weaker (λ b. SameItems table new_lines d b.lengths) (λ b. AllByRecursion (λ a. SameItems table new_lines d a.1.lengths) (typed_bound (array_type table.headings b.name) b)) d.arrays (λ b h. one (array_type table.headings b.name) b h) same_bounds)
     where
       one : (o : Option JavaType) (b : ArrayBound) → SameItems table new_lines d b.lengths → AllByRecursion (λ a. SameItems table new_lines d a.1.lengths) (typed_bound o b)
       one None b h = tt
@@ -163,7 +163,7 @@ module _ (table : Table) (d : FinDoc) (named : AreDomainNames table.headings) (i
   own_name n e = ap (λ (b : Bool). not b && is_predefined n) (sym first) ∙ e
 
   known_items : (items : List Item) → list_any (names_unknown table.headings d) items ≡ false → AllByRecursion (OfName (Lined (IsGood table.headings))) items
-  known_items items e = each_so (λ i. names_unknown table.headings d i ≡ false) (OfName (Lined (IsGood table.headings))) items one (none_any (names_unknown table.headings d) items e)
+  known_items items e = each_weaker (λ i. names_unknown table.headings d i ≡ false) (OfName (Lined (IsGood table.headings))) items one (none_any (names_unknown table.headings d) items e)
     where
       one : (i : Item) → names_unknown table.headings d i ≡ false → OfName (Lined (IsGood table.headings)) i
       one (Name n) e = λ is. record { few = refl; known = ap (λ (b : Bool). b || is_predefined n) (class_is_known table.headings d n first is (neither (is_unknown (meant table.headings d n)) (names_predefined d n) e).0) ∙ own_name n (neither (is_unknown (meant table.headings d n)) (names_predefined d n) e).1 }
@@ -173,7 +173,7 @@ module _ (table : Table) (d : FinDoc) (named : AreDomainNames table.headings) (i
 
   known_domains : (name : List ℕ) (ds : List NamedDomain) → values_unknown table.headings d name ds ≡ [] → OfNames (Lined (IsGood table.headings)) ds
   known_domains name ds e =
-      each_so (λ x. value_unknown table.headings d name x ≡ []) (λ x. AllByRecursion (OfName (Lined (IsGood table.headings))) x.domain) ds
+      each_weaker (λ x. value_unknown table.headings d name x ≡ []) (λ x. AllByRecursion (OfName (Lined (IsGood table.headings))) x.domain) ds
       (λ x k. known_items x.domain (unbroken (list_any (names_unknown table.headings d) x.domain) UnknownName (name ++ x.key) k)) (none_each (value_unknown table.headings d name) ds e)
 
   good_objects : (cs : List Count) → AllByRecursion (IsCount false) cs → objects_unknown table.headings cs ≡ [] → AllByRecursion (IsGood table.headings) cs
@@ -199,10 +199,10 @@ module _ (table : Table) (d : FinDoc) (named : AreDomainNames table.headings) (i
         (each_of_both P (domain_lines d.fields) (domain_lines d.params) (of_domains P d.fields (known_domains (codes "fields.") d.fields e5.0)) (of_domains P d.params (known_domains (codes "params.") d.params e5.1))))
 
     all_good : AllByRecursion (IsGood table.headings) new_lines
-    all_good = each_folded (IsGood table.headings) [] (lines_of d) tt (each_so (IsGood table.headings) (λ c. IsGood table.headings (line c.name c.count)) (lines_of d) (λ c g. record { few = g.few; known = g.known }) good_lines)
+    all_good = each_folded (IsGood table.headings) [] (lines_of d) tt (each_weaker (IsGood table.headings) (λ c. IsGood table.headings (line c.name c.count)) (lines_of d) (λ c g. record { few = g.few; known = g.known }) good_lines)
 
     pub classes_known : AllByRecursion (λ c. class_unknown table.headings c.class ≡ false) new_lines
-    classes_known = each_folded (λ c. class_unknown table.headings c.class ≡ false) [] (lines_of d) tt (each_so (IsGood table.headings) (λ c. class_unknown table.headings c.name ≡ false) (lines_of d) (λ c g. g.known) good_lines)
+    classes_known = each_folded (λ c. class_unknown table.headings c.class ≡ false) [] (lines_of d) tt (each_weaker (IsGood table.headings) (λ c. class_unknown table.headings c.name ≡ false) (lines_of d) (λ c g. g.known) good_lines)
 
     -- ---- the document
 
@@ -215,7 +215,7 @@ module _ (table : Table) (d : FinDoc) (named : AreDomainNames table.headings) (i
     document_kept = record {
       version = refl;
       fuel = is.fuel;
-      objects = each_so (IsGood table.headings) (IsCount true) new_lines count_good all_good;
+      objects = each_weaker (IsGood table.headings) (IsCount true) new_lines count_good all_good;
       arrays = is.arrays;
       fields = is.fields;
       params = is.params;

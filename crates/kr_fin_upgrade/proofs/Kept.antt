@@ -20,7 +20,8 @@ use Rattle.kr_space_meaning.specs.Order.{Fault, break_if}
 use Rattle.kr_space_meaning.specs.Bounds.{Setting, elements_key, greatest, lengths_of, root_of, tested_parameters, values_of}
 use Rattle.kr_space_meaning.specs.Keys.{field_type, method_at, parameter_type}
 use Rattle.kr_space_meaning.specs.Faults.{S1, S2, S3_S5_S6, S4, S7, S8, S9, array_S2, arrays_unknown, faults_in, fields_unfit, fits, is_instance, is_predicate, is_unfit, class_unknown, is_unknown, meant_fits, names_predefined, names_unknown, no_domain, no_fields, no_params, number_faults, numbers_of, numbers_of_lengths, object_S2, objects_unknown, of_arrays, of_fields, of_objects, of_params, owners_unknown, parameter_S2, params_unfit, root_unknown, value_unknown, values_unknown}
-use Rattle.kr_fin_upgrade.proofs.Values.{AreSame, SameItem, SameItems, each_so, flat_same, second}
+use Rattle.kr_space_meaning.proofs.Each.{each_weaker}
+use Rattle.kr_fin_upgrade.proofs.Values.{AreSame, SameItem, SameItems, flat_same, second}
 use Rattle.kr_fin_upgrade.proofs.Values as values
 
 any_same : {A : Type 0} (p q : A → Bool) (xs : List A) → AllByRecursion (λ x. p x ≡ q x) xs → list_any p xs ≡ list_any q xs
@@ -118,7 +119,7 @@ module _ (table : Table) (types : List JavaType) (objects : List (ℕ × Count))
   domains_kept : (mode : Mode) → S2 new mode ≡ S2 old mode
   domains_kept mode =
       ap (λ (fs : List Fault). flat_map (object_S2 old) objects ++ (fs ++ flat_map (parameter_S2 new mode) (tested_parameters new mode)))
-      (flat_same (array_S2 new) (array_S2 old) arrays (each_so (λ a. SameItems table cs d a.1.lengths) (λ a. array_S2 new a ≡ array_S2 old a) arrays one same.bounded))
+      (flat_same (array_S2 new) (array_S2 old) arrays (each_weaker (λ a. SameItems table cs d a.1.lengths) (λ a. array_S2 new a ≡ array_S2 old a) arrays one same.bounded))
       ∙ ap (λ (ps : List Parameter). flat_map (object_S2 old) objects ++ (flat_map (array_S2 old) arrays ++ flat_map (parameter_S2 old mode) ps)) (values.tested_same table types objects arrays cs d same mode)
     where
       one : (a : JavaType × ArrayBound) → SameItems table cs d a.1.lengths → array_S2 new a ≡ array_S2 old a
@@ -131,13 +132,13 @@ module _ (table : Table) (types : List JavaType) (objects : List (ℕ × Count))
   numbers_kept : (problem : Problem) (asked : List ℕ → Option JavaType) (name : List ℕ) (ds : List NamedDomain) → AllByRecursion (λ x. SameItems table cs d x.domain) ds → numbers_of problem new asked name ds ≡ numbers_of problem old asked name ds
   numbers_kept problem asked name ds h =
       flat_same (λ x. number_faults (name ++ x.key) (choices_in problem (values_of new (asked x.key) x.domain))) (λ x. number_faults (name ++ x.key) (choices_in problem (values_of old (asked x.key) x.domain))) ds
-      (each_so (λ x. SameItems table cs d x.domain) (λ x. number_faults (name ++ x.key) (choices_in problem (values_of new (asked x.key) x.domain)) ≡ number_faults (name ++ x.key) (choices_in problem (values_of old (asked x.key) x.domain))) ds
+      (each_weaker (λ x. SameItems table cs d x.domain) (λ x. number_faults (name ++ x.key) (choices_in problem (values_of new (asked x.key) x.domain)) ≡ number_faults (name ++ x.key) (choices_in problem (values_of old (asked x.key) x.domain))) ds
       (λ x k. ap (λ (vs : Domain). number_faults (name ++ x.key) (choices_in problem vs)) (values.values_same table types objects arrays cs d (asked x.key) x.domain k)) h)
 
   lengths_kept : (problem : Problem) (bs : List ArrayBound) → AllByRecursion (λ b. SameItems table cs d b.lengths) bs → numbers_of_lengths problem new bs ≡ numbers_of_lengths problem old bs
   lengths_kept problem bs h =
       flat_same (λ b. number_faults (of_arrays b.name) (choices_in problem (lengths_of new b.lengths))) (λ b. number_faults (of_arrays b.name) (choices_in problem (lengths_of old b.lengths))) bs
-      (each_so (λ b. SameItems table cs d b.lengths) (λ b. number_faults (of_arrays b.name) (choices_in problem (lengths_of new b.lengths)) ≡ number_faults (of_arrays b.name) (choices_in problem (lengths_of old b.lengths))) bs
+      (each_weaker (λ b. SameItems table cs d b.lengths) (λ b. number_faults (of_arrays b.name) (choices_in problem (lengths_of new b.lengths)) ≡ number_faults (of_arrays b.name) (choices_in problem (lengths_of old b.lengths))) bs
       (λ b k. ap (λ (vs : Domain). number_faults (of_arrays b.name) (choices_in problem vs)) (values.lengths_same table types objects arrays cs d b.lengths k)) h)
 
   counts_kept : (problem : Problem) → S3_S5_S6 problem new ≡ S3_S5_S6 problem old
@@ -161,13 +162,13 @@ module _ (table : Table) (types : List JavaType) (objects : List (ℕ × Count))
   unfit_same None items h = refl
   unfit_same (Some t) items h =
       any_same (λ i. not (fits table (second cs d) t i)) (λ i. not (fits table d t i)) items
-      (each_so (SameItem table cs d) (λ i. not (fits table (second cs d) t i) ≡ not (fits table d t i)) items (fits_same t) h)
+      (each_weaker (SameItem table cs d) (λ i. not (fits table (second cs d) t i) ≡ not (fits table d t i)) items (fits_same t) h)
 
   unfit_kept : (asked : List ℕ → Option JavaType) (at : List ℕ → List ℕ) (ds : List NamedDomain) → AllByRecursion (λ x. SameItems table cs d x.domain) ds
       → flat_map (λ x. break_if (is_unfit table (second cs d) (asked x.key) x.domain) UnfitValue (at x.key)) ds ≡ flat_map (λ x. break_if (is_unfit table d (asked x.key) x.domain) UnfitValue (at x.key)) ds
   unfit_kept asked at ds h =
       flat_same (λ x. break_if (is_unfit table (second cs d) (asked x.key) x.domain) UnfitValue (at x.key)) (λ x. break_if (is_unfit table d (asked x.key) x.domain) UnfitValue (at x.key)) ds
-      (each_so (λ x. SameItems table cs d x.domain) (λ x. break_if (is_unfit table (second cs d) (asked x.key) x.domain) UnfitValue (at x.key) ≡ break_if (is_unfit table d (asked x.key) x.domain) UnfitValue (at x.key)) ds
+      (each_weaker (λ x. SameItems table cs d x.domain) (λ x. break_if (is_unfit table (second cs d) (asked x.key) x.domain) UnfitValue (at x.key) ≡ break_if (is_unfit table d (asked x.key) x.domain) UnfitValue (at x.key)) ds
       (λ x k. ap (λ (b : Bool). break_if b UnfitValue (at x.key)) (unfit_same (asked x.key) x.domain k)) h)
 
   types_kept : S4 new ≡ S4 old

@@ -1,38 +1,26 @@
 -- A document that was read breaks no rule of its own.
-use Rattle.std.proofs.Common.{◌≡◌, ℕ, ℤ, ◌==◌, Bool, true, false, cond, List, [], ◌∷◌, ◌++◌, codes, Option, Some, None, Ok, pos, negsuc, refl, sym, ap, subst, ◌∙◌}
-use Rattle.std.specs.Prelude.{MatchOption, option_and_then, if◌then◌else◌}
+use Rattle.std.proofs.Common.{◌≡◌, ℕ, ℤ, ◌==◌, Bool, true, false, List, [], ◌++◌, codes, Option, Some, None, Ok, pos, negsuc, refl, sym, ap, subst, ◌∙◌}
+use Rattle.std.specs.Prelude.{option_and_then, if◌then◌else◌}
 use Rattle.std.specs.List.{AllByRecursion}
-use Rattle.toml.specs.Data.{Data, string, integer, float, boolean, datetime, array, table, Items, no_items, item, Members, no_members, member, get_member, as_integer, as_table}
+use Rattle.toml.specs.Data.{Data, string, integer, float, boolean, datetime, array, table, Members, no_members, member, get_member, as_integer, as_table}
 use Rattle.kr_base.proofs.ListLemmas.{append_is_nil}
-use Rattle.kr_fin.specs.declared.document.Item.{Item}
 use Rattle.kr_fin.specs.declared.document.Item.TheVariants as items
-use Rattle.kr_fin.specs.declared.refusal.FinRule.TheVariants.{OutOfLimit, WrongKind}
-use Rattle.kr_fin.specs.declared.shapes.Limits.{Limits}
-use Rattle.kr_fin.specs.declared.shapes.Purpose.{Purpose}
-use Rattle.kr_fin.specs.declared.shapes.Purpose.TheVariants.{Lengths, Slot}
-use Rattle.kr_fin.specs.declared.shapes.Section.{Section}
+use Rattle.kr_fin.specs.declared.refusal.FinRule.TheVariants.{WrongKind}
+use Rattle.kr_fin.specs.declared.shapes.Purpose.TheVariants.{Slot}
 use Rattle.kr_fin.specs.declared.shapes.Section.TheVariants.{Objects, Domains, Arrays, Fields, Params}
-use Rattle.kr_fin.specs.declared.shapes.Shape.TheVariants.{Document, Range, Array}
+use Rattle.kr_fin.specs.declared.shapes.Shape.TheVariants.{Document, Array}
 use Rattle.kr_fin.specs.Ascending.{IsInOrder}
 use Rattle.kr_fin.specs.Document as documents
-use Rattle.kr_fin.specs.Document.{bound_of, bounds_of, counts_of, document_of, domain_of, domains_of, item_of as item_in, items_of, magnitude, members_of, number_of, object_domains_of, objects_of, range_in, range_of, table_of}
-use Rattle.kr_fin.specs.Faults.{bound, domain, entries, faults_in, fuel, keyed, named_domain, number, of_kind, optional, range, required, root, section, unknown_keys, value, values, version, within}
-use Rattle.kr_fin.specs.Least.{IsLeast}
+use Rattle.kr_fin.specs.Document.{bound_of, bounds_of, counts_of, document_of, domain_of, domains_of, magnitude, members_of, number_of, object_domains_of, objects_of, table_of}
+use Rattle.kr_fin.specs.Faults.{bound, domain, entries, faults_in, fuel, keyed, named_domain, number, of_kind, required, root, section, unknown_keys, version, within}
 use Rattle.kr_fin.specs.Meaning.{document_in, unless}
-use Rattle.kr_fin.specs.Order.{Fault, broken, least, rank_of}
-use Rattle.kr_fin.specs.Shapes.{counts, fuels, have, is_domain_name, is_pair, item_of as item_at, limits_of, name_of, versions}
+use Rattle.kr_fin.specs.Order.{Fault, broken, least}
+use Rattle.kr_fin.specs.Shapes.{counts, fuels, have, is_domain_name, is_pair, item_of as item_at, name_of, versions}
 use Rattle.kr_fin.specs.Version.{is_second, objects_section}
-use Rattle.kr_fin.proofs.Leasts.{least_of_all}
+use Rattle.kr_space_meaning.proofs.Sections.{AreHeld, domain_each, in_limits, required_each, table_entries, unbroken_whole}
 use Rattle.kr_fin_upgrade.specs.Documents.{IsBound, IsCount, IsDocument, IsDomain, IsItem, ReadLaw}
 
 -- ---- numbers
-
-in_limits : (limits : Limits) (at : List ℕ) (z : ℤ) → within limits at z ≡ [] → have limits z ≡ true
-in_limits limits at z e = go (have limits z) e
-  where
-    go : (b : Bool) → cond b [] (broken OutOfLimit at) ≡ [] → b ≡ true
-    go true e = refl
-    go false e = absurd (cc (e))
 
 -- a count that is missing, or out of the limits, is 0
 count_within : (o : Option ℤ) → have counts (pos (documents.within counts o)) ≡ true
@@ -70,72 +58,8 @@ fuelled at (Some (table ms)) e = absurd (cc (e))
 
 -- ---- domains
 
-abbrev Each : Purpose → List Item → Type 0
-Each purpose is = AllByRecursion (IsItem purpose) is
-
--- an end of a range
-record IsEnd (limits : Limits) (o : Option Data) : Type 0 where
-  is : ℤ
-  there : option_and_then as_integer o ≡ Some is
-  limited : have limits is ≡ true
-
-end_of : (limits : Limits) (at : List ℕ) (o : Option Data) → required (number limits at) at o ≡ [] → IsEnd limits o
-end_of limits at None e = absurd (cc (e))
-end_of limits at (Some (integer z)) e = record { is = z; there = refl; limited = in_limits limits at z e }
-end_of limits at (Some (string s)) e = absurd (cc (e))
-end_of limits at (Some (float x)) e = absurd (cc (e))
-end_of limits at (Some (boolean b)) e = absurd (cc (e))
-end_of limits at (Some (datetime dt)) e = absurd (cc (e))
-end_of limits at (Some (array ds)) e = absurd (cc (e))
-end_of limits at (Some (table ms)) e = absurd (cc (e))
-
-range_each : (purpose : Purpose) (at : List ℕ) (ms : Members) → range (limits_of purpose) at ms ≡ [] → Each purpose (range_in ms)
-range_each purpose at ms e =
-    let ends = append_is_nil _ _ (append_is_nil (unknown_keys Range (λ key. at) ms) _ e).1 in
-    let from = end_of (limits_of purpose) at (get_member (codes "from") ms) ends.0 in
-    let to = end_of (limits_of purpose) at (get_member (codes "to") ms) ends.1 in
-    subst (λ (is : List Item). Each purpose is) (sym (ap (λ (o : Option ℤ). range_of o (option_and_then as_integer (get_member (codes "to") ms))) from.there ∙ ap (λ (o : Option ℤ). range_of (Some from.is) o) to.there))
-    ((from.limited, to.limited), tt)
-
-truth_each : (purpose : Purpose) (at : List ℕ) (b : Bool) → value purpose at (boolean b) ≡ [] → Each purpose (items.Truth b ∷ [])
-truth_each Slot at b e = (tt, tt)
-truth_each Lengths at b e = absurd (cc (e))
-
-name_each : (purpose : Purpose) (at s : List ℕ) → value purpose at (string s) ≡ [] → Each purpose (items.Name s ∷ [])
-name_each Slot at s e = (tt, tt)
-name_each Lengths at s e = absurd (cc (e))
-
-value_each : (purpose : Purpose) (at : List ℕ) (d : Data) → value purpose at d ≡ [] → Each purpose (item_in d)
-value_each purpose at (integer z) e = (in_limits (limits_of purpose) at z e, tt)
-value_each purpose at (table ms) e = range_each purpose at ms e
-value_each purpose at (boolean b) e = truth_each purpose at b e
-value_each purpose at (string s) e = name_each purpose at s e
-value_each purpose at (float x) e = absurd (cc (e))
-value_each purpose at (datetime dt) e = absurd (cc (e))
-value_each purpose at (array ds) e = absurd (cc (e))
-
-both_each : (purpose : Purpose) (xs ys : List Item) → Each purpose xs → Each purpose ys → Each purpose (xs ++ ys)
-both_each purpose [] ys a b = b
-both_each purpose (x ∷ xs) ys a b = (a.0, both_each purpose xs ys a.1 b)
-
-values_each : (purpose : Purpose) (at : List ℕ) (ds : Items) → values purpose at ds ≡ [] → Each purpose (items_of ds)
-values_each purpose at no_items e = tt
-values_each purpose at (item d rest) e =
-    let parts = append_is_nil (value purpose at d) (values purpose at rest) e in
-    both_each purpose (item_in d) (items_of rest) (value_each purpose at d parts.0) (values_each purpose at rest parts.1)
-
-domain_each : (purpose : Purpose) (at : List ℕ) (d : Data) → domain purpose at d ≡ [] → Each purpose (domain_of (Some d))
-domain_each purpose at (array ds) e = values_each purpose at ds e
-domain_each purpose at (integer z) e = absurd (cc (e))
-domain_each purpose at (string s) e = absurd (cc (e))
-domain_each purpose at (float x) e = absurd (cc (e))
-domain_each purpose at (boolean b) e = absurd (cc (e))
-domain_each purpose at (datetime dt) e = absurd (cc (e))
-domain_each purpose at (table ms) e = absurd (cc (e))
-
-required_each : (at : List ℕ) (o : Option Data) → required (domain Lengths at) at o ≡ [] → Each Lengths (domain_of o)
-required_each at None e = absurd (cc (e))
-required_each at (Some d) e = domain_each Lengths at d e
+held : AreHeld IsItem
+held = record { number = λ purpose z h. h; range = λ purpose from to h k. (h, k); truth = λ b. tt; name = λ s. tt }
 
 -- ---- entries
 
@@ -146,7 +70,7 @@ kept false at rest e = absurd (cc (e))
 bound_is : (key at : List ℕ) (ms : Members) → bound at ms ≡ [] → IsBound (bound_of key ms)
 bound_is key at ms e = record {
   few = counted (get_member (codes "count") ms);
-  lengths = required_each at (get_member (codes "lengths") ms) (append_is_nil _ _ (append_is_nil (unknown_keys Array (λ k. at) ms) _ e).1).1;
+  lengths = required_each IsItem held at (get_member (codes "lengths") ms) (append_is_nil _ _ (append_is_nil (unknown_keys Array (λ k. at) ms) _ e).1).1;
 }
 
 entry_bound : (key at : List ℕ) (d : Data) → of_kind (bound at) at (as_table d) ≡ [] → IsBound (bound_of key (members_of (Some d)))
@@ -167,7 +91,7 @@ bounds_are (member key d rest) e =
 keyed_is : (key at : List ℕ) (d : Data) → keyed key at d ≡ [] → IsDomain (record { key = key; domain = domain_of (Some d) })
 keyed_is key at d e = record {
   pair = kept (is_pair key) at (domain Slot at d) e;
-  items = domain_each Slot at d (append_is_nil (if is_pair key then [] else broken WrongKind at) (domain Slot at d) e).1;
+  items = domain_each IsItem held Slot at d (append_is_nil (if is_pair key then [] else broken WrongKind at) (domain Slot at d) e).1;
 }
 
 fields_are : (ms : Members) → entries Fields ms ≡ [] → AllByRecursion IsDomain (domains_of ms)
@@ -197,17 +121,6 @@ domains_are (member key d rest) e =
       },
       domains_are rest parts.1,
     )
-
--- a table that is absent, or one whose entries break no rule
-table_entries : (s : Section) (o : Option Data) → optional (λ d. of_kind (entries s) (name_of s) (as_table d)) o ≡ [] → entries s (members_of o) ≡ []
-table_entries s None e = refl
-table_entries s (Some (table ms)) e = e
-table_entries s (Some (integer z)) e = absurd (cc (e))
-table_entries s (Some (string t)) e = absurd (cc (e))
-table_entries s (Some (float x)) e = absurd (cc (e))
-table_entries s (Some (boolean b)) e = absurd (cc (e))
-table_entries s (Some (datetime dt)) e = absurd (cc (e))
-table_entries s (Some (array ds)) e = absurd (cc (e))
 
 objects_are : (b : Bool) (ms : Members) → section (if b then Domains else Objects) ms ≡ []
     → AllByRecursion (IsCount ((if b then 2 else 1) == 2)) (objects_of (if b then Domains else Objects) (table_of (if b then Domains else Objects) ms))
@@ -240,9 +153,6 @@ of_members ms e order =
       order = order;
     }
 
-no_fault : (fs : List Fault) → least fs ≡ None → fs ≡ []
-no_fault fs e = subst (λ (o : Option Fault). MatchOption o (fs ≡ []) (IsLeast rank_of fs)) e (least_of_all rank_of fs)
-
 pub read : ReadLaw
 unfolding document_in
 read ms d e order = go (least (faults_in ms)) refl e
@@ -250,5 +160,5 @@ read ms d e order = go (least (faults_in ms)) refl e
     go : (o : Option Fault) → least (faults_in ms) ≡ o → unless o (document_of ms) ≡ Ok d → IsDocument d
     go None n e =
         let same : document_of ms ≡ d = cc (e) in
-        subst IsDocument same (of_members ms (no_fault (faults_in ms) n) (subst IsInOrder (sym same) order))
+        subst IsDocument same (of_members ms (unbroken_whole (faults_in ms) n) (subst IsInOrder (sym same) order))
     go (Some f) n e = absurd (cc (e))

@@ -18,7 +18,7 @@ use Rattle.kr_fin_upgrade.specs.Upgraded.{domain_lines, has_line, item_lines, li
 use Rattle.kr_fin_upgrade.proofs.Added.{equal_is}
 use Rattle.kr_fin_upgrade.proofs.Meant.{no_array, no_class, not_null}
 use Rattle.kr_fin_upgrade.proofs.Values.{second}
-use Rattle.kr_space_meaning.proofs.Each.{each_flat}
+use Rattle.kr_space_meaning.proofs.Each.{each_back, each_flat, each_front, each_weaker}
 
 -- ---- the class of a name's line
 
@@ -105,39 +105,27 @@ to_item P (Number z) h = tt
 to_item P (Range from to) h = tt
 to_item P (Truth b) h = tt
 
-first_part : {A : Type 0} (P : A → Type 0) (xs ys : List A) → AllByRecursion P (xs ++ ys) → AllByRecursion P xs
-first_part P [] ys h = tt
-first_part P (x ∷ xs) ys h = (h.0, first_part P xs ys h.1)
-
-second_part : {A : Type 0} (P : A → Type 0) (xs ys : List A) → AllByRecursion P (xs ++ ys) → AllByRecursion P ys
-second_part P [] ys h = h
-second_part P (x ∷ xs) ys h = second_part P xs ys h.1
-
 pub halves : {A : Type 0} (P : A → Type 0) (xs ys : List A) → AllByRecursion P (xs ++ ys) → AllByRecursion P xs × AllByRecursion P ys
-halves P xs ys h = (first_part P xs ys h, second_part P xs ys h)
+halves P xs ys h = (each_front P xs ys h, each_back P xs ys h)
 
 to_flat : {A : Type 0} (P : Count → Type 0) (f : A → List Count) (xs : List A) → AllByRecursion P (flat_map f xs) → AllByRecursion (λ x. AllByRecursion P (f x)) xs
 to_flat P f [] h = tt
-to_flat P f (x ∷ xs) h = (first_part P (f x) (flat_map f xs) h, to_flat P f xs (second_part P (f x) (flat_map f xs) h))
-
-each_to : {A : Type 0} (P Q : A → Type 0) (xs : List A) → ((x : A) → P x → Q x) → AllByRecursion P xs → AllByRecursion Q xs
-each_to P Q [] f h = tt
-each_to P Q (x ∷ xs) f h = (f x h.0, each_to P Q xs f h.1)
+to_flat P f (x ∷ xs) h = (each_front P (f x) (flat_map f xs) h, to_flat P f xs (each_back P (f x) (flat_map f xs) h))
 
 pub of_domains : (P : Count → Type 0) (ds : List NamedDomain) → OfNames (Lined P) ds → AllByRecursion P (domain_lines ds)
 of_domains P ds h =
     each_flat P (λ x. flat_map item_lines x.domain) ds
-    (each_to (λ x. AllByRecursion (OfName (Lined P)) x.domain) (λ x. AllByRecursion P (flat_map item_lines x.domain)) ds
-    (λ x k. each_flat P item_lines x.domain (each_to (OfName (Lined P)) (λ i. AllByRecursion P (item_lines i)) x.domain (of_item P) k)) h)
+    (each_weaker (λ x. AllByRecursion (OfName (Lined P)) x.domain) (λ x. AllByRecursion P (flat_map item_lines x.domain)) ds
+    (λ x k. each_flat P item_lines x.domain (each_weaker (OfName (Lined P)) (λ i. AllByRecursion P (item_lines i)) x.domain (of_item P) k)) h)
 
 pub to_domains : (P : Count → Type 0) (ds : List NamedDomain) → AllByRecursion P (domain_lines ds) → OfNames (Lined P) ds
 to_domains P ds h =
-    each_to (λ x. AllByRecursion P (flat_map item_lines x.domain)) (λ x. AllByRecursion (OfName (Lined P)) x.domain) ds
-    (λ x k. each_to (λ i. AllByRecursion P (item_lines i)) (OfName (Lined P)) x.domain (to_item P) (to_flat P item_lines x.domain k))
+    each_weaker (λ x. AllByRecursion P (flat_map item_lines x.domain)) (λ x. AllByRecursion (OfName (Lined P)) x.domain) ds
+    (λ x k. each_weaker (λ i. AllByRecursion P (item_lines i)) (OfName (Lined P)) x.domain (to_item P) (to_flat P item_lines x.domain k))
     (to_flat P (λ x. flat_map item_lines x.domain) ds h)
 
 pub names_so : (P Q : List ℕ → Type 0) (ds : List NamedDomain) → ((n : List ℕ) → P n → Q n) → OfNames P ds → OfNames Q ds
-names_so P Q ds f h = each_to (λ x. AllByRecursion (OfName P) x.domain) (λ x. AllByRecursion (OfName Q) x.domain) ds (λ x k. each_to (OfName P) (OfName Q) x.domain one k) h
+names_so P Q ds f h = each_weaker (λ x. AllByRecursion (OfName P) x.domain) (λ x. AllByRecursion (OfName Q) x.domain) ds (λ x k. each_weaker (OfName P) (OfName Q) x.domain one k) h
   where
     one : (i : Item) → OfName P i → OfName Q i
     one (Name n) p = f n p

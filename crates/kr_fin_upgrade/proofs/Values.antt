@@ -18,6 +18,7 @@ use Rattle.kr_fin.specs.declared.document.FinDoc.{FinDoc}
 use Rattle.kr_fin.specs.declared.document.NamedDomain.{NamedDomain}
 use Rattle.kr_fin.specs.declared.document.Item.{Item}
 use Rattle.kr_fin.specs.declared.document.Item.TheVariants.{Number, Range, Truth, Name}
+use Rattle.kr_space_meaning.proofs.Each.{each_weaker}
 use Rattle.kr_space_meaning.specs.Names.{Meant, NoReference, class_meant, class_of, meant}
 use Rattle.kr_space_meaning.specs.Bounds.{Setting, array_class_domain, array_spots, domains_of, elements_key, field_key, field_spots, field_values, given, item_values, lengths_in, lengths_of, meant_values, object_domain, parameter_key, parameter_values, problem_in, root_domain, root_number, root_of, tested_parameters, values_given, values_of, values_with, width_for}
 use Rattle.kr_space_meaning.specs.Keys.{field_type, instance_alone, method_at, parameter_type, parameters_of}
@@ -45,10 +46,6 @@ flat_same f g (x ∷ xs) h = ap (λ ys. ys ++ flat_map f xs) h.0 ∙ ap (λ ys. 
 pub each_is : {A : Type 0} (P : A → Type 0) (xs : List A) → ((x : A) → P x) → AllByRecursion P xs
 each_is P [] f = tt
 each_is P (x ∷ xs) f = (f x, each_is P xs f)
-
-pub each_so : {A : Type 0} (P Q : A → Type 0) (xs : List A) → ((x : A) → P x → Q x) → AllByRecursion P xs → AllByRecursion Q xs
-each_so P Q [] f h = tt
-each_so P Q (x ∷ xs) f h = (f x h.0, each_so P Q xs f h.1)
 
 -- a name stands for objects of the same class
 abbrev pub SameName : Table → List Count → FinDoc → List ℕ → Type 0
@@ -94,7 +91,7 @@ module _ (table : Table) (types : List JavaType) (objects : List (ℕ × Count))
   item_same w (Truth b) h = refl
 
   with_same : (w : Width) (items : List Item) → SameItems table cs d items → values_with new w items ≡ values_with old w items
-  with_same w items h = flat_same (item_values new w) (item_values old w) items (each_so (SameItem table cs d) (λ i. item_values new w i ≡ item_values old w i) items (item_same w) h)
+  with_same w items h = flat_same (item_values new w) (item_values old w) items (each_weaker (SameItem table cs d) (λ i. item_values new w i ≡ item_values old w i) items (item_same w) h)
 
   pub values_same : (t : Option JavaType) (items : List Item) → SameItems table cs d items → values_of new t items ≡ values_of old t items
   values_same t items h = with_same (width_for t) items h
@@ -146,7 +143,7 @@ module _ (table : Table) (types : List JavaType) (objects : List (ℕ × Count))
     domains_same =
         ap (λ (xs : List ClassDomain). xs ++ map (array_class_domain new) arrays) (map_same (object_domain new) (object_domain old) objects (each_is (λ o. object_domain new o ≡ object_domain old o) objects object_same))
         ∙ ap (λ (ys : List ClassDomain). map (object_domain old) objects ++ ys)
-        (map_same (array_class_domain new) (array_class_domain old) arrays (each_so (λ a. SameItems table cs d a.1.lengths) (λ a. array_class_domain new a ≡ array_class_domain old a) arrays array_same same.bounded))
+        (map_same (array_class_domain new) (array_class_domain old) arrays (each_weaker (λ a. SameItems table cs d a.1.lengths) (λ a. array_class_domain new a ≡ array_class_domain old a) arrays array_same same.bounded))
 
     root_domain_same : root_domain new ≡ root_domain old
     unfolding root_domain

@@ -27,7 +27,7 @@ heap_long problem v = length-map (all_objects problem) (heap_object problem v)
 -- the state of a start, by its parts
 module _ (problem : Problem) (v : List ℕ) where
   abbrev state : Value → List Local → List Old → List HeapObject → ℕ → ℕ → State
-  state this locals olds heap candidates fuel = record { this_value = this; locals = locals; result = None; olds = olds; heap = heap; candidates = candidates; fuel = fuel }
+  state this locals olds heap candidates fuel = record { this_value = this; locals = locals; result = None; olds = olds; thrown = None; heap = heap; candidates = candidates; fuel = fuel }
 
   pub begins : {this : Value} {locals : List Local} {olds : List Old} {heap : List HeapObject} {candidates fuel : ℕ} → this ≡ value_at problem v 0 → locals ≡ parameters_from 0 (parameter_values problem v) → olds ≡ []
       → heap ≡ heap_of problem v → candidates ≡ length (all_objects problem) → fuel ≡ problem.fuel → state this locals olds heap candidates fuel ≡ start problem v

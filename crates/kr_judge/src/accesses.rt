@@ -1,13 +1,6 @@
 // The order of slots of the last run: of it the next run keeps what both have read from the start.
 ghost use Rattle.std.specs.Prelude.{◌≡◌, ◌<◌, ◌≤◌, ◌^◌, ◌++◌, ◌⊎◌, [], OnOk, List, ℕ, flat_map, if◌then◌else◌, length, map, reverse, take, true};
-ghost use Rattle.kr_mean.specs.Heaps.{walk};
-ghost use Rattle.kr_mean.specs.Places.{SlotPlace as Place};
-ghost use Rattle.kr_mean.specs.Problem.{slots};
-ghost use Rattle.kr_mean.specs.Runs.{is_accepted, slots_for};
-ghost use Rattle.kr_mean.specs.Space.{IsVector, space_of};
-ghost use Rattle.kr_mean.specs.WellFormed.{IsWellFormed};
-ghost use Rattle.kr_space_layout.specs.Bounds.{bare};
-ghost use Rattle.kr_mean.specs.Places.{place_of};
+ghost use Rattle.kr_judge.specs.Vocabulary.{bare, is_accepted, IsVector, IsWellFormed, Place, place_of, slots, slots_for, space_of, walk};
 ghost use Rattle.kr_judge.specs.Follows.{AreOf, Follow, HaveCome, place_in};
 ghost use Rattle.kr_judge.specs.Orders.{with_slots};
 ghost use Rattle.kr_judge.specs.Runs.{end_said};

@@ -1,11 +1,8 @@
 // Conditions, each looked at only where those before it hold.
 ghost use Rattle.std.specs.Prelude.{map};
-ghost use Rattle.kr_code.specs.Resolved.{Numbering, IsCodeOf};
 ghost use Rattle.kr_judge.specs.Judged.{HoldsAs, MeansAs, hold_at};
 ghost use Rattle.kr_judge.specs.One.{OneAs};
-ghost use Rattle.kr_mean.specs.Program.{Program};
-ghost use Rattle.kr_mean.specs.Runs.{hold_all as hold_all_step};
-ghost use Rattle.kr_run_state.specs.Worlds.{state_of};
+ghost use Rattle.kr_judge.specs.Vocabulary.{hold_all_step, IsCodeOf, Numbering, Program, state_of};
 
 use kr_base::Permit;
 use kr_code::Code;

@@ -1,13 +1,6 @@
 // Judging a candidate: how its run ends, and the slots that decide it.
 ghost use Rattle.std.specs.Prelude.{◌≡◌, ◌<◌, ◌+◌, ◌^◌, [], IfOk, OnOk, flat_map, if◌then◌else◌, length};
-ghost use Rattle.kr_code.specs.Resolved.{Numbering};
-ghost use Rattle.kr_mean.specs.Problem.{slots};
-ghost use Rattle.kr_mean.specs.Program.{Program};
-ghost use Rattle.kr_mean.specs.Runs.{end_on, is_accepted, order_of, slots_for};
-ghost use Rattle.kr_mean.specs.Heaps.{walk};
-ghost use Rattle.kr_mean.specs.Space.{IsVector, space_of};
-ghost use Rattle.kr_mean.specs.WellFormed.{IsWellFormed};
-ghost use Rattle.kr_space_layout.specs.Bounds.{bare, problem_with};
+ghost use Rattle.kr_judge.specs.Vocabulary.{bare, end_on, is_accepted, IsVector, IsWellFormed, Numbering, order_of, problem_with, Program, slots, slots_for, space_of, walk};
 ghost use Rattle.kr_judge.specs.Orders.{with_slots};
 ghost use Rattle.kr_judge.specs.Predicates.{IsPredicateOf};
 ghost use Rattle.kr_judge.specs.Runs.{end_said};

@@ -1,15 +1,7 @@
 // The slots of places.
 ghost use Rattle.std.specs.Prelude.{◌≡◌, ◌<◌, ◌≤◌, ◌^◌, ℕ, MatchOption, length, option_to_list};
-ghost use Rattle.kr_iso.specs.Objects.{object_of};
 ghost use Rattle.kr_judge.specs.Columns.{HasNone, spot_at};
-ghost use Rattle.kr_mean.specs.Problem.{domain_at, heap_number, slots};
-ghost use Rattle.kr_mean.specs.Runs.{slots_for};
-ghost use Rattle.kr_mean.specs.Places.{At, Parameter};
-ghost use Rattle.kr_value.specs.declared.object.Class.TheVariants.{Array};
-ghost use Rattle.kr_value.specs.declared.object.Spot.TheVariants.{Field};
-ghost use Rattle.kr_mean.specs.WellFormed.{IsWellFormed};
-ghost use Rattle.kr_space_layout.specs.Bounds.{bare};
-ghost use Rattle.kr_mean.specs.Places.{place_of};
+ghost use Rattle.kr_judge.specs.Vocabulary.{Array, At, bare, domain_at, Field, heap_number, IsWellFormed, object_of, Parameter, place_of, slots, slots_for};
 
 use kr_iso::Object;
 use kr_space_layout::Layout;

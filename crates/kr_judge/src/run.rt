@@ -1,11 +1,6 @@
 // The run of the predicate on a candidate.
 ghost use Rattle.std.specs.Prelude.{◌≡◌, ◌<◌, ◌+◌, ◌^◌, IfOk, length};
-ghost use Rattle.kr_code.specs.Resolved.{Numbering};
-ghost use Rattle.kr_mean.specs.Problem.{slots};
-ghost use Rattle.kr_mean.specs.Program.{Program};
-ghost use Rattle.kr_mean.specs.Space.{IsVector, space_of};
-ghost use Rattle.kr_mean.specs.WellFormed.{IsWellFormed};
-ghost use Rattle.kr_space_layout.specs.Bounds.{bare, problem_with};
+ghost use Rattle.kr_judge.specs.Vocabulary.{bare, IsVector, IsWellFormed, Numbering, problem_with, Program, slots, space_of};
 ghost use Rattle.kr_judge.specs.Predicates.{IsPredicateOf};
 ghost use Rattle.kr_judge.specs.Runs.{IsRunOf};
 

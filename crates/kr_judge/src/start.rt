@@ -1,14 +1,6 @@
 // The world that a candidate's run begins in.
 ghost use Rattle.std.specs.Prelude.{◌≡◌, ◌<◌, ◌≤◌, ◌^◌, ◌∷◌, [], IfOk, OnOk, length, map};
-ghost use Rattle.kr_mean.specs.Places.{This};
-ghost use Rattle.kr_mean.specs.Problem.{slots};
-ghost use Rattle.kr_mean.specs.Heaps.{heap_of, value_at};
-ghost use Rattle.kr_mean.specs.Runs.{parameter_values, parameters_from, start};
-ghost use Rattle.kr_mean.specs.Space.{IsVector, space_of};
-ghost use Rattle.kr_mean.specs.WellFormed.{IsWellFormed};
-ghost use Rattle.kr_space_layout.specs.Bounds.{bare};
-ghost use Rattle.kr_run_state.specs.Shown.{local_of};
-ghost use Rattle.kr_run_state.specs.Worlds.{state_of};
+ghost use Rattle.kr_judge.specs.Vocabulary.{bare, heap_of, IsVector, IsWellFormed, local_of, parameter_values, parameters_from, slots, space_of, start, state_of, This, value_at};
 
 use kr_base::NoMemory;
 use kr_build::build;
@@ -26,6 +18,7 @@ pub fn blank_world(alloc: Global) -> World {
         locals: Vec::new(alloc),
         result: None,
         olds: Vec::new(alloc),
+        thrown: None,
         candidates: Heap::new(alloc),
         made: Heap::new(alloc),
         is_frozen: true,
@@ -102,6 +95,7 @@ pub(crate) fn world_of(
         locals,
         result: None,
         olds: Vec::new(alloc),
+        thrown: None,
         candidates,
         made: Heap::new(alloc),
         is_frozen,
@@ -130,6 +124,7 @@ pub fn begin(
     world.locals = parameters_of(alloc, layout, vector)?;
     world.result = None;
     world.olds.clear();
+    world.thrown = None;
     world.made.truncate(0);
     world.fuel = layout.fuel();
     world.reads.clear();

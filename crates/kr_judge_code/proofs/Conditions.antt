@@ -7,6 +7,7 @@ use Rattle.kr_laws_shapes.specs.Shapes.{AreContractLines}
 use Rattle.kr_mean.specs.Code as meaning
 use Rattle.kr_mean.specs.Program.{method_scope}
 use Rattle.kr_mean.specs.Runs.{conditions, rep_ok_node, requires_of, tested_method}
+use Rattle.kr_mean.specs.Verdicts.{olds_in, signals_from}
 use Rattle.kr_classes_names.specs.Types.{type_at}
 use Rattle.kr_types.specs.declared.program.Program.{Program}
 use Rattle.kr_space_problem.specs.declared.problem.Problem.{Problem}
@@ -20,16 +21,16 @@ use Rattle.kr_code_lowering.proofs.Numbers.{origin_behind}
 use Rattle.kr_code_members.specs.declared.nodes.MemberNodes.{MemberNodes}
 use Rattle.kr_code_members.specs.declared.nodes.MethodNode.{MethodNode}
 use Rattle.kr_code_members.specs.Nodes.{AreMemberNodes, IsMethodNode, table, run_program}
-use Rattle.kr_ast.specs.Tree.{Tree}
 use Rattle.kr_code.specs.declared.code.Code.{Code}
 use Rattle.kr_code.specs.Resolved.{IsMethod, Numbering}
 use Rattle.kr_code_lowering.proofs.Called.{there}
-use Rattle.kr_judge_prepared.specs.Tested.{IsCodeFor, IsContractOf, IsTestedBy, old_shown}
+use Rattle.kr_judge_prepared.specs.Tested.{IsCodeFor, IsContractOf, IsTestedBy, old_shown, signals_shown}
 use Rattle.kr_judge_prepared.specs.declared.contract.Contract.{Contract}
 use Rattle.kr_judge_prepared.specs.declared.contract.OldCode.{OldCode}
+use Rattle.kr_judge_prepared.specs.declared.contract.SignalCode.{SignalCode}
 use Rattle.kr_judge_prepared.specs.declared.contract.ProblemCode.{ProblemCode}
 use Rattle.kr_judge_code.specs.Lines.{ensured}
-use Rattle.kr_judge_code.specs.Olds.{AreAdded, olds_in}
+use Rattle.kr_judge_code.specs.Olds.{AreAdded}
 use Rattle.kr_judge_code.specs.Compiled.{HasMethods, IsCompiled, call_nodes, final_of}
 use Rattle.std.proofs.lemmas.Option.{get_or_from_slice_get, slice_get_read}
 
@@ -75,12 +76,12 @@ call_alone problem final is k e room old new none pushed =
 
 -- ---- the contract of the method under test
 
--- the method of a number, with its postconditions and their `\old`s
+-- the method of a number, with what is asked after its body
 pub contract_is : (problem : Problem) (k : ℕ) → k < length (all_methods (table problem.program)) → (lines : Site) (x : MethodNode) → IsMethodNode problem.program (method_numbered (table problem.program) k) x → lines.file ≡ x.file → lines.node ≡ x.contracts
-    → (final : Final) (code : Code) → HasMethods problem code → (none more : List ℕ) (few all : List OldCode) → none ≡ [] → few ≡ []
-    → AreAdded (numbering_of problem.program final) (ensured (method_scope (posed problem).program (method_numbered (table problem.program) k)) (items (tree_at problem.program lines))) none more few all
-    → (contract : Contract) → contract.method ≡ k → contract.olds.items ≡ all → contract.postconditions.items ≡ more → IsContractOf (posed problem).program code (numbering_of problem.program final) (method_numbered (table problem.program) k) contract
-contract_is problem k h lines x is file node final code methods none more few all no_conditions no_olds added contract number olds postconditions =
+    → (final : Final) (code : Code) → HasMethods problem code → (none contract : Contract) → none.method ≡ k → none.olds.items ≡ [] → none.postconditions.items ≡ [] → none.signals.items ≡ []
+    → AreAdded (numbering_of problem.program final) (method_scope (posed problem).program (method_numbered (table problem.program) k)) (items (tree_at problem.program lines)) none contract
+    → IsContractOf (posed problem).program code (numbering_of problem.program final) (method_numbered (table problem.program) k) contract
+contract_is problem k h lines x is file node final code methods none contract number no_olds no_conditions no_signals added =
     let p = problem.program in
     let m = method_numbered (table p) k in
     let n = numbering_of p final in
@@ -88,13 +89,16 @@ contract_is problem k h lines x is file node final code methods none more few al
     let same : items (tree_at p lines) ≡ m.contracts = lines_are p m x is lines file node in
     let body = there code.methods.items k (let e = methods in omega (arith, e, h)) in
     record {
-      method = subst (λ (j : ℕ). IsMethod code n m j) (sym number) (record { is = refl; body = body.0; there = body.1 });
+      method = subst (λ (j : ℕ). IsMethod code n m j) (sym (added.method ∙ number)) (record { is = refl; body = body.0; there = body.1 });
       olds =
-          ap (map (old_shown n)) olds ∙ (added.olds ∙ (ap (λ (os : List OldCode). map (old_shown n) os ++ flat_map olds_in (ensured scope (items (tree_at p lines)))) no_olds
-          ∙ ap (λ (ts : List Tree). flat_map olds_in (ensured scope ts)) same));
+          added.olds ∙ (ap (λ (os : List OldCode). map (old_shown n) os ++ flat_map (olds_in scope) (items (tree_at p lines))) no_olds
+          ∙ ap (flat_map (olds_in scope)) same);
       postconditions =
-          ap (map n.origin) postconditions ∙ (added.conditions ∙ (ap (λ (ks : List ℕ). map n.origin ks ++ ensured scope (items (tree_at p lines))) no_conditions
-          ∙ ap (λ (ts : List Tree). ensured scope ts) same));
+          added.postconditions ∙ (ap (λ (ks : List ℕ). map n.origin ks ++ ensured scope (items (tree_at p lines))) no_conditions
+          ∙ ap (ensured scope) same);
+      signals =
+          added.signals ∙ (ap (λ (cs : List SignalCode). signals_shown n 1 cs ++ signals_from scope (length cs + 1) (items (tree_at p lines))) no_signals
+          ∙ ap (signals_from scope 1) same);
     }
 
 -- a method is tested, or none

@@ -16,8 +16,8 @@ use Rattle.kr_code.specs.declared.expression.Expression.{Expression}
 use Rattle.kr_code.specs.declared.expression.Expression.TheVariants as expressions
 use Rattle.kr_code.specs.declared.statement.Statement.TheVariants as statements
 use Rattle.kr_code.specs.Resolved as resolved
-use Rattle.kr_code.specs.Resolved.{IsDeclarator, IsExpression, IsStatement, Numbering}
-use Rattle.kr_code.specs.Tables.{declarator_of, expression_of, node_at, statement_of}
+use Rattle.kr_code.specs.Resolved.{IsCatch, IsDeclarator, IsExpression, IsStatement, Numbering}
+use Rattle.kr_code.specs.Tables.{catch_of, declarator_of, expression_of, node_at, statement_of}
 use Rattle.kr_types.specs.declared.program.Program.{Program}
 use Rattle.kr_space_problem.specs.declared.problem.Problem.{Problem}
 use Rattle.kr_space_problem.specs.Posed.{posed}
@@ -27,7 +27,7 @@ use Rattle.kr_code_lowering.specs.Statements.{AreDeclared}
 use Rattle.kr_code_lowering.specs.Resolving.{AreNodes}
 use Rattle.kr_code_lowering.proofs.Numbers.{no_code, origin_behind}
 use Rattle.kr_judge_code.specs.Compiled.{CallsRepOk, call_nodes, final_of}
-use Rattle.kr_judge_code.proofs.Uncoded.{no_code_declarator, no_code_expression, no_code_statement}
+use Rattle.kr_judge_code.proofs.Uncoded.{no_code_catch, no_code_declarator, no_code_expression, no_code_statement}
 
 abbrev stuck : Node
 stuck = nodes.Expression expressions.Stuck
@@ -51,6 +51,11 @@ no_declarator : (xs : List Initialiser) (j : ℕ) → declarator_of (get_or (ini
 no_declarator [] j = refl
 no_declarator (x ∷ xs) zero = refl
 no_declarator (x ∷ xs) (suc j) = no_declarator xs j
+
+no_catch : (xs : List Initialiser) (j : ℕ) → catch_of (get_or (initial_nodes xs) j stuck) ≡ None
+no_catch [] j = refl
+no_catch (x ∷ xs) zero = refl
+no_catch (x ∷ xs) (suc j) = no_catch xs j
 
 -- ---- nodes by their numbers
 
@@ -116,6 +121,9 @@ module _ (problem : Problem) (names : List (List ℕ)) (linked : List ℕ) (file
   abbrev Declaring : meaning.Node → Node → Type 0
   Declaring o node = o.scope.declaring ≡ Locals → IsDeclarator n o.scope o.tree (declarator_of node)
 
+  abbrev Catching : meaning.Node → Node → Type 0
+  Catching o node = IsCatch n o.scope o.tree (catch_of node)
+
   expressed : (j : ℕ) → Expressed (get_or (call_nodes problem) j (nothing p)) (get_or behind j stuck)
   expressed zero = calls problem.arrays.items names linked (final_of problem names) code becomes (origin_there 1 call_fits)
   expressed (suc zero) = resolved.this nowhere
@@ -131,11 +139,19 @@ module _ (problem : Problem) (names : List (List ℕ)) (linked : List ℕ) (file
   declaring (suc zero) h = tt
   declaring (suc (suc j)) h = subst (λ (e : _). IsDeclarator n (nothing p).scope Nil e) (sym (no_declarator xs j)) tt
 
+  catching : (j : ℕ) → Catching (get_or (call_nodes problem) j (nothing p)) (get_or behind j stuck)
+  catching zero = tt
+  catching (suc zero) = tt
+  catching (suc (suc j)) = subst (λ (e : _). IsCatch n (nothing p).scope Nil e) (sym (no_catch xs j)) tt
+
   pub expressions_are : (i : ℕ) → Expressed (n.origin i) (node_at code i)
   expressions_are = by_number Expressed (λ i node e. (are i node e).expression (final_of problem names) code becomes) expressed (λ o h. resolved.other o.tree (no_code_expression o.tree h))
 
   declared_are : AreDeclared p (final_of problem names) code
-  declared_are = by_number Declaring (λ i node e. (are i node e).declarator (final_of problem names)) declaring (λ o h locals. no_code_declarator n o.scope o.tree h)
+  declared_are = record {
+    locals = by_number Declaring (λ i node e. (are i node e).declarator (final_of problem names)) declaring (λ o h locals. no_code_declarator n o.scope o.tree h);
+    catches = by_number Catching (λ i node e. (are i node e).caught (final_of problem names)) catching (λ o h. no_code_catch n o.scope o.tree h);
+  }
 
   pub statements_are : (i : ℕ) → Stated (n.origin i) (node_at code i)
   statements_are = by_number Stated (λ i node e. (are i node e).statement (final_of problem names) code becomes declared_are) stated (λ o h. resolved.other o.tree (no_code_statement o.tree h))

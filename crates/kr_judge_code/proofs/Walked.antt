@@ -1,5 +1,5 @@
 -- A walk over an expression with a list of nodes that wait, the next of them last.
-use Rattle.std.proofs.Common.{◌≡◌, refl, sym, ap, ◌∙◌, subst, ℕ, ◌+◌, ◌<◌, List, [], ◌∷◌, ◌++◌, map, append_assoc, append-nil, arith}
+use Rattle.std.proofs.Common.{◌≡◌, refl, sym, ap, ◌∙◌, subst, Bool, ℕ, ◌+◌, ◌<◌, List, [], ◌∷◌, ◌++◌, map, append_assoc, append-nil, arith}
 use Rattle.std.specs.Prelude.{flat_map, fold, option_to_list, reverse, sum, Option}
 use Rattle.std.specs.List.{AllByRecursion}
 use Rattle.std.proofs.lemmas.List.{map-append, reverse-append, reverse-reverse}
@@ -74,7 +74,7 @@ pub record IsWaiting (p : Program) (file first node : ℕ) : Type 0 where
   pub site : IsSite p (record { file = file; node = node; first = first })
   pub walked : IsWalked (node_tree p file node)
 
-module _ (p : Program) (is : IsProgram p) (at : Site) (here : IsSite p at) where
+module _ (q : Bool) (p : Program) (is : IsProgram p) (at : Site) (here : IsSite p at) where
   abbrev look : ℕ → Tree
   look = node_tree p at.file
 
@@ -88,24 +88,24 @@ module _ (p : Program) (is : IsProgram p) (at : Site) (here : IsSite p at) where
     waiting_from (j + 1) cs ps.1 w.1,
   )
 
-  olds_parts : (j : ℕ) (cs : List ℕ) → ArePartsFrom (arena_at p at).entries at.node j cs → olds_from (scope_at p at) (tree_at p at) j (map look cs) ≡ flat_map (olds_below p at.file) cs
+  olds_parts : (j : ℕ) (cs : List ℕ) → ArePartsFrom (arena_at p at).entries at.node j cs → olds_from q (scope_at p at) (tree_at p at) j (map look cs) ≡ flat_map (olds_below q p at.file) cs
   olds_parts j [] ps = refl
   olds_parts j (c ∷ cs) ps =
-      ap (λ (x : Scope). olds_under (running x) (look c) ++ olds_from (scope_at p at) (tree_at p at) (j + 1) (map look cs)) (sym (part_scope p is at here j c ps.0))
-      ∙ ap (λ (xs : List OldNode). olds_below p at.file c ++ xs) (olds_parts (j + 1) cs ps.1)
+      ap (λ (x : Scope). olds_under q (running x) (look c) ++ olds_from q (scope_at p at) (tree_at p at) (j + 1) (map look cs)) (sym (part_scope p is at here j c ps.0))
+      ∙ ap (λ (xs : List OldNode). olds_below q p at.file c ++ xs) (olds_parts (j + 1) cs ps.1)
 
   module _ (e : Entry) (entry : IsHere p at e) (walked : IsWalked (tree_at p at)) where
     parts_are : parts_of (tree_at p at) ≡ map look (parts e.node)
     parts_are = ap parts_of entry.tree ∙ parts_map (arena_at p at).text look e.place e.node
 
     pub parts_wait : AllByRecursion (IsWaiting p at.file at.first) (parts e.node)
-    parts_wait = waiting_from 0 (parts e.node) entry.parts (subst (λ (ts : List Tree). AllByRecursion IsWalked ts) parts_are (parted (scope_at p at) (tree_at p at) walked).walked)
+    parts_wait = waiting_from 0 (parts e.node) entry.parts (subst (λ (ts : List Tree). AllByRecursion IsWalked ts) parts_are (parted q (scope_at p at) (tree_at p at) walked).walked)
 
-    pub node_olds : olds_below p at.file at.node ≡ old_in (running (scope_at p at)) (tree_at p at) ++ flat_map (olds_below p at.file) (parts e.node)
+    pub node_olds : olds_below q p at.file at.node ≡ old_in q (running (scope_at p at)) (tree_at p at) ++ flat_map (olds_below q p at.file) (parts e.node)
     node_olds =
-        (parted (scope_at p at) (tree_at p at) walked).olds
-        ∙ (ap (λ (ts : List Tree). old_in (running (scope_at p at)) (tree_at p at) ++ olds_from (scope_at p at) (tree_at p at) 0 ts) parts_are
-        ∙ ap (λ (xs : List OldNode). old_in (running (scope_at p at)) (tree_at p at) ++ xs) (olds_parts 0 (parts e.node) entry.parts))
+        (parted q (scope_at p at) (tree_at p at) walked).olds
+        ∙ (ap (λ (ts : List Tree). old_in q (running (scope_at p at)) (tree_at p at) ++ olds_from q (scope_at p at) (tree_at p at) 0 ts) parts_are
+        ∙ ap (λ (xs : List OldNode). old_in q (running (scope_at p at)) (tree_at p at) ++ xs) (olds_parts 0 (parts e.node) entry.parts))
 
 -- ---- the walk
 
@@ -114,37 +114,37 @@ all_append P [] bs h k = k
 all_append P (a ∷ xs) bs h k = (h.0, all_append P xs bs h.1 k)
 
 -- those that were there, those that were found, and those below what waits, are all
-pub record IsOnWay (p : Program) (from : Site) (before olds : List OldCode) (waiting : List ℕ) : Type 0 where
+pub record IsOnWay (q : Bool) (p : Program) (from : Site) (before olds : List OldCode) (waiting : List ℕ) : Type 0 where
   pub stand : AllByRecursion (IsWaiting p from.file from.first) (reverse waiting)
-  pub found : (final : Final) → shown p final olds ++ flat_map (olds_below p from.file) (reverse waiting) ≡ shown p final before ++ olds_below p from.file from.node
+  pub found : (final : Final) → shown p final olds ++ flat_map (olds_below q p from.file) (reverse waiting) ≡ shown p final before ++ olds_below q p from.file from.node
 
-pub begun : (p : Program) (from : Site) → IsSite p from → IsWalked (tree_at p from) → (olds : List OldCode) (none waiting : List ℕ) → none ≡ [] → waiting ≡ none ++ from.node ∷ [] → IsOnWay p from olds olds waiting
-begun p from at walked olds none waiting empty pushed =
-    subst (λ (ns : List ℕ). IsOnWay p from olds olds ns) (sym (pushed ∙ ap (λ (ns : List ℕ). ns ++ from.node ∷ []) empty))
+pub begun : (q : Bool) (p : Program) (from : Site) → IsSite p from → IsWalked (tree_at p from) → (olds : List OldCode) (none waiting : List ℕ) → none ≡ [] → waiting ≡ none ++ from.node ∷ [] → IsOnWay q p from olds olds waiting
+begun q p from at walked olds none waiting empty pushed =
+    subst (λ (ns : List ℕ). IsOnWay q p from olds olds ns) (sym (pushed ∙ ap (λ (ns : List ℕ). ns ++ from.node ∷ []) empty))
     (record {
       stand = (record { site = at; walked = walked }, tt);
-      found = λ final. ap (λ (xs : List OldNode). shown p final olds ++ xs) (append-nil (olds_below p from.file from.node));
+      found = λ final. ap (λ (xs : List OldNode). shown p final olds ++ xs) (append-nil (olds_below q p from.file from.node));
     })
 
-module _ (p : Program) (is : IsProgram p) (from : Site) (before olds : List OldCode) (rest : List ℕ) (i : ℕ) (e : Entry) (way : IsOnWay p from before olds (rest ++ i ∷ [])) where
+module _ (q : Bool) (p : Program) (is : IsProgram p) (from : Site) (before olds : List OldCode) (rest : List ℕ) (i : ℕ) (e : Entry) (way : IsOnWay q p from before olds (rest ++ i ∷ [])) where
   next : IsWaiting p from.file from.first i × AllByRecursion (IsWaiting p from.file from.first) (reverse rest)
   next = subst (λ (ns : List ℕ). AllByRecursion (IsWaiting p from.file from.first) ns) (turned rest i) way.stand
 
   abbrev at : Site
   at = record from { node = i }
 
-  pub gone_on : IsHere p at e → (found : Option OldCode) → ((final : Final) → shown p final (option_to_list found) ≡ old_in (running (scope_at p at)) (tree_at p at)) → IsOnWay p from before (olds ++ option_to_list found) (rest ++ reverse (parts e.node))
+  pub gone_on : IsHere p at e → (found : Option OldCode) → ((final : Final) → shown p final (option_to_list found) ≡ old_in q (running (scope_at p at)) (tree_at p at)) → IsOnWay q p from before (olds ++ option_to_list found) (rest ++ reverse (parts e.node))
   gone_on here found is_old = record {
-    stand = subst (λ (ns : List ℕ). AllByRecursion (IsWaiting p from.file from.first) ns) (sym (turned_back rest (parts e.node))) (all_append (IsWaiting p from.file from.first) (parts e.node) (reverse rest) (parts_wait p is at next.0.site e here next.0.walked) next.1);
+    stand = subst (λ (ns : List ℕ). AllByRecursion (IsWaiting p from.file from.first) ns) (sym (turned_back rest (parts e.node))) (all_append (IsWaiting p from.file from.first) (parts e.node) (reverse rest) (parts_wait q p is at next.0.site e here next.0.walked) next.1);
     found = λ final.
         let old = shown p final olds in
         let one = shown p final (option_to_list found) in
-        let waits = flat_map (olds_below p from.file) (reverse rest) in
-        let deep = flat_map (olds_below p from.file) (parts e.node) in
-        let all : flat_map (olds_below p from.file) (reverse (rest ++ reverse (parts e.node))) ≡ deep ++ waits =
-        ap (flat_map (olds_below p from.file)) (turned_back rest (parts e.node)) ∙ flat_map-append (olds_below p from.file) (parts e.node) (reverse rest) in
-        let here_all : olds_below p from.file i ≡ one ++ deep = node_olds p is at next.0.site e here next.0.walked ∙ ap (λ (xs : List OldNode). xs ++ deep) (sym (is_old final)) in
-        let was : flat_map (olds_below p from.file) (reverse (rest ++ i ∷ [])) ≡ olds_below p from.file i ++ waits = ap (flat_map (olds_below p from.file)) (turned rest i) in
+        let waits = flat_map (olds_below q p from.file) (reverse rest) in
+        let deep = flat_map (olds_below q p from.file) (parts e.node) in
+        let all : flat_map (olds_below q p from.file) (reverse (rest ++ reverse (parts e.node))) ≡ deep ++ waits =
+        ap (flat_map (olds_below q p from.file)) (turned_back rest (parts e.node)) ∙ flat_map-append (olds_below q p from.file) (parts e.node) (reverse rest) in
+        let here_all : olds_below q p from.file i ≡ one ++ deep = node_olds q p is at next.0.site e here next.0.walked ∙ ap (λ (xs : List OldNode). xs ++ deep) (sym (is_old final)) in
+        let was : flat_map (olds_below q p from.file) (reverse (rest ++ i ∷ [])) ≡ olds_below q p from.file i ++ waits = ap (flat_map (olds_below q p from.file)) (turned rest i) in
         ap (λ (xs : List OldNode). shown p final (olds ++ option_to_list found) ++ xs) all
         ∙ (ap (λ (xs : List OldNode). xs ++ (deep ++ waits)) (map-append (old_shown (numbering_of p final)) olds (option_to_list found))
         ∙ (append_assoc old one (deep ++ waits)
@@ -152,13 +152,13 @@ module _ (p : Program) (is : IsProgram p) (from : Site) (before olds : List OldC
         ∙ way.found final)));
   }
 
-pub walked_on : (p : Program) → IsProgram p → (from : Site) (before olds olds' : List OldCode) (left left' rest ps : List ℕ) (i : ℕ) (e : Entry) → IsHere p (record from { node = i }) e → (found : Option OldCode)
-    → ((final : Final) → shown p final (option_to_list found) ≡ old_in (running (scope_at p (record from { node = i }))) (tree_at p (record from { node = i })))
-    → left ≡ rest ++ i ∷ [] → ps ≡ parts e.node → olds' ≡ olds ++ option_to_list found → left' ≡ rest ++ reverse ps → IsOnWay p from before olds left → IsOnWay p from before olds' left'
-walked_on p is from before olds olds' left left' rest ps i e here found is_old l q f m w =
-    subst (λ (os : List OldCode). IsOnWay p from before os left') (sym f)
-    (subst (λ (ns : List ℕ). IsOnWay p from before (olds ++ option_to_list found) ns) (sym (m ∙ ap (λ (ns : List ℕ). rest ++ reverse ns) q))
-    (gone_on p is from before olds rest i e (subst (λ (ns : List ℕ). IsOnWay p from before olds ns) l w) here found is_old))
+pub walked_on : (named : Bool) (p : Program) → IsProgram p → (from : Site) (before olds olds' : List OldCode) (left left' rest ps : List ℕ) (i : ℕ) (e : Entry) → IsHere p (record from { node = i }) e → (found : Option OldCode)
+    → ((final : Final) → shown p final (option_to_list found) ≡ old_in named (running (scope_at p (record from { node = i }))) (tree_at p (record from { node = i })))
+    → left ≡ rest ++ i ∷ [] → ps ≡ parts e.node → olds' ≡ olds ++ option_to_list found → left' ≡ rest ++ reverse ps → IsOnWay named p from before olds left → IsOnWay named p from before olds' left'
+walked_on named p is from before olds olds' left left' rest ps i e here found is_old l q f m w =
+    subst (λ (os : List OldCode). IsOnWay named p from before os left') (sym f)
+    (subst (λ (ns : List ℕ). IsOnWay named p from before (olds ++ option_to_list found) ns) (sym (m ∙ ap (λ (ns : List ℕ). rest ++ reverse ns) q))
+    (gone_on named p is from before olds rest i e (subst (λ (ns : List ℕ). IsOnWay named p from before olds ns) l w) here found is_old))
 
-pub next_waits : (p : Program) (from : Site) (before olds : List OldCode) (left rest : List ℕ) (i : ℕ) → left ≡ rest ++ i ∷ [] → IsOnWay p from before olds left → IsWaiting p from.file from.first i
-next_waits p from before olds left rest i l w = (subst (λ (ns : List ℕ). AllByRecursion (IsWaiting p from.file from.first) ns) (ap reverse l ∙ turned rest i) w.stand).0
+pub next_waits : (q : Bool) (p : Program) (from : Site) (before olds : List OldCode) (left rest : List ℕ) (i : ℕ) → left ≡ rest ++ i ∷ [] → IsOnWay q p from before olds left → IsWaiting p from.file from.first i
+next_waits q p from before olds left rest i l w = (subst (λ (ns : List ℕ). AllByRecursion (IsWaiting p from.file from.first) ns) (ap reverse l ∙ turned rest i) w.stand).0

@@ -41,7 +41,7 @@ module _ (problem : Problem) (names : List (List ℕ)) (files called all : List 
   compiled = record {
     names = names;
     is = record {
-      tables = tables_are problem.program problem.arrays.items (final_of problem names) t tabled code has methods (bodies ended);
+      tables = tables_are problem.program problem.arrays.items (final_of problem names) t tabled code has methods classes (bodies ended);
       expressions = expressions_are problem names linked files are count call.call call.calls more.added code split begun fits;
       statements = statements_are problem names linked files are count call.call call.calls more.added code split begun fits;
     };

@@ -1,3 +1,4 @@
+pub mod Compiled
 pub mod Lines
 pub mod Olds
-pub mod Compiled
+pub mod Vocabulary

@@ -1,9 +1,9 @@
 -- Between crates: the lines of a method's contract, and what they require and ensure.
-use Rattle.std.specs.Prelude.{◌≡◌, ℕ, ◌<◌, List, [], ◌∷◌, map, flat_map}
+use Rattle.std.specs.Prelude.{◌≡◌, ℕ, ◌<◌, List, ◌∷◌, map, flat_map}
 use Rattle.kr_ast.specs.Tree.{Tree}
 use Rattle.kr_classes_table.specs.Table.{items}
 use Rattle.kr_types_meaning.specs.Scopes.{Ensuring, Requiring, Scope, in_contract}
-use Rattle.kr_laws_shapes.specs.Shapes.{AreContractLines, IsContractLine, IsExpression}
+use Rattle.kr_laws_shapes.specs.Shapes.{AreContractLines, IsContractLine}
 use Rattle.kr_mean.specs.Code.{Node}
 use Rattle.kr_mean.specs.Runs.{ensured_in, required_in}
 use Rattle.kr_types.specs.declared.program.Program.{Program}
@@ -31,10 +31,3 @@ pub record IsLine (p : Program) (list : Site) (first next : ℕ) : Type 0 where
   pub lines : items (tree_at p list) ≡ tree_at p (record list { node = first }) ∷ items (tree_at p (record list { node = next }))
   pub one : IsContractLine (tree_at p (record list { node = first }))
   pub shape : AreContractLines (tree_at p (record list { node = next }))
-
--- the node of a postcondition on a line
-pub record IsPostcondition (p : Program) (line : Site) (node : ℕ) : Type 0 where
-  pub site : IsSite p (record line { node = node })
-  pub scope : scope_at p (record line { node = node }) ≡ in_contract Ensuring (scope_at p line)
-  pub ensured : ensured_in (tree_at p line) ≡ tree_at p (record line { node = node }) ∷ []
-  pub shape : IsExpression (tree_at p (record line { node = node }))

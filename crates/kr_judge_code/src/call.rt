@@ -1,10 +1,6 @@
 // The call of the root's `repOk`.
 ghost use Rattle.std.specs.Prelude.{◌<◌, ℕ, IfSome, codes, length};
-ghost use Rattle.kr_classes_table.specs.Table.{method_named};
-ghost use Rattle.kr_types.specs.Programs.{IsProgram};
-ghost use Rattle.kr_classes_members.specs.Rosters.{all_methods};
-ghost use Rattle.kr_code_members.specs.Nodes.{table};
-ghost use Rattle.kr_code_lowering.specs.Calls.{IsFound};
+ghost use Rattle.kr_judge_code.specs.Vocabulary.{all_methods, IsFound, IsProgram, method_named, table};
 ghost use Rattle.kr_judge_code.specs.Compiled.{CallsRepOk};
 
 use kr_classes_table::MethodId;

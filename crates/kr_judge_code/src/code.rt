@@ -1,10 +1,6 @@
 // The code of a problem's program.
 ghost use Rattle.std.specs.Prelude.{◌≤◌, IfOk, length};
-ghost use Rattle.kr_types.specs.Programs.{IsProgram};
-ghost use Rattle.kr_space_problem.specs.Posed.{IsPosed};
-ghost use Rattle.kr_space_problem.specs.Subjects.{IsSubject};
-ghost use Rattle.kr_code_lowering.specs.Numbered.{AreNumbers};
-ghost use Rattle.kr_code_lowering.specs.Origins.{coded_count, others_from};
+ghost use Rattle.kr_judge_code.specs.Vocabulary.{AreNumbers, coded_count, IsPosed, IsProgram, IsSubject, others_from};
 ghost use Rattle.kr_judge_code.specs.Compiled.{HasCall, IsCompiled};
 
 use crate::call::rep_ok_call;
@@ -82,6 +78,7 @@ pub(crate) fn code_of(
     let tables = Tables::read(
         alloc,
         &program.trees,
+        &table.heads,
         &table.members,
         &table.types,
         roster,
@@ -99,5 +96,6 @@ pub(crate) fn code_of(
         dispatch: tables.dispatch,
         instances: tables.instances,
         array_types: tables.array_types,
+        trap_classes: tables.trap_classes,
     })
 }

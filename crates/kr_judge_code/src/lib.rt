@@ -1,9 +1,9 @@
 //! The code of a problem: that of its whole program, with the call of the root's `repOk`, the nodes of its conditions, and the contract of the method under test.
 #![tactic(auto)]
 
+mod after_body;
 mod call;
 mod code;
-mod ensured;
 mod lines;
 mod olds;
 mod predicate;
@@ -12,6 +12,6 @@ mod required;
 mod root;
 mod tested;
 
-pub use ensured::add_ensured;
+pub use after_body::add_after_body;
 pub use problem::problem_code;
 pub use required::add_required;

@@ -1,12 +1,6 @@
 // The nodes of what has to hold.
 ghost use Rattle.std.specs.Prelude.{◌≡◌, ◌<◌, ◌++◌, IfOk, length, map};
-ghost use Rattle.kr_mean.specs.Runs.{conditions, requires_of, tested_method};
-ghost use Rattle.kr_classes_members.specs.Rosters.{all_methods, method_numbered};
-ghost use Rattle.kr_code_members.specs.Nodes.{AreMemberNodes, table};
-ghost use Rattle.kr_space_problem.specs.Posed.{IsPosed, posed};
-ghost use Rattle.kr_code_lowering.specs.Calls.{IsFound};
-ghost use Rattle.kr_code_lowering.specs.Numbered.{AreNumbers};
-ghost use Rattle.kr_code_lowering.specs.Origins.{Final, coded_count, numbering_of, others_from};
+ghost use Rattle.kr_judge_code.specs.Vocabulary.{all_methods, AreMemberNodes, AreNumbers, coded_count, conditions, Final, IsFound, IsPosed, method_numbered, numbering_of, others_from, posed, requires_of, table, tested_method};
 ghost use Rattle.kr_judge_code.specs.Compiled.{call_nodes};
 
 use crate::add_required;

@@ -1,9 +1,6 @@
 // The code of a problem.
 ghost use Rattle.std.specs.Prelude.{IfOk};
-ghost use Rattle.kr_space_problem.specs.Posed.{IsPosed, posed};
-ghost use Rattle.kr_space_problem.specs.Subjects.{IsSubject};
-ghost use Rattle.kr_code_lowering.specs.Numbered.{AreNumbers};
-ghost use Rattle.kr_judge_prepared.specs.Tested.{IsCodeFor};
+ghost use Rattle.kr_judge_code.specs.Vocabulary.{AreNumbers, IsCodeFor, IsPosed, IsSubject, posed};
 
 use crate::code::code_of;
 use crate::predicate::conditions;

@@ -1,13 +1,6 @@
 // The preconditions of a method.
 ghost use Rattle.std.specs.Prelude.{◌≡◌, ◌++◌, ◌∷◌, [], IfOk, map, option_to_list};
-ghost use Rattle.kr_classes_table.specs.Table.{items};
-ghost use Rattle.kr_types_meaning.specs.Scopes.{Scope};
-ghost use Rattle.kr_types_meaning.specs.Running.{running};
-ghost use Rattle.kr_laws_shapes.specs.Shapes.{AreContractLines};
-ghost use Rattle.kr_types.specs.Programs.{IsProgram};
-ghost use Rattle.kr_code_lowering.specs.Numbered.{AreNumbers};
-ghost use Rattle.kr_code_lowering.specs.Origins.{Final, numbering_of};
-ghost use Rattle.kr_code_lowering.specs.Sites.{IsSite, scope_at, tree_at};
+ghost use Rattle.kr_judge_code.specs.Vocabulary.{AreContractLines, AreNumbers, Final, IsProgram, IsSite, items, numbering_of, running, Scope, scope_at, tree_at};
 ghost use Rattle.kr_judge_code.specs.Lines.{required};
 
 use crate::lines::first_line;

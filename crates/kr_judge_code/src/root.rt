@@ -1,12 +1,6 @@
 // The methods that are run on the root.
 ghost use Rattle.std.specs.Prelude.{◌<◌, IfSome, codes, length};
-ghost use Rattle.kr_classes_table.specs.Table.{method_named};
-ghost use Rattle.kr_classes_members.specs.Rosters.{all_methods};
-ghost use Rattle.kr_mean.specs.Runs.{root_class, tested_method};
-ghost use Rattle.kr_code_members.specs.Nodes.{table};
-ghost use Rattle.kr_space_problem.specs.Posed.{posed};
-ghost use Rattle.kr_space_problem.specs.Subjects.{IsSubject};
-ghost use Rattle.kr_code_lowering.specs.Calls.{IsFound};
+ghost use Rattle.kr_judge_code.specs.Vocabulary.{all_methods, IsFound, IsSubject, method_named, posed, root_class, table, tested_method};
 
 use kr_classes_table::MethodId;
 use kr_space_problem::{Problem, Subject};

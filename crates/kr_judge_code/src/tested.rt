@@ -1,17 +1,9 @@
 // The contract of the method under test.
 ghost use Rattle.std.specs.Prelude.{◌<◌, IfOk, length};
-ghost use Rattle.kr_mean.specs.Runs.{tested_method};
-ghost use Rattle.kr_code.specs.declared.code.Code.{Code as CodeMade};
-ghost use Rattle.kr_classes_members.specs.Rosters.{all_methods, method_numbered};
-ghost use Rattle.kr_code_members.specs.Nodes.{AreMemberNodes, table};
-ghost use Rattle.kr_space_problem.specs.Posed.{IsPosed, posed};
-ghost use Rattle.kr_code_lowering.specs.Calls.{IsFound};
-ghost use Rattle.kr_code_lowering.specs.Numbered.{AreNumbers};
-ghost use Rattle.kr_code_lowering.specs.Origins.{Final, numbering_of};
-ghost use Rattle.kr_judge_prepared.specs.Tested.{IsContractOf, IsTestedBy};
+ghost use Rattle.kr_judge_code.specs.Vocabulary.{all_methods, AreMemberNodes, AreNumbers, CodeMade, Final, IsContractOf, IsFound, IsPosed, IsTestedBy, method_numbered, numbering_of, posed, table, tested_method};
 ghost use Rattle.kr_judge_code.specs.Compiled.{HasMethods};
 
-use crate::add_ensured;
+use crate::add_after_body;
 use kr_base::NoMemory;
 use kr_classes_table::MethodId;
 use kr_code_lowering::{NodeNumbers, Site};
@@ -37,21 +29,17 @@ fn contract_of(
     let program = &problem.program;
     let declared = members.methods[method as usize];
     let lines = Site::of(program, declared.file, declared.contracts);
-    let mut olds = Vec::new(alloc);
-    let mut postconditions = Vec::new(alloc);
-    add_ensured(
-        alloc,
-        program,
-        numbers,
-        lines,
-        &mut olds,
-        &mut postconditions,
-    )?;
-    Ok(Contract {
+    let olds = Vec::new(alloc);
+    let postconditions = Vec::new(alloc);
+    let signals = Vec::new(alloc);
+    let mut contract = Contract {
         method,
         olds,
         postconditions,
-    })
+        signals,
+    };
+    add_after_body(alloc, program, numbers, lines, &mut contract)?;
+    Ok(contract)
 }
 
 /// The contract of the method under test, where one is tested.

@@ -8,5 +8,5 @@ mod fields;
 mod prepared;
 
 pub use accepted::Accepted;
-pub use contract::{Contract, OldCode, ProblemCode};
+pub use contract::{Contract, OldCode, ProblemCode, SignalCode};
 pub use prepared::Prepared;

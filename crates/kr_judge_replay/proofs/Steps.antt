@@ -210,16 +210,17 @@ module _ (b : Bounds) (p : Predicate) (v : List ℕ) where
 
   pub awake : (w q : World) (h f : Heap) → HasStateOf w q → w.candidates ≡ h → length f ≡ length h → state_at w (Some f) ≡ state_of (woken q f)
   awake w q h f s same long =
-      ap (λ (t : Value). mk t (map local_of w.locals.items) w.result (map old_of w.olds.items) w.made w.fuel (length w.candidates)) (sym s.this)
-      ∙ (ap (λ (ls : List _). mk q.this (map local_of ls) w.result (map old_of w.olds.items) w.made w.fuel (length w.candidates)) (sym s.locals)
-      ∙ (ap (λ (t : Option Value). mk q.this (map local_of q.locals.items) t (map old_of w.olds.items) w.made w.fuel (length w.candidates)) (sym s.result)
-      ∙ (ap (λ (os : List _). mk q.this (map local_of q.locals.items) q.result (map old_of os) w.made w.fuel (length w.candidates)) (sym s.olds)
-      ∙ (ap (λ (t : Heap). mk q.this (map local_of q.locals.items) q.result (map old_of q.olds.items) t w.fuel (length w.candidates)) (sym s.made)
-      ∙ (ap (λ (t : ℕ). mk q.this (map local_of q.locals.items) q.result (map old_of q.olds.items) q.made t (length w.candidates)) (sym s.fuel)
-      ∙ ap (λ (t : ℕ). mk q.this (map local_of q.locals.items) q.result (map old_of q.olds.items) q.made q.fuel t) (ap length same ∙ sym long))))))
+      ap (λ (t : Value). mk t (map local_of w.locals.items) w.result (map old_of w.olds.items) w.thrown w.made w.fuel (length w.candidates)) (sym s.this)
+      ∙ (ap (λ (ls : List _). mk q.this (map local_of ls) w.result (map old_of w.olds.items) w.thrown w.made w.fuel (length w.candidates)) (sym s.locals)
+      ∙ (ap (λ (t : Option Value). mk q.this (map local_of q.locals.items) t (map old_of w.olds.items) w.thrown w.made w.fuel (length w.candidates)) (sym s.result)
+      ∙ (ap (λ (os : List _). mk q.this (map local_of q.locals.items) q.result (map old_of os) w.thrown w.made w.fuel (length w.candidates)) (sym s.olds)
+      ∙ (ap (λ (t : Option Value). mk q.this (map local_of q.locals.items) q.result (map old_of q.olds.items) t w.made w.fuel (length w.candidates)) (sym s.thrown)
+      ∙ (ap (λ (t : Heap). mk q.this (map local_of q.locals.items) q.result (map old_of q.olds.items) q.thrown t w.fuel (length w.candidates)) (sym s.made)
+      ∙ (ap (λ (t : ℕ). mk q.this (map local_of q.locals.items) q.result (map old_of q.olds.items) q.thrown q.made t (length w.candidates)) (sym s.fuel)
+      ∙ ap (λ (t : ℕ). mk q.this (map local_of q.locals.items) q.result (map old_of q.olds.items) q.thrown q.made q.fuel t) (ap length same ∙ sym long)))))))
     where
-      mk : Value → List Local → Option Value → List Old → Heap → ℕ → ℕ → State
-      mk this locals result olds made fuel n = record { this_value = this; locals = locals; result = result; olds = olds; heap = f ++ made; candidates = n; fuel = fuel }
+      mk : Value → List Local → Option Value → List Old → Option Value → Heap → ℕ → ℕ → State
+      mk this locals result olds thrown made fuel n = record { this_value = this; locals = locals; result = result; olds = olds; thrown = thrown; heap = f ++ made; candidates = n; fuel = fuel }
 
   -- a checkpoint of a run's position is kept
   pub keeps : (c : Check) (fs : List Frame) (w : World) → w.is_frozen ≡ true → GoesOn b p v c.condition fs (tasks.Act c.action) w → HasStateOf w c.world → GoOnAlike fs c.stack → c.count ≡ length w.reads → IsClosed w.reads → Kept b p v c
@@ -250,7 +251,7 @@ module _ (b : Bounds) (p : Predicate) (v : List ℕ) where
       go (Some u) j a d m = h u j (from_world w (heap_of (bare b) v) (heap_of (bare b) u) frozen same a) d m
 
   state_back : (w q : World) → HasStateOf w q → HasStateOf q w
-  state_back w q s = record { this = sym s.this; locals = sym s.locals; result = sym s.result; olds = sym s.olds; made = sym s.made; fuel = sym s.fuel }
+  state_back w q s = record { this = sym s.this; locals = sym s.locals; result = sym s.result; olds = sym s.olds; thrown = sym s.thrown; made = sym s.made; fuel = sym s.fuel }
 
   -- a run goes on from a checkpoint, with the places that it reads until then
   wakes : (c : Check) (reads : List SlotPlace) (fs : List Frame) (w : World) → IsVector (space_of (bare b)) v → Kept b p v c → Shares b p v reads c → w.reads ≡ take c.count reads → w.candidates ≡ heap_of (bare b) v → w.is_frozen ≡ true → GoOnAlike c.stack fs → HasStateOf c.world w → GoesOn b p v c.condition fs (tasks.Act c.action) w

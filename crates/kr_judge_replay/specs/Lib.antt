@@ -1,6 +1,7 @@
+pub mod Ascending
+pub mod Foretelling
+pub mod Going
 pub mod Kept
 pub mod Seen
-pub mod Going
-pub mod Ascending
 pub mod States
-pub mod Foretelling
+pub mod Vocabulary

@@ -8,5 +8,6 @@ pub record HasStateOf (w p : World) : Type 0 where
   pub locals : p.locals.items ≡ w.locals.items
   pub result : p.result ≡ w.result
   pub olds : p.olds.items ≡ w.olds.items
+  pub thrown : p.thrown ≡ w.thrown
   pub made : p.made ≡ w.made
   pub fuel : p.fuel ≡ w.fuel

@@ -11,7 +11,7 @@ use kr_heap::refill;
 use kr_judge::blank_world;
 use kr_run_frames::Stack;
 use kr_run_lookahead::ahead;
-use kr_run_state::{Action, World};
+use kr_run_state::{Action, Old, World};
 use kr_value::Value;
 use std::alloc::Global;
 
@@ -34,6 +34,18 @@ pub(crate) struct Foreseen {
     pub count: usize,
 }
 
+/// The values of `\old`s in place of others, in the room that is there. A predicate has none, so that nothing is copied.
+#[inline(always)]
+fn refill_olds(olds: &mut Vec<Old>, others: &[Old]) -> Result<(), NoMemory>
+    ensures { OnOk result (olds.new.items ≡ others.now) }
+{
+    if others.is_empty() {
+        olds.clear();
+        return Ok(());
+    }
+    refill(olds, others)
+}
+
 /// A world's state in place of another's but for what was made, in the room that is there; the candidates stay, and what was
 /// read.
 #[inline(always)]
@@ -46,9 +58,10 @@ fn resume_but_made(world: &mut World, other: &World) -> Result<(), NoMemory>
 {
     world.this = other.this;
     world.result = other.result;
+    world.thrown = other.thrown;
     world.fuel = other.fuel;
     refill(&mut world.locals, other.locals.as_slice())?;
-    refill(&mut world.olds, other.olds.as_slice())?;
+    refill_olds(&mut world.olds, other.olds.as_slice())?;
     Ok(())
 }
 

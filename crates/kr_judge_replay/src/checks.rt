@@ -2,10 +2,7 @@
 ghost use Rattle.std.specs.Prelude.{◌≡◌, ◌++◌, ◌∷◌, [], ◌<◌, ◌≤◌, ◌-◌, ℕ, IfOk, IfSome, OnOk, OnErr, length, take, true};
 ghost use Rattle.std.specs.List.{All};
 ghost use Rattle.std.proofs.Common.{get_or};
-ghost use Rattle.kr_mean.specs.Places.{At};
-ghost use Rattle.kr_value.specs.declared.object.Spot.TheVariants.{Element, Length};
-ghost use Rattle.kr_run_state.specs.Noting.{is_read};
-ghost use Rattle.kr_mean.specs.Places.{place_of};
+ghost use Rattle.kr_judge_replay.specs.Vocabulary.{At, Element, is_read, Length, place_of};
 ghost use Rattle.kr_judge_replay.specs.Kept.{IsClosed};
 ghost use Rattle.kr_judge_replay.specs.Ascending.{Ascend, HadRead};
 ghost use Rattle.kr_judge_replay.specs.Foretelling.{IsForeseen, ReadOn};

@@ -1,11 +1,6 @@
 // The candidates' heap, which stays from run to run.
 ghost use Rattle.std.specs.Prelude.{◌≡◌, ◌<◌, ◌≤◌, ◌^◌, OnOk, length, true};
-ghost use Rattle.kr_mean.specs.Heaps.{heap_of};
-ghost use Rattle.kr_mean.specs.Problem.{slots};
-ghost use Rattle.kr_mean.specs.Space.{IsVector, space_of};
-ghost use Rattle.kr_mean.specs.WellFormed.{IsWellFormed};
-ghost use Rattle.kr_space_layout.specs.Bounds.{bare};
-ghost use Rattle.kr_build.specs.Renewed.{IsSameBut};
+ghost use Rattle.kr_judge_replay.specs.Vocabulary.{bare, heap_of, IsSameBut, IsVector, IsWellFormed, slots, space_of};
 ghost use Rattle.kr_judge_replay.specs.Going.{IsHeapOf};
 
 use kr_base::NoMemory;

@@ -1,19 +1,7 @@
 // A run that goes on from its position, with a checkpoint before each first read.
 ghost use Rattle.std.specs.Prelude.{◌≡◌, ◌<◌, ◌≤◌, ◌^◌, ◌∷◌, [], ℕ, List, ◌+◌, IfOk, IfSome, MatchOption, None, OnOk, Some, false, length, slice_get, take, true};
 ghost use Rattle.std.specs.List.{All};
-ghost use Rattle.kr_code.specs.Resolved.{Numbering};
-ghost use Rattle.kr_mean.specs.Heaps.{heap_of};
-ghost use Rattle.kr_mean.specs.Places.{SlotPlace, This};
-ghost use Rattle.kr_mean.specs.Problem.{slots};
-ghost use Rattle.kr_mean.specs.Program.{Program};
-ghost use Rattle.kr_mean.specs.Runs.{slots_for, start};
-ghost use Rattle.kr_mean.specs.Space.{IsVector, space_of};
-ghost use Rattle.kr_mean.specs.WellFormed.{IsWellFormed};
-ghost use Rattle.kr_space_layout.specs.Bounds.{bare, problem_with};
-ghost use Rattle.kr_judge.specs.Follows.{Follow};
-ghost use Rattle.kr_judge.specs.Judged.{HoldsAs, hold_at};
-ghost use Rattle.kr_judge.specs.Predicates.{IsPredicateOf};
-ghost use Rattle.kr_build.specs.Renewed.{IsSameBut};
+ghost use Rattle.kr_judge_replay.specs.Vocabulary.{bare, Follow, heap_of, hold_at, HoldsAs, IsPredicateOf, IsSameBut, IsVector, IsWellFormed, Numbering, problem_with, Program, SlotPlace, slots, slots_for, space_of, start, This};
 ghost use Rattle.kr_judge_replay.specs.Foretelling.{Decides, IsForetold, ReadOn};
 ghost use Rattle.kr_judge_replay.specs.Going.{Alike, Gives, HasGone, IsHeld, IsLast, IsRunTo, Stays};
 ghost use Rattle.kr_judge_replay.specs.Kept.{AreShared, GoesOn, Kept, Shares};
@@ -22,7 +10,7 @@ use crate::checks::{Checks, Start};
 use crate::fresh::{refresh, restore};
 use crate::pauses::pause_of;
 use kr_base::{Countdown, NoMemory, Permit, Steps};
-use kr_judge::{Accesses, Predicate, begin};
+use kr_judge::{Accesses, Predicate, begin, release_made};
 use kr_mean::Stop;
 use kr_run::{Step, advance};
 use kr_run_frames::{Stack, Task};
@@ -303,7 +291,8 @@ fn foretell(
 }
 
 /// The run of a candidate, with checkpoints of the last run, in a world and on a stack whose room is used: how it ends, and
-/// the places that the world then has read. If the last run is known, `known` is its vector, and the world has its heap.
+/// the places that the world then has read. If the last run is known, `known` is its vector, and the world has its heap. Large
+/// room is given back.
 fn attempt(
     alloc: Global,
     input: Input<'_>,
@@ -365,6 +354,8 @@ fn attempt(
         world.is_frozen,
         &mut world.candidates,
     )?;
+    stack.release();
+    release_made(alloc, &mut world.made);
     Ok(Went { end, shared })
 }
 

@@ -1,22 +1,12 @@
 // The candidates of a problem, whose runs go on from before the first place that changed.
 ghost use Rattle.std.specs.Prelude.{◌≡◌, ◌<◌, ◌≤◌, ◌+◌, ◌^◌, false, take, IfOk, OnOk, length, replicate};
-ghost use Rattle.kr_code.specs.Resolved.{Numbering};
-ghost use Rattle.kr_mean.specs.Problem.{slots};
-ghost use Rattle.kr_mean.specs.Program.{Program};
-ghost use Rattle.kr_mean.specs.Runs.{contains_number, end_on, order_of};
-ghost use Rattle.kr_mean.specs.Space.{IsVector, space_of};
-ghost use Rattle.kr_mean.specs.WellFormed.{IsWellFormed};
-ghost use Rattle.kr_space_layout.specs.Bounds.{bare, problem_with};
-ghost use Rattle.kr_judge.specs.Predicates.{IsPredicateOf};
-ghost use Rattle.kr_judge.specs.Runs.{end_said};
-ghost use Rattle.kr_space_problem.specs.Posed.{posed};
-ghost use Rattle.kr_step.specs.Scans.{RunsOn, ending_of};
+ghost use Rattle.kr_judge_replay.specs.Vocabulary.{bare, contains_number, end_on, end_said, ending_of, IsPredicateOf, IsVector, IsWellFormed, Numbering, order_of, posed, problem_with, Program, RunsOn, slots, space_of};
 
 use crate::checks::Checks;
 use crate::going::{Input, Last, run};
 use kr_base::{NoMemory, Steps};
 use kr_iso::{Object, Slots};
-use kr_judge::{Accesses, Predicate, blank_world, release_made};
+use kr_judge::{Accesses, Predicate, blank_world};
 use kr_judge_prepared::Prepared;
 use kr_mean::Stop;
 use kr_run_frames::Stack;
@@ -192,8 +182,6 @@ impl<'s> Runner<'s> {
         self.fresh = self.accesses.order.len();
         self.low = u32::MAX;
         self.high = 0;
-        self.stack.release();
-        release_made(self.alloc, &mut self.world.made);
         Ok(went.end)
     }
 }

@@ -57,18 +57,18 @@ grown_files n [] [] g = tt
 grown_files n (bytes ∷ sources) (file ∷ files) g = (file_shape g.0.tokens file g.0.derived, grown_files (n + 1) sources files g.1)
 grown_files n _ _ g = absurd g
 
-program_files : (sources : List (List ℕ)) (files : List Tree) → AreProgram sources files → AreFiles files
+pub program_files : (sources : List (List ℕ)) (files : List Tree) → AreProgram sources files → AreFiles files
 program_files sources [] g = absurd g
 program_files sources (tree ∷ files) g = (subst AreClasses (sym g.0) predefined_shape, grown_files 0 sources files g.1)
 
 -- ---- the problem
 
 -- a document whose problem it is breaks no rule
-record IsPosed (files : List Tree) (document : FinDoc) (mode : Mode) (problem : Problem) : Type 0 where
-  unbroken : faults_of files document mode ≡ []
-  is : problem_of files document mode ≡ problem
+pub record IsPosed (files : List Tree) (document : FinDoc) (mode : Mode) (problem : Problem) : Type 0 where
+  pub unbroken : faults_of files document mode ≡ []
+  pub is : problem_of files document mode ≡ problem
 
-posed : (files : List Tree) (document : FinDoc) (mode : Mode) (problem : Problem) → meaning files document mode ≡ Ok problem → IsPosed files document mode problem
+pub posed : (files : List Tree) (document : FinDoc) (mode : Mode) (problem : Problem) → meaning files document mode ≡ Ok problem → IsPosed files document mode problem
 unfolding meaning
 posed files document mode problem e = go (least (faults_of files document mode)) refl e
   where
@@ -81,7 +81,7 @@ posed files document mode problem e = go (least (faults_of files document mode))
     go (Some f) n e = absurd (cc (e))
 
 -- its program is that of the files, with more array types
-program_is : (files : List Tree) (document : FinDoc) (mode : Mode) → (more : List JavaType) × ((problem_of files document mode).program ≡ program_with (table_of files) (array_types_of files ++ more))
+pub program_is : (files : List Tree) (document : FinDoc) (mode : Mode) → (more : List JavaType) × ((problem_of files document mode).program ≡ program_with (table_of files) (array_types_of files ++ more))
 unfolding problem_in setting_of
 program_is files document mode =
     let setting = setting_of files document in
@@ -129,6 +129,7 @@ module _ (sources : List (List ℕ)) (files : List Tree) (grown : AreProgram sou
         requires = λ olds m q. (of m q).requires olds;
         olds = λ m q. (of m q).olds;
         ensures = λ m q. (of m q).ensures;
+        signals = λ m q. (of m q).signals;
       }
 
 -- the method under test is one of the table
@@ -137,7 +138,7 @@ tested_is problem table Listing m e q = absurd (cc (q))
 tested_is problem table (Testing name) m e q = (root_class problem, name, ap (λ (t : Table). method_named t (root_class problem) name) (sym e) ∙ q)
 
 -- the root's objects are of the root's class
-root_at : (program : Program) (setting : Setting) (mode : Mode) (c d : ℕ) → root_of setting ≡ Some c → object_number 0 setting.objects setting.document.root c ≡ Some d → root_class (problem_in program setting mode) ≡ c
+pub root_at : (program : Program) (setting : Setting) (mode : Mode) (c d : ℕ) → root_of setting ≡ Some c → object_number 0 setting.objects setting.document.root c ≡ Some d → root_class (problem_in program setting mode) ≡ c
 unfolding problem_in
 root_at program setting mode c d e n =
     ap (λ (k : ℕ). class_number (get_or (domains_of setting) k no_objects).class) (root_domain_is setting c d e n)

@@ -15,7 +15,7 @@ use Rattle.kr_types_meaning.specs.declared.operators.OperatorKind.{OperatorKind}
 use Rattle.kr_types_meaning.specs.declared.operators.OperatorKind.TheVariants.{Arithmetic, Shift, Comparison, Equality, Bitwise, Logical}
 use Rattle.kr_types_meaning.specs.Scopes.{Scope, Meant, LocalName, FieldName, NoName, value, in_old, meant, method_meant, class_before, super_class}
 use Rattle.kr_types_meaning.specs.Promotion.{promoted, promoted_alone, is_number, are_numbers}
-use Rattle.kr_types_meaning.specs.Rules.{Typed, Value, Variable, Values, Untyped, Judgement, Fits, Breaks, ask, gives, variable_of, number_rule, this_rule, name_rule, unary_rule, operator_rule, choice_rule, cast_rule, instance_rule, written_rule, assignment_rule, compound_rule, step_rule, field_rule, access_rule, constant_rule, element_rule, result_rule, arguments_rule, call_rule, static_rule, above_rule, super_rule, collection_rule, method_rule, object_call_rule, creation_rule, array_creation_rule, result_value_rule, old_rule, is_code, is_statement, is_ensuring, is_under_minus, is_int, is_boolean, both_boolean, related_references, arguments_fit, is_variable, is_broken, creation_fits, of_promoted, kind_of, kind_rule}
+use Rattle.kr_types_meaning.specs.Rules.{Typed, Value, Variable, Values, Untyped, Judgement, Fits, Breaks, ask, gives, variable_of, number_rule, this_rule, name_rule, unary_rule, operator_rule, choice_rule, cast_rule, instance_rule, written_rule, assignment_rule, compound_rule, step_rule, field_rule, access_rule, constant_rule, element_rule, result_rule, arguments_rule, call_rule, static_rule, above_rule, super_rule, collection_rule, method_rule, object_call_rule, creation_rule, array_creation_rule, result_value_rule, old_rule, is_code, is_statement, is_ensuring, is_after_body, is_under_minus, is_int, is_boolean, both_boolean, related_references, arguments_fit, is_variable, is_broken, creation_fits, of_promoted, kind_of, kind_rule}
 use Rattle.kr_types_meaning.specs.Typing.{Judged, judge, on_one, on_list, field_of, method_of, operand, judged}
 use Rattle.kr_laws_types.specs.Types.{is_variable_type, is_result_type, is_value_type, AreVariables, HasVariables}
 use Rattle.kr_laws_types.specs.Shapes.{Expression, IsCode}
@@ -213,7 +213,7 @@ result_value : (s : Scope) → Gives (result_value_rule s)
 result_value s = asked (is_ensuring s.part && not (is_void s.result) && not s.is_in_old) 38 (gives s.result) (λ e. known_given s.result)
 
 old_value : (s : Scope) (t : JavaType) → is_open t ≡ false → Gives (old_rule s t)
-old_value s t f = asked (is_ensuring s.part && not s.is_in_old) 38 (Fits (Value t)) (λ e. f)
+old_value s t f = asked (is_after_body s.part && not s.is_in_old) 38 (Fits (Value t)) (λ e. f)
 
 field : (f : Option Field) → Gives (field_rule f)
 field None = tt

@@ -9,11 +9,11 @@ use Rattle.kr_classes_table.specs.Types.{JavaType, ArrayType, is_same}
 use Rattle.kr_classes_table.specs.Table.{Heading, items, headings_of, type_named}
 use Rattle.kr_classes_table.specs.Arrays.{arrays_in, arrays_named, is_listed, once, array_types_of, array_number_from, array_number}
 use Rattle.kr_types_meaning.specs.Scopes.{Scope, Declaring, Locals, Fields, Constants, in_old, bind_local, bind_as, declaring, after}
-use Rattle.kr_types_meaning.specs.Rules.{is_ensuring}
+use Rattle.kr_types_meaning.specs.Rules.{is_after_body}
 use Rattle.kr_laws_shapes.specs.Expressions.{Shaped}
 use Rattle.kr_laws_shapes.specs.Shapes as shapes
 use Rattle.kr_laws_shapes.specs.Shapes.{MayBeExpression, AreDeclarators, One, Several}
-use Rattle.kr_laws_types.specs.Shapes.{Sort, Expression, Expressions, Statement, Statements, Declarators, HasNumber, IsCode}
+use Rattle.kr_laws_types.specs.Shapes.{Sort, Expression, Expressions, Statement, Statements, Declarators, Catch, Catches, HasNumber, IsCode}
 use Rattle.kr_laws_types.specs.Expressions.{plain}
 use Rattle.kr_laws_runs.proofs.Respects.{AllOf, all_front, all_back}
 use Rattle.kr_laws_safety.proofs.Heaps.{same_type}
@@ -28,7 +28,7 @@ abbrev pub IsNumbered : List JavaType → List Heading → Tree → Type 0
 IsNumbered arrays hs (trees.ArrayCreation p t e) = HasNumber arrays (type_named hs t)
 IsNumbered arrays hs t = Unit {0}
 
-listed_front : (t : JavaType) (xs ys : List JavaType) → is_listed t xs ≡ true → is_listed t (xs ++ ys) ≡ true
+pub listed_front : (t : JavaType) (xs ys : List JavaType) → is_listed t xs ≡ true → is_listed t (xs ++ ys) ≡ true
 listed_front t [] ys h = absurd (cc (h))
 listed_front t (x ∷ xs) ys h = go (or_cases (is_same t x) (is_listed t xs) h) (listed_front t xs ys)
   where
@@ -36,12 +36,12 @@ listed_front t (x ∷ xs) ys h = go (or_cases (is_same t x) (is_listed t xs) h) 
     go (inl e) r = or_left (is_same t x) (is_listed t (xs ++ ys)) e
     go (inr e) r = or_right (is_same t x) (is_listed t (xs ++ ys)) (r e)
 
-listed_back : (t : JavaType) (xs ys : List JavaType) → is_listed t ys ≡ true → is_listed t (xs ++ ys) ≡ true
+pub listed_back : (t : JavaType) (xs ys : List JavaType) → is_listed t ys ≡ true → is_listed t (xs ++ ys) ≡ true
 listed_back t [] ys h = h
 listed_back t (x ∷ xs) ys h = or_right (is_same t x) (is_listed t (xs ++ ys)) (listed_back t xs ys h)
 
 -- a type among some occurs once, or was there before
-listed_once : (t : JavaType) (seen xs : List JavaType) → is_listed t xs ≡ true → (is_listed t (once seen xs) ≡ true) ⊎ (is_listed t seen ≡ true)
+pub listed_once : (t : JavaType) (seen xs : List JavaType) → is_listed t xs ≡ true → (is_listed t (once seen xs) ≡ true) ⊎ (is_listed t seen ≡ true)
 listed_once t seen [] h = absurd (cc (h))
 listed_once t seen (x ∷ xs) h = go (is_listed x seen) refl (or_cases (is_same t x) (is_listed t xs) h) (listed_once t seen xs) (listed_once t (x ∷ seen) xs)
   where
@@ -99,9 +99,9 @@ module _ (arrays : List JavaType) (olds : Olds) (hs : List Heading) where
   back : (xs ys : List Tree) → AllOf (IsNumbered arrays hs) (xs ++ ys) → AllOf (IsNumbered arrays hs) ys
   back xs ys h = all_back (IsNumbered arrays hs) xs ys h
 
-  -- a scope of the program, and of no postcondition
+  -- a scope of the program, and of no condition after a body
   abbrev pub IsPlain : Scope → Type 0
-  IsPlain s = (s.table.headings ≡ hs) × (is_ensuring s.part ≡ false)
+  IsPlain s = (s.table.headings ≡ hs) × (is_after_body s.part ≡ false)
 
   abbrev Shape : Sort → Tree → Type 0
   Shape (Expression m) e = Shaped false e
@@ -171,6 +171,8 @@ module _ (arrays : List JavaType) (olds : Olds) (hs : List Heading) where
   abbrev Of : shapes.Sort → Sort
   Of (One d) = Statement d
   Of Several = Statements
+  Of shapes.Catch = Catch
+  Of shapes.Catches = Catches
 
   pub statement_code : (sort : shapes.Sort) (s : Scope) (t : Tree) → IsPlain s → shapes.IsCode sort t → All t → IsCode arrays olds (Of sort) s t
   statement_code Several s trees.Nil k h a = tt
@@ -199,7 +201,14 @@ module _ (arrays : List JavaType) (olds : Olds) (hs : List Heading) where
         expression_code Expressions w u kw h.2 (back (nodes i ++ nodes c) (nodes u) f),
         statement_code (One false) w x kw h.3 (back (nodes i ++ nodes c ++ nodes u) (nodes x) a.1),
       )
+  statement_code (One d) s (trees.Throw p e) k h a = expression_code (Expression false) s e k h a.1
+  statement_code (One d) s (trees.Try p x cs) k h a = (h.0, statement_code (One false) s x k h.1 (front (nodes x) (nodes cs) a.1), statement_code shapes.Catches s cs k h.2 (back (nodes x) (nodes cs) a.1))
   statement_code (One d) s _ k h a = absurd h
+  statement_code shapes.Catch s (trees.Catch p d x) k h a = (h.0, statement_code (One false) (after s d) x (after_plain s d k) h.1 (back (nodes d) (nodes x) a.1))
+  statement_code shapes.Catch s _ k h a = absurd h
+  statement_code shapes.Catches s trees.Nil k h a = tt
+  statement_code shapes.Catches s (trees.Cons x y) k h a = (statement_code shapes.Catch s x k h.0 (front (nodes x) (nodes y) a), statement_code shapes.Catches s y k h.1 (back (nodes x) (nodes y) a))
+  statement_code shapes.Catches s _ k h a = absurd h
 
   -- those of a body
   pub body_code : (s : Scope) (b : Tree) → IsPlain s → shapes.IsCode Several b → All b → AreStatements arrays olds s (items b)

@@ -6,29 +6,32 @@ use Rattle.kr_base.specs.declared.place.Place.{Place}
 use Rattle.kr_ast.specs.Tree as trees
 use Rattle.kr_ast.specs.Tree.{Tree}
 use Rattle.kr_classes_table.specs.Nodes.{nodes}
-use Rattle.kr_classes_table.specs.Types.{JavaType, BooleanType}
-use Rattle.kr_classes_table.specs.Table.{Heading, Table, Class, Method, items, headings_of, table_of, class_at, own_methods, line_of, method_named, methods_in, parameters_in, type_named}
+use Rattle.kr_classes_table.specs.Types.{JavaType, BooleanType, ClassType, UnknownType}
+use Rattle.kr_classes_table.specs.Table.{Heading, Table, Class, Method, items, headings_of, table_of, class_at, own_methods, line_of, method_named, methods_in, parameters_in, class_or, class_named, type_named}
 use Rattle.kr_classes_table.specs.Arrays.{array_types_of}
 use Rattle.kr_classes_table.specs.Rules.{class_fault}
-use Rattle.kr_types_meaning.specs.Scopes.{Scope, Requiring, Ensuring, AsValue, written, after, static_if, in_contract, in_old}
-use Rattle.kr_types_meaning.specs.Rules.{Typed, Fits, ask, fine, contract_rule, is_boolean}
+use Rattle.kr_types_meaning.specs.Scopes.{Scope, Requiring, Ensuring, AsValue, written, caught_type, after, static_if, in_contract, in_signals, in_old}
+use Rattle.kr_types_meaning.specs.Rules.{Typed, Untyped, Value, Variable, Values, Judgement, Fits, Breaks, ask, fine, is_code, contract_rule, caught_rule, then_rule, parameter_rule, is_boolean}
+use Rattle.kr_types_meaning.specs.Laws.{IsClassName}
 use Rattle.kr_types_meaning.specs.Typing.{judge, on_one, judged, type_in, IsWellTyped}
-use Rattle.kr_laws_shapes.specs.Shapes.{IsContractLine, AreContractLines, IsMember}
-use Rattle.kr_laws_types.specs.Types.{HasVariables}
+use Rattle.kr_laws_shapes.specs.Shapes.{IsSignalled, IsContractLine, AreContractLines, IsMember}
+use Rattle.kr_laws_shapes.specs.Expressions.{Shaped, IsWritten}
+use Rattle.kr_laws_types.specs.Types.{is_variable_type, HasVariables}
 use Rattle.kr_laws_types.specs.Shapes.{Expression, IsCode}
 use Rattle.kr_laws_types.specs.Expressions.{plain}
-use Rattle.kr_laws_types.proofs.Expressions.{is_typed}
+use Rattle.kr_laws_types.proofs.Expressions.{is_typed, written_variable}
 use Rattle.kr_mean.specs.Program.{Program, program_with, class_scope, method_scope, parameter_local}
 use Rattle.kr_mean.specs.Purity.{IsOneOf}
 use Rattle.kr_mean.specs.Code.{Node, code}
 use Rattle.kr_mean.specs.Runs.{required_in, ensured_in}
-use Rattle.kr_mean.specs.Verdicts.{OldNode, old_in, olds_of}
+use Rattle.kr_mean.specs.Verdicts.{OldNode, old_in, names_thrown, olds_among, olds_in, olds_of}
 use Rattle.kr_laws_runs.proofs.Respects.{AllOf, all_front, all_back, all_both}
 use Rattle.kr_laws_safety.specs.Triples.{type_of_old}
 use Rattle.kr_laws_safety.proofs.Heaps.{same_type}
 use Rattle.kr_laws_safety.specs.Typed.{Olds, IsTypedProgram}
-use Rattle.kr_laws_safety.specs.Tested.{IsCondition, AreConditions, type_or_none, old_types, IsOld, AreOldNodes}
+use Rattle.kr_laws_safety.specs.Tested.{IsCondition, AreConditions, AreSignals, type_or_none, old_types, IsOld, AreOldNodes}
 use Rattle.kr_laws_safety.proofs.Calls.{parameter_variables}
+use Rattle.kr_laws_safety.proofs.Operands.{written_is}
 use Rattle.kr_laws_safety.proofs.Glue.{kept, on_type}
 use Rattle.kr_laws_never_stuck.specs.Apart.{nodes_at}
 use Rattle.kr_laws_never_stuck.proofs.Declared.{one_part, found_one, no_more}
@@ -40,7 +43,7 @@ use Rattle.kr_laws_never_stuck.specs.TypedContracts.{HasContract, ContractsLaw}
 use Rattle.kr_laws_never_stuck.proofs.Closed.{IsNamed}
 use Rattle.kr_laws_never_stuck.proofs.Walks.{OldGood, GoodOld, GoodNode, KnownOld, KnownNode, Numbered, ensuring_code, old_nodes}
 use Rattle.kr_laws_never_stuck.proofs.Parts.{IsPart, IsIn, part_all, part_less, nodes_append, members_in}
-use Rattle.kr_laws_never_stuck.proofs.Found.{olds_at, olds_append, type_found, olds_in, count_is, fewer}
+use Rattle.kr_laws_never_stuck.proofs.Found.{olds_at, olds_append, type_found, count_is, fewer}
 use Rattle.kr_laws_runs.proofs.Overriders.{one_front, one_back}
 use Rattle.kr_laws_types.proofs.Typed.{below_none}
 use Rattle.kr_base.proofs.ListLemmas.{append_is_nil}
@@ -56,6 +59,7 @@ pub record IsLine (arrays : List JavaType) (hs : List Heading) (M : Scope) (line
 line_after : (s : Scope) (line : Tree) → IsContractLine line → after s line ≡ s
 line_after s (trees.Requires p e) h = refl
 line_after s (trees.Ensures p e) h = refl
+line_after s (trees.Signals p d e) h = refl
 line_after s _ h = absurd h
 
 lines_good : (arrays : List JavaType) (hs : List Heading) (s : Scope) (cs : Tree) → AreContractLines cs → (judged s cs).faults ≡ [] → Numbered arrays hs cs → AllOf (IsLine arrays hs s) (items cs)
@@ -78,6 +82,41 @@ unfolding L
 lines_fewer p (trees.Cons x y) = omega (arith, nodes_append p (nodes x) (nodes y), lines_fewer p y)
 lines_fewer p _ = omega arith
 
+-- ---- classes
+
+-- a class's name that is known names a class
+class_written : (s : Scope) (t : Tree) → IsClassName t → (judged s t).faults ≡ [] → (c : ℕ) × (written s t ≡ ClassType c)
+class_written s t h f = go t h (subst (λ (z : JavaType). is_variable_type z ≡ true) (written_is s t v.0 (is_written t h) v.1) v.2)
+  where
+    is_written : (t : Tree) → IsClassName t → IsWritten t
+    is_written (trees.NamedType p n) h = tt
+    is_written (trees.QualifiedType p o n) h = tt
+    is_written _ h = absurd h
+
+    v : (u : JavaType) × (type_in (judged s t).typed ≡ Some u) × (is_variable_type u ≡ true)
+    v = written_variable s t (is_written t h) f
+
+    named : (x : Option ℕ) (o n : List ℕ) → is_variable_type (class_or x (UnknownType o n)) ≡ true → (c : ℕ) × (class_or x (UnknownType o n) ≡ ClassType c)
+    named (Some c) o n e = (c, refl)
+    named None o n e = absurd (cc (e))
+
+    go : (t : Tree) → IsClassName t → is_variable_type (written s t) ≡ true → (c : ℕ) × (written s t ≡ ClassType c)
+    go (trees.NamedType p n) h e = named (class_named s.table.headings (trees.NamedType p n)) [] n e
+    go (trees.QualifiedType p o n) h e = named (class_named s.table.headings (trees.QualifiedType p o n)) o n e
+    go _ h e = absurd h
+
+-- two rules one after the other
+then_kept : (v w : Judgement) (x : Typed) → then_rule v w ≡ Fits x → (y : Typed) × (v ≡ Fits y)
+then_kept (Fits y) w x e = (y, refl)
+then_kept (Breaks r) w x e = absurd (cc (e))
+
+-- of a condition, if it has a type
+first_kept : (f : JavaType → Judgement) (w : Judgement) (t x : Typed) → on_one (λ a. then_rule (f a) w) t ≡ Fits x → (y : Typed) × (on_one f t ≡ Fits y)
+first_kept f w (Value a) x e = then_kept (f a) w x e
+first_kept f w (Variable a) x e = then_kept (f a) w x e
+first_kept f w (Values ts) x e = (Untyped, refl)
+first_kept f w Untyped x e = (Untyped, refl)
+
 -- ---- the conditions of a method
 
 module _ (program : Program) (hs : List Heading) (m : Method) (table : program.table.headings ≡ hs) (named : IsNamed (method_scope program m)) where
@@ -90,6 +129,30 @@ module _ (program : Program) (hs : List Heading) (m : Method) (table : program.t
   abbrev E : Scope
   E = in_contract Ensuring M
 
+  -- a scope in which a condition after the body is judged
+  record IsUnder (u : Scope) : Type 0 where
+    known : IsNamed u
+    headings : u.table.headings ≡ hs
+    code : is_code u.part ≡ false
+    plainly : plain u ≡ u
+
+  under : IsUnder E
+  under = record { known = named; headings = table; code = refl; plainly = refl }
+
+  -- the class that a `signals` names
+  declared_class : (d : Tree) → IsSignalled d → (judged M d).faults ≡ [] → (c : ℕ) × (caught_type M d ≡ ClassType c)
+  unfolding judged
+  declared_class (trees.Parameter p t n) h f = class_written M t h (below_none p (parameter_rule M n) (judged M t).faults f)
+  declared_class (trees.NamedType p n) h f = class_written M (trees.NamedType p n) tt f
+  declared_class (trees.QualifiedType p o n) h f = class_written M (trees.QualifiedType p o n) tt f
+  declared_class _ h f = absurd h
+
+  under_signals : (d : Tree) → IsSignalled d → (c : ℕ) → caught_type M d ≡ ClassType c → IsUnder (in_signals d M)
+  under_signals (trees.Parameter p t n) h c e = record { known = (named.0, (ap is_variable_type e, named.1), named.2); headings = table; code = refl; plainly = refl }
+  under_signals (trees.NamedType p n) h c e = record { known = named; headings = table; code = refl; plainly = refl }
+  under_signals (trees.QualifiedType p o n) h c e = record { known = named; headings = table; code = refl; plainly = refl }
+  under_signals _ h c e = absurd h
+
   abbrev Line : Tree → Type 0
   Line line = IsLine program.arrays hs M line
 
@@ -101,24 +164,40 @@ module _ (program : Program) (hs : List Heading) (m : Method) (table : program.t
       go false e = absurd (cc (e))
 
   -- a condition, from its line
-  is_condition : (olds : Olds) (p : Place) (s : Scope) (e : Tree) → IsNamed s → (judge p (on_one (contract_rule M) (judged s e).typed) (judged s e).faults).faults ≡ [] → IsCode program.arrays olds (Expression false) (plain s) e → plain s ≡ s → IsCondition program olds (record { scope = s; tree = e })
-  is_condition olds p s e k f c same =
-      let below = below_none p (on_one (contract_rule M) (judged s e).typed) (judged s e).faults f in
+  is_condition : (olds : Olds) (s : Scope) (e : Tree) → IsNamed s → (judged s e).faults ≡ [] → (x : Typed) × (on_one (contract_rule M) (judged s e).typed ≡ Fits x) → IsCode program.arrays olds (Expression false) (plain s) e → plain s ≡ s → IsCondition program olds (record { scope = s; tree = e })
+  is_condition olds s e k below rule c same =
       let t = is_typed program.arrays olds s e k.0 k.1 k.2 c below in
-      let rule = kept p (on_one (contract_rule M) (judged s e).typed) (judged s e).faults f in
       record {
         code = subst (λ (z : Scope). IsCode program.arrays olds (Expression false) z e) same c;
         unbroken = below;
         boolean = t.known ∙ ap (λ (u : JavaType). Some u) (boolean_only t.type rule.0 (sym (on_type (contract_rule M) (judged s e).typed t.type t.known) ∙ rule.1));
       }
 
+  -- the condition of a line that isn't broken isn't broken, and keeps its rule
+  line_parts : (p : Place) (s : Scope) (e : Tree) → (judge p (on_one (contract_rule M) (judged s e).typed) (judged s e).faults).faults ≡ [] → ((judged s e).faults ≡ []) × ((x : Typed) × (on_one (contract_rule M) (judged s e).typed ≡ Fits x))
+  line_parts p s e f = (below_none p (on_one (contract_rule M) (judged s e).typed) (judged s e).faults f, kept p (on_one (contract_rule M) (judged s e).typed) (judged s e).faults f)
+
+  signal_parts : (p : Place) (d e : Tree) → (judged M (trees.Signals p d e)).faults ≡ [] → ((judged M d).faults ≡ []) × ((judged (in_signals d M) e).faults ≡ []) × ((x : Typed) × (on_one (contract_rule M) (judged (in_signals d M) e).typed ≡ Fits x))
+  unfolding judged
+  signal_parts p d e f =
+      let t = (judged (in_signals d M) e).typed in
+      let w = caught_rule M 43 (caught_type M d) in
+      let v = on_one (λ a. then_rule (contract_rule M a) w) t in
+      let both = (judged M d).faults ++ (judged (in_signals d M) e).faults in
+      let parts = append_is_nil (judged M d).faults (judged (in_signals d M) e).faults (below_none p v both f) in
+      let rule = kept p v both f in
+      (parts.0, parts.1, first_kept (contract_rule M) w t rule.0 rule.1)
+
   -- ---- preconditions
 
   required : (olds : Olds) (lines : List Tree) → AllOf Line lines → AreConditions program olds (map (λ e. record { scope = R; tree = e }) (flat_map required_in lines))
   unfolding judged
   required olds [] h = tt
-  required olds (trees.Requires p e ∷ lines) h = (is_condition olds p R e named h.0.unbroken (expression_code program.arrays olds hs (Expression false) R e (table, refl) h.0.shape h.0.numbered.1) refl, required olds lines h.1)
+  required olds (trees.Requires p e ∷ lines) h =
+      let parts = line_parts p R e h.0.unbroken in
+      (is_condition olds R e named parts.0 parts.1 (expression_code program.arrays olds hs (Expression false) R e (table, refl) h.0.shape h.0.numbered.1) refl, required olds lines h.1)
   required olds (trees.Ensures p e ∷ lines) h = required olds lines h.1
+  required olds (trees.Signals p d e ∷ lines) h = required olds lines h.1
   required olds (_ ∷ lines) h = absurd h.0.shape
 
   -- ---- operands of `\old`s
@@ -126,45 +205,51 @@ module _ (program : Program) (hs : List Heading) (m : Method) (table : program.t
   abbrev Good : Node → Type 0
   Good n = GoodNode program.arrays n
 
-  -- the nodes of the postconditions
-  abbrev all : List Tree → List Node
-  all lines = map (λ e. record { scope = E; tree = e }) (flat_map ensured_in lines)
+  -- the nodes of a condition after the body
+  condition_good : (u : Scope) (e : Tree) → IsUnder u → Shaped false e → Numbered program.arrays hs e → (judged u e).faults ≡ [] → AllOf Good (code u e)
+  condition_good u e i h a f =
+      subst (λ (z : Scope). AllOf Good (code z e)) i.plainly (old_nodes program.arrays hs (Expression false) u AsValue e i.known i.code i.headings h a (subst (λ (z : Scope). (judged z e).faults ≡ []) (sym i.plainly) f))
 
-  abbrev AllGood : List Node → Type 0
-  AllGood [] = Unit {0}
-  AllGood (n ∷ ns) = AllOf Good (code n.scope n.tree) × AllGood ns
+  numbered_back : (d e : Tree) → AllOf (IsNumbered program.arrays hs) (nodes d ++ nodes e) → Numbered program.arrays hs e
+  numbered_back d e h = all_back (IsNumbered program.arrays hs) (nodes d) (nodes e) h
 
-  ensured_good : (lines : List Tree) → AllOf Line lines → AllGood (all lines)
+  ensured_good : (p : Place) (e : Tree) → Line (trees.Ensures p e) → AllOf Good (code E e)
   unfolding judged
-  ensured_good [] h = tt
-  ensured_good (trees.Requires p e ∷ lines) h = ensured_good lines h.1
-  ensured_good (trees.Ensures p e ∷ lines) h =
-      (old_nodes program.arrays hs (Expression false) E AsValue e named refl table h.0.shape h.0.numbered.1 (below_none p (on_one (contract_rule M) (judged E e).typed) (judged E e).faults h.0.unbroken), ensured_good lines h.1)
-  ensured_good (_ ∷ lines) h = absurd h.0.shape
+  ensured_good p e h = condition_good E e under h.shape h.numbered.1 (line_parts p E e h.unbroken).0
 
-  old_is : (s : Scope) (p : Place) (x : Tree) → OldGood program.arrays s x → IsOld program (record { place = p; scope = in_old s; tree = x })
-  old_is s p x g = record { code = g.code; unbroken = g.unbroken; target = subst (λ (o : Option JavaType). Rattle.kr_laws_safety.specs.Claims.is_target (type_or_none o) ≡ true) (sym g.known) g.target }
+  signalled_good : (p : Place) (d e : Tree) → Line (trees.Signals p d e) → AllOf Good (code (in_signals d M) e)
+  signalled_good p d e h =
+      let parts = signal_parts p d e h.unbroken in
+      let class = declared_class d h.shape.0 parts.0 in
+      condition_good (in_signals d M) e (under_signals d h.shape.0 class.0 class.1) h.shape.1 (numbered_back d e h.numbered.1) parts.1
+
+  old_is : (b : Bool) (s : Scope) (p : Place) (x : Tree) → OldGood program.arrays s x → IsOld program (record { place = p; is_named = b; scope = in_old s; tree = x })
+  old_is b s p x g = record { code = g.code; unbroken = g.unbroken; target = subst (λ (o : Option JavaType). Rattle.kr_laws_safety.specs.Claims.is_target (type_or_none o) ≡ true) (sym g.known) g.target }
 
   abbrev Old : OldNode → Type 0
   Old o = IsOld program o
 
-  node_olds : (n : Node) → Good n → AllOf Old (old_in n.scope n.tree)
-  node_olds n g = go n.tree g
+  node_olds : (b : Bool) (n : Node) → Good n → AllOf Old (old_in b n.scope n.tree)
+  node_olds b n g = go n.tree g
     where
-      go : (t : Tree) → GoodOld program.arrays n.scope t → AllOf Old (old_in n.scope t)
-      go (trees.Old p x) g = (old_is n.scope p x g, tt)
+      go : (t : Tree) → GoodOld program.arrays n.scope t → AllOf Old (old_in b n.scope t)
+      go (trees.Old p x) g = (old_is b n.scope p x g, tt)
       go _ g = tt
 
-  code_olds : (ns : List Node) → AllOf Good ns → AllOf Old (olds_in ns)
-  code_olds [] h = tt
-  code_olds (n ∷ ns) h = all_both Old (old_in n.scope n.tree) (olds_in ns) (node_olds n h.0) (code_olds ns h.1)
+  code_olds : (b : Bool) (ns : List Node) → AllOf Good ns → AllOf Old (olds_among b ns)
+  code_olds b [] h = tt
+  code_olds b (n ∷ ns) h = all_both Old (old_in b n.scope n.tree) (olds_among b ns) (node_olds b n h.0) (code_olds b ns h.1)
 
-  abbrev olds_of_all : List Node → List OldNode
-  olds_of_all es = flat_map (λ (e : Node). flat_map (λ (n : Node). old_in n.scope n.tree) (code e.scope e.tree)) es
+  abbrev olds_of_all : List Tree → List OldNode
+  olds_of_all lines = flat_map (olds_in M) lines
 
-  all_olds : (es : List Node) → AllGood es → AllOf Old (olds_of_all es)
+  all_olds : (lines : List Tree) → AllOf Line lines → AllOf Old (olds_of_all lines)
   all_olds [] h = tt
-  all_olds (e ∷ es) h = all_both Old (olds_in (code e.scope e.tree)) (olds_of_all es) (code_olds (code e.scope e.tree) h.0) (all_olds es h.1)
+  all_olds (trees.Requires p e ∷ lines) h = all_olds lines h.1
+  all_olds (trees.Ensures p e ∷ lines) h = all_both Old (olds_among false (code E e)) (olds_of_all lines) (code_olds false (code E e) (ensured_good p e h.0)) (all_olds lines h.1)
+  all_olds (trees.Signals p d e ∷ lines) h =
+      all_both Old (olds_among (names_thrown d) (code (in_signals d M) e)) (olds_of_all lines) (code_olds (names_thrown d) (code (in_signals d M) e) (signalled_good p d e h.0)) (all_olds lines h.1)
+  all_olds (_ ∷ lines) h = absurd h.0.shape
 
   are_olds : (os : List OldNode) → AllOf Old os → AreOldNodes program os
   are_olds [] h = tt
@@ -176,42 +261,67 @@ module _ (program : Program) (hs : List Heading) (m : Method) (table : program.t
     abbrev types : Olds
     types = type_of_old (old_types os)
 
-    known_old : (s : Scope) (p : Place) (x : Tree) → OldGood program.arrays s x → IsOneOf (record { place = p; scope = in_old s; tree = x }) os → types p ≡ type_in (judged (in_old s) x).typed
-    known_old s p x g i =
-        let o : OldNode = record { place = p; scope = in_old s; tree = x } in
+    known_old : (b : Bool) (s : Scope) (p : Place) (x : Tree) → OldGood program.arrays s x → IsOneOf (record { place = p; is_named = b; scope = in_old s; tree = x }) os → types p ≡ type_in (judged (in_old s) x).typed
+    known_old b s p x g i =
+        let o : OldNode = record { place = p; is_named = b; scope = in_old s; tree = x } in
         type_found os o (apart o) i ∙ (ap (λ (u : Option JavaType). Some (type_or_none u)) g.known ∙ sym g.known)
 
-    known_node : (n : Node) → Good n → ((o : OldNode) → IsOneOf o (old_in n.scope n.tree) → IsOneOf o os) → KnownNode types n
-    known_node n g i = go n.tree g i
+    known_node : (b : Bool) (n : Node) → Good n → ((o : OldNode) → IsOneOf o (old_in b n.scope n.tree) → IsOneOf o os) → KnownNode types n
+    known_node b n g i = go n.tree g i
       where
-        go : (t : Tree) → GoodOld program.arrays n.scope t → ((o : OldNode) → IsOneOf o (old_in n.scope t) → IsOneOf o os) → KnownOld types n.scope t
-        go (trees.Old p x) g i = λ e. known_old n.scope p x g (i (record { place = p; scope = in_old n.scope; tree = x }) (inl refl))
+        go : (t : Tree) → GoodOld program.arrays n.scope t → ((o : OldNode) → IsOneOf o (old_in b n.scope t) → IsOneOf o os) → KnownOld types n.scope t
+        go (trees.Old p x) g i = λ e. known_old b n.scope p x g (i (record { place = p; is_named = b; scope = in_old n.scope; tree = x }) (inl refl))
         go _ g i = tt
 
-    known_nodes : (ns : List Node) → AllOf Good ns → ((o : OldNode) → IsOneOf o (olds_in ns) → IsOneOf o os) → AllOf (KnownNode types) ns
-    known_nodes [] h i = tt
-    known_nodes (n ∷ ns) h i = (known_node n h.0 (λ o j. i o (one_front o (old_in n.scope n.tree) (olds_in ns) j)), known_nodes ns h.1 (λ o j. i o (one_back o (old_in n.scope n.tree) (olds_in ns) j)))
+    known_nodes : (b : Bool) (ns : List Node) → AllOf Good ns → ((o : OldNode) → IsOneOf o (olds_among b ns) → IsOneOf o os) → AllOf (KnownNode types) ns
+    known_nodes b [] h i = tt
+    known_nodes b (n ∷ ns) h i = (known_node b n h.0 (λ o j. i o (one_front o (old_in b n.scope n.tree) (olds_among b ns) j)), known_nodes b ns h.1 (λ o j. i o (one_back o (old_in b n.scope n.tree) (olds_among b ns) j)))
 
-    ensured : (lines : List Tree) → AllOf Line lines → ((o : OldNode) → IsOneOf o (olds_of_all (all lines)) → IsOneOf o os) → AreConditions program types (all lines)
+    -- a condition whose `\old`s are among them
+    known_condition : (b : Bool) (u : Scope) (e : Tree) → IsUnder u → Shaped false e → Numbered program.arrays hs e → (judged u e).faults ≡ [] → (x : Typed) × (on_one (contract_rule M) (judged u e).typed ≡ Fits x) → AllOf Good (code u e) → ((o : OldNode) → IsOneOf o (olds_among b (code u e)) → IsOneOf o os)
+        → IsCondition program types (record { scope = u; tree = e })
+    known_condition b u e k h a f rule good i =
+        let known = known_nodes b (code u e) good i in
+        is_condition types u e k.known f rule (ensuring_code program.arrays hs types (Expression false) u e k.headings h a (subst (λ (z : Scope). AllOf Good (code z e)) (sym k.plainly) good) (λ o. subst (λ (z : Scope). AllOf (KnownNode types) (code z e)) (sym k.plainly) known)) k.plainly
+
+    ensured : (lines : List Tree) → AllOf Line lines → ((o : OldNode) → IsOneOf o (olds_of_all lines) → IsOneOf o os) → AreConditions program types (map (λ e. record { scope = E; tree = e }) (flat_map ensured_in lines))
     unfolding judged
     ensured [] h i = tt
     ensured (trees.Requires p e ∷ lines) h i = ensured lines h.1 i
     ensured (trees.Ensures p e ∷ lines) h i =
-        let below = below_none p (on_one (contract_rule M) (judged E e).typed) (judged E e).faults h.0.unbroken in
-        let good = old_nodes program.arrays hs (Expression false) E AsValue e named refl table h.0.shape h.0.numbered.1 below in
-        let known = known_nodes (code E e) good (λ o j. i o (one_front o (olds_in (code E e)) (olds_of_all (all lines)) j)) in (
-          is_condition types p E e named h.0.unbroken (ensuring_code program.arrays hs types (Expression false) E e table h.0.shape h.0.numbered.1 good (λ o. known)) refl,
-          ensured lines h.1 (λ o j. i o (one_back o (olds_in (code E e)) (olds_of_all (all lines)) j)),
+        let parts = line_parts p E e h.0.unbroken in (
+          known_condition false E e under h.0.shape h.0.numbered.1 parts.0 parts.1 (ensured_good p e h.0) (λ o j. i o (one_front o (olds_among false (code E e)) (olds_of_all lines) j)),
+          ensured lines h.1 (λ o j. i o (one_back o (olds_among false (code E e)) (olds_of_all lines) j)),
         )
+    ensured (trees.Signals p d e ∷ lines) h i = ensured lines h.1 (λ o j. i o (one_back o (olds_among (names_thrown d) (code (in_signals d M) e)) (olds_of_all lines) j))
     ensured (_ ∷ lines) h i = absurd h.0.shape
 
-  -- how many `\old`s of the postconditions are at a place
-  counted : (p : Place) (lines : List Tree) → AllOf Line lines → olds_at p (olds_of_all (all lines)) ≤ L p lines
+    signalled : (lines : List Tree) → AllOf Line lines → ((o : OldNode) → IsOneOf o (olds_of_all lines) → IsOneOf o os) → AreSignals program types M lines
+    signalled [] h i = tt
+    signalled (trees.Requires p e ∷ lines) h i = signalled lines h.1 i
+    signalled (trees.Ensures p e ∷ lines) h i = signalled lines h.1 (λ o j. i o (one_back o (olds_among false (code E e)) (olds_of_all lines) j))
+    signalled (trees.Signals p d e ∷ lines) h i =
+        let parts = signal_parts p d e h.0.unbroken in
+        let class = declared_class d h.0.shape.0 parts.0 in (
+          record {
+            shape = h.0.shape.0;
+            class = class.0;
+            type = class.1;
+            condition = known_condition (names_thrown d) (in_signals d M) e (under_signals d h.0.shape.0 class.0 class.1) h.0.shape.1 (numbered_back d e h.0.numbered.1) parts.1 parts.2 (signalled_good p d e h.0) (λ o j. i o (one_front o (olds_among (names_thrown d) (code (in_signals d M) e)) (olds_of_all lines) j));
+          },
+          signalled lines h.1 (λ o j. i o (one_back o (olds_among (names_thrown d) (code (in_signals d M) e)) (olds_of_all lines) j)),
+        )
+    signalled (_ ∷ lines) h i = absurd h.0.shape
+
+  -- how many `\old`s of the conditions are at a place
+  counted : (p : Place) (lines : List Tree) → AllOf Line lines → olds_at p (olds_of_all lines) ≤ L p lines
   unfolding L
   counted p [] h = omega arith
   counted p (trees.Requires q e ∷ lines) h = omega (arith, counted p lines h.1)
   counted p (trees.Ensures q e ∷ lines) h =
-      omega (arith, olds_append p (olds_in (code E e)) (olds_of_all (all lines)), count_is p (code E e), fewer p (Expression false) E e h.0.shape, counted p lines h.1)
+      omega (arith, olds_append p (olds_among false (code E e)) (olds_of_all lines), count_is p false (code E e), fewer p (Expression false) E e h.0.shape, counted p lines h.1)
+  counted p (trees.Signals q d e ∷ lines) h =
+      omega (arith, olds_append p (olds_among (names_thrown d) (code (in_signals d M) e)) (olds_of_all lines), count_is p (names_thrown d) (code (in_signals d M) e), fewer p (Expression false) (in_signals d M) e h.0.shape.1, nodes_append p (nodes d) (nodes e), counted p lines h.1)
   counted p (_ ∷ lines) h = absurd h.0.shape
 
   has_contract : AllOf Line m.contracts → ((p : Place) → L p m.contracts ≤ 1) → HasContract program m
@@ -220,8 +330,9 @@ module _ (program : Program) (hs : List Heading) (m : Method) (table : program.t
       let apart : (o : OldNode) → olds_at o.place os ≤ 1 = λ o. omega (arith, counted o.place m.contracts h, few o.place) in
       record {
         requires = λ olds. required olds m.contracts h;
-        olds = are_olds os (all_olds (all m.contracts) (ensured_good m.contracts h));
+        olds = are_olds os (all_olds m.contracts h);
         ensures = ensured os apart m.contracts h (λ o i. i);
+        signals = signalled os apart m.contracts h (λ o i. i);
       }
 
 -- ---- from the members of the files

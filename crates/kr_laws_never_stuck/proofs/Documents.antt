@@ -5,19 +5,16 @@ use Rattle.toml.specs.Data.{Data, Members, no_members, member, get_member}
 use Rattle.kr_fin.specs.declared.refusal.FinRule.TheVariants.{WrongKind, TooLong}
 use Rattle.kr_fin.specs.declared.document.FinDoc.{FinDoc}
 use Rattle.kr_fin.specs.declared.shapes.Purpose.TheVariants.{Slot}
-use Rattle.kr_fin.specs.declared.shapes.Section.{Section}
 use Rattle.kr_fin.specs.declared.shapes.Section.TheVariants.{Arrays, Fields, Params}
 use Rattle.kr_fin.specs.declared.shapes.Shape.TheVariants.{Document}
-use Rattle.kr_fin.specs.Document.{document_of, domains_of, members_of, table_of}
-use Rattle.kr_fin.specs.Faults.{domain, entries, faults_in, fuel, keyed, of_kind, optional, root, section, unknown_keys, version}
+use Rattle.kr_fin.specs.Document.{document_of, domains_of, table_of}
+use Rattle.kr_fin.specs.Faults.{domain, entries, faults_in, fuel, keyed, root, section, unknown_keys, version}
 use Rattle.kr_fin.specs.Meaning.{is_short, document_in, meaning, of_table, table_in, unless}
 use Rattle.kr_fin.specs.Order.{Fault, broken, least}
 use Rattle.kr_fin.specs.Shapes.{is_pair, item_of, name_of}
 use Rattle.kr_fin.specs.Version.{objects_section}
-use Rattle.kr_fin.specs.Least.{IsLeast}
-use Rattle.kr_fin.proofs.Leasts.{least_of_all}
 use Rattle.kr_laws_never_stuck.specs.Keys.{HasPairs}
-use Rattle.kr_space.proofs.ReadLimits.{table_entries, unbroken}
+use Rattle.kr_space_meaning.proofs.Sections.{table_entries, unbroken_whole}
 use Rattle.kr_base.proofs.ListLemmas.{append_is_nil}
 
 pair : (key at : List ℕ) (d : Data) → keyed key at d ≡ [] → is_pair key ≡ true
@@ -55,7 +52,7 @@ unfolding document_in
 judged_pairs ms document e = go (least (faults_in ms)) refl e
   where
     go : (o : Option Fault) → least (faults_in ms) ≡ o → unless o (document_of ms) ≡ Ok document → HasPairs document
-    go None n e = let same : document_of ms ≡ document = cc (e) in subst HasPairs same (of_members ms (unbroken (faults_in ms) n))
+    go None n e = let same : document_of ms ≡ document = cc (e) in subst HasPairs same (of_members ms (unbroken_whole (faults_in ms) n))
     go (Some f) n e = absurd (cc (e))
 
 pub read_pairs : (bytes : List ℕ) (document : FinDoc) → meaning bytes ≡ Ok document → HasPairs document

@@ -1,6 +1,6 @@
 -- The type of each `\old` is found by its place, where no two are at one.
 use Rattle.std.proofs.Common.{◌≡◌, ℕ, ◌+◌, ◌≤◌, Bool, true, false, ◌&&◌, List, [], ◌∷◌, ◌++◌, Some, inl, inr, refl, ap, ◌∙◌, arith}
-use Rattle.std.specs.Prelude.{flat_map, nat_eq, if◌then◌else◌}
+use Rattle.std.specs.Prelude.{nat_eq, if◌then◌else◌}
 use Rattle.std.proofs.lemmas.Bool.{eq-eqb}
 use Rattle.kr_base.specs.declared.place.Place.{Place}
 use Rattle.kr_ast.specs.Tree as trees
@@ -11,7 +11,7 @@ use Rattle.kr_types_meaning.specs.Scopes.{Scope, in_old, after}
 use Rattle.kr_laws_types.specs.Shapes.{Sort, Expression, Expressions}
 use Rattle.kr_mean.specs.Purity.{IsOneOf}
 use Rattle.kr_mean.specs.Code.{Node, code}
-use Rattle.kr_mean.specs.Verdicts.{OldNode, old_in}
+use Rattle.kr_mean.specs.Verdicts.{OldNode, old_in, olds_among}
 use Rattle.kr_laws_safety.specs.Triples.{type_of_old}
 use Rattle.kr_laws_safety.specs.Tested.{old_type, old_types}
 use Rattle.kr_laws_never_stuck.specs.Apart.{one_at, nodes_at}
@@ -49,22 +49,23 @@ type_found (x ∷ os) o few (inr i) = go (is_at_place x.place o.place) refl (typ
 
 -- ---- those of an expression
 
--- the `\old`s of the nodes of code
-abbrev pub olds_in : List Node → List OldNode
-olds_in ns = flat_map (λ (n : Node). old_in n.scope n.tree) ns
-
 module _ (p : Place) where
   abbrev C : List Node → ℕ
   C [] = 0
-  C (n ∷ ns) = olds_at p (old_in n.scope n.tree) + C ns
+  C (n ∷ ns) = olds_at p (old_in false n.scope n.tree) + C ns
 
   count_append : (xs ys : List Node) → C (xs ++ ys) ≡ C xs + C ys
   count_append [] ys = omega arith
   count_append (x ∷ xs) ys = omega (arith, count_append xs ys)
 
-  pub count_is : (ns : List Node) → olds_at p (olds_in ns) ≡ C ns
-  count_is [] = refl
-  count_is (n ∷ ns) = omega (arith, olds_append p (old_in n.scope n.tree) (olds_in ns), count_is ns)
+  -- whether the thrown object has a name there or not
+  count_one : (b : Bool) (s : Scope) (t : Tree) → olds_at p (old_in b s t) ≡ olds_at p (old_in false s t)
+  count_one b s (trees.Old q e) = refl
+  count_one b s _ = refl
+
+  pub count_is : (b : Bool) (ns : List Node) → olds_at p (olds_among b ns) ≡ C ns
+  count_is b [] = refl
+  count_is b (n ∷ ns) = omega (arith, olds_append p (old_in b n.scope n.tree) (olds_among b ns), count_one b n.scope n.tree, count_is b ns)
 
   two : (s t : Scope) (a b : Tree) → C (code s a ++ code t b) ≡ C (code s a) + C (code t b)
   two s t a b = count_append (code s a) (code t b)

@@ -1,7 +1,7 @@
 -- Methods that override others; and the law.
 use Rattle.std.proofs.Common.{◌≡◌, refl, sym, ap, ◌∙◌, subst, inl, inr, ◌⊎◌, ℕ, Bool, true, false, List, [], ◌∷◌, ◌++◌}
 use Rattle.std.specs.Prelude.{Option, Some, None, map, flat_map, find, nat_eq, bytes_eq, not, ◌&&◌, option_to_list, if◌then◌else◌}
-use Rattle.std.proofs.lemmas.Bool.{eqb-true, and_parts, or_cases}
+use Rattle.std.proofs.lemmas.Bool.{eqb-true, and_parts, not-false, or_cases}
 use Rattle.kr_classes_table.specs.Numbers.{Bits32, Bits64}
 use Rattle.kr_classes_table.specs.Types.{JavaType, NumberType, NullType, ClassType, SetType, ListType, InferredType, is_same, is_reference}
 use Rattle.kr_classes_table.specs.Table.{Table, Class, Parameter, Method, table_of, class_at, own_methods, method_on, method_named, ancestors, line_of, is_among, is_below, is_assignable}
@@ -67,10 +67,6 @@ result_same t s u e = go (or_cases (is_same s u) (is_reference s && is_reference
     go (inl h) = ap (is_assignable t s) (sym (same_type s u h)) ∙ assignable_same t s
     go (inr h) = (and_parts (is_reference s && is_reference u) (is_assignable t s u) h).1
 
-not_false : (b : Bool) → not b ≡ false → b ≡ true
-not_false true e = refl
-not_false false e = absurd (cc (e))
-
 -- a rule on what methods override, of one method
 of_one : (t : Table) (c r : ℕ) (fits : Method → Method → Bool) (m : Method) (ms : List Method) → flat_map (overrides t c r fits) ms ≡ [] → IsOneOf m ms → overrides t c r fits m ≡ []
 of_one t c r fits m [] e h = absurd h
@@ -84,7 +80,7 @@ fits_above t c r fits m a e q = go (method_on t (ancestors t c) m.name) q e
     go None q e = absurd (cc (q))
     go (Some x) q e =
         let i : x ≡ a = ap (λ (o : Option Method). elim o as (λ y. Method) [ Some z ↦ z | None ↦ x ]) q in
-        subst (λ (z : Method). fits m z ≡ true) i (not_false (fits m x) (not_broken (not (fits m x)) r m.place (append_is_nil (break_if (not (fits m x)) r m.place) [] e).0))
+        subst (λ (z : Method). fits m z ≡ true) i (not-false (fits m x) (not_broken (not (fits m x)) r m.place (append_is_nil (break_if (not (fits m x)) r m.place) [] e).0))
 
 module _ (t : Table) (rules : Unbroken t) (whole : IsWhole t) where
   declares_method : (c : ℕ) (m : Method) → IsOneOf m (own_methods t c) → (d : Class) × (class_at t.classes c ≡ Some d) × IsOneOf m d.methods

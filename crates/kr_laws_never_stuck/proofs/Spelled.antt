@@ -12,7 +12,7 @@ use Rattle.kr_lex.specs.Lexemes.{Lexeme}
 use Rattle.kr_lex.specs.Places.{line_after, column_after, place_after}
 use Rattle.kr_lex.specs.Spelling.{spelling}
 use Rattle.kr_lex.specs.Words.{IsName, IsToken, name, number, long_number, fixed}
-use Rattle.kr_lex.specs.ContractLines.{contract_spelling, head_of, IsContractToken}
+use Rattle.kr_lex.specs.ContractLines.{contract_spelling, head_of, IsContractToken, IsContractWord}
 use Rattle.kr_lex.specs.Spells.{IsTokenHere, anywhere, within, token_behind, Reaches, here, gap, token, contract}
 use Rattle.kr_lex.specs.declared.kind.Kind.{Kind}
 use Rattle.kr_lex.specs.declared.kind.Kind.TheVariants as kinds
@@ -81,11 +81,12 @@ contract_starts kind text t = subst Starts (sym t.spelled) (go t.one_of)
     go (inl e) = subst (λ (k : Kind). Starts (contract_spelling k)) (sym e) (record { byte = 92; rest = codes "result"; is = refl; in_line = refl; begins = refl })
     go (inr e) = subst (λ (k : Kind). Starts (contract_spelling k)) (sym e) (record { byte = 92; rest = codes "old"; is = refl; in_line = refl; begins = refl })
 
--- `requires` and `ensures`
-word_starts : (kind : Kind) → (kind ≡ kinds.Requires) ⊎ (kind ≡ kinds.Ensures) → Starts (contract_spelling kind)
+-- `requires`, `ensures` and `signals`
+word_starts : (kind : Kind) → IsContractWord kind → Starts (contract_spelling kind)
 unfolding contract_spelling
 word_starts kind (inl e) = subst (λ (k : Kind). Starts (contract_spelling k)) (sym e) (record { byte = 114; rest = codes "equires"; is = refl; in_line = refl; begins = refl })
-word_starts kind (inr e) = subst (λ (k : Kind). Starts (contract_spelling k)) (sym e) (record { byte = 101; rest = codes "nsures"; is = refl; in_line = refl; begins = refl })
+word_starts kind (inr (inl e)) = subst (λ (k : Kind). Starts (contract_spelling k)) (sym e) (record { byte = 101; rest = codes "nsures"; is = refl; in_line = refl; begins = refl })
+word_starts kind (inr (inr e)) = subst (λ (k : Kind). Starts (contract_spelling k)) (sym e) (record { byte = 115; rest = codes "ignals"; is = refl; in_line = refl; begins = refl })
 
 here_starts : (inside : Bool) (kind : Kind) (text rest : List ℕ) → IsTokenHere inside kind text rest → Starts text
 here_starts inside kind text rest (anywhere t) = token_starts kind text rest t.token
@@ -229,6 +230,7 @@ no_stars (gap part rest z g d) = no_stars d
 no_stars {file = file} (token {inside = inside} {front = front} kind part rest z t d) = omega (arith, kind_star kind (token_behind file front kind part) (named_no_star inside kind part rest t), no_stars d)
 no_stars {file = file} (contract {front = front} kind blank rest c d) = omega (arith, kind_star kind (token_behind file (front ++ 47 ∷ 47 ∷ 64 ∷ blank) kind (contract_spelling kind)) (word c.word), no_stars d)
   where
-    word : (kind ≡ kinds.Requires) ⊎ (kind ≡ kinds.Ensures) → kind ≡ kinds.Identifier → star (contract_spelling kind) ≡ 0
+    word : IsContractWord kind → kind ≡ kinds.Identifier → star (contract_spelling kind) ≡ 0
     word (inl e) i = absurd (cc (e, i))
-    word (inr e) i = absurd (cc (e, i))
+    word (inr (inl e)) i = absurd (cc (e, i))
+    word (inr (inr e)) i = absurd (cc (e, i))

@@ -6,7 +6,7 @@ use Rattle.std.proofs.Common.{length-append}
 use Rattle.std.proofs.lemmas.Bool.Decides.{nat_tests}
 use Rattle.std.proofs.lemmas.List.{get_or_at, append_assoc, length-map}
 use Rattle.std.proofs.lemmas.List.Elements.{recursion_from_All}
-use Rattle.std.proofs.lemmas.Bool.{or_cases, or_right, or_left}
+use Rattle.std.proofs.lemmas.Bool.{not-false, or_left}
 use Rattle.kr_ast.specs.Tree.{Tree}
 use Rattle.kr_classes_table.specs.Types.{JavaType, VoidType, ArrayType, is_same}
 use Rattle.kr_classes_table.specs.Table.{Heading, Table, Field, Parameter, Method, table_of, fields_of, method_named, number_of}
@@ -38,6 +38,7 @@ use Rattle.kr_laws_safety.proofs.Heaps.{same_type}
 use Rattle.kr_laws_safety.proofs.Vectors.{type_same}
 use Rattle.kr_laws_never_stuck.specs.Keys.{IsKeyed, HasKeys, HasPairs}
 use Rattle.kr_laws_never_stuck.specs.DomainTypes.{DomainTypesLaw}
+use Rattle.kr_laws_never_stuck.proofs.Codes.{listed_back, listed_front, listed_once}
 use Rattle.kr_laws_never_stuck.proofs.Pairs.{IsApart, apart, dotted}
 use Rattle.kr_space_meaning.proofs.Given.{given_holds}
 use Rattle.kr_laws_never_stuck.proofs.Values.{lengths_short, AreArrays, HasDomains, given_of}
@@ -54,38 +55,6 @@ by_recursion : {X : Type 0} (P : X → Type 0) (xs : List X) → All P xs → Al
 by_recursion P xs h = recursion_from_All P xs h
 
 -- ---- numbers of array types
-
-listed_back : (t : JavaType) (xs ys : List JavaType) → is_listed t ys ≡ true → is_listed t (xs ++ ys) ≡ true
-listed_back t [] ys h = h
-listed_back t (x ∷ xs) ys h = or_right (is_same t x) (is_listed t (xs ++ ys)) (listed_back t xs ys h)
-
-listed_front : (t : JavaType) (xs ys : List JavaType) → is_listed t xs ≡ true → is_listed t (xs ++ ys) ≡ true
-listed_front t [] ys h = absurd (cc (h))
-listed_front t (x ∷ xs) ys h = go (or_cases (is_same t x) (is_listed t xs) h) (listed_front t xs ys)
-  where
-    go : (is_same t x ≡ true) ⊎ (is_listed t xs ≡ true) → (is_listed t xs ≡ true → is_listed t (xs ++ ys) ≡ true) → (is_same t x || is_listed t (xs ++ ys)) ≡ true
-    go (inl e) r = or_left (is_same t x) (is_listed t (xs ++ ys)) e
-    go (inr e) r = or_right (is_same t x) (is_listed t (xs ++ ys)) (r e)
-
--- a type among some occurs once, or was there before
-listed_once : (t : JavaType) (seen xs : List JavaType) → is_listed t xs ≡ true → (is_listed t (once seen xs) ≡ true) ⊎ (is_listed t seen ≡ true)
-listed_once t seen [] h = absurd (cc (h))
-listed_once t seen (x ∷ xs) h = go (is_listed x seen) refl (or_cases (is_same t x) (is_listed t xs) h) (listed_once t seen xs) (listed_once t (x ∷ seen) xs)
-  where
-    split : (is_same t x ≡ true) ⊎ (is_listed t seen ≡ true) → (is_listed t (x ∷ once (x ∷ seen) xs) ≡ true) ⊎ (is_listed t seen ≡ true)
-    split (inl e) = inl (or_left (is_same t x) (is_listed t (once (x ∷ seen) xs)) e)
-    split (inr e) = inr e
-
-    later : (is_listed t (once (x ∷ seen) xs) ≡ true) ⊎ (is_listed t (x ∷ seen) ≡ true) → (is_listed t (x ∷ once (x ∷ seen) xs) ≡ true) ⊎ (is_listed t seen ≡ true)
-    later (inl e) = inl (or_right (is_same t x) (is_listed t (once (x ∷ seen) xs)) e)
-    later (inr e) = split (or_cases (is_same t x) (is_listed t seen) e)
-
-    go : (b : Bool) → is_listed x seen ≡ b → (is_same t x ≡ true) ⊎ (is_listed t xs ≡ true) → (is_listed t xs ≡ true → (is_listed t (once seen xs) ≡ true) ⊎ (is_listed t seen ≡ true)) → (is_listed t xs ≡ true → (is_listed t (once (x ∷ seen) xs) ≡ true) ⊎ (is_listed t (x ∷ seen) ≡ true))
-        → (is_listed t (if b then once seen xs else x ∷ once (x ∷ seen) xs) ≡ true) ⊎ (is_listed t seen ≡ true)
-    go true q (inl e) r s = inr (ap (λ (u : JavaType). is_listed u seen) (same_type t x e) ∙ q)
-    go true q (inr e) r s = r e
-    go false q (inl e) r s = inl (or_left (is_same t x) (is_listed t (once (x ∷ seen) xs)) e)
-    go false q (inr e) r s = later (s e)
 
 -- a listed type has a number, and is at it
 record IsNumbered (k : ℕ) (t : JavaType) (xs : List JavaType) : Type 0 where
@@ -375,12 +344,8 @@ alone m h = go m.is_static h
     go false h = refl
     go true h = absurd (cc (h))
 
-holds : (b : Bool) → not b ≡ false → b ≡ true
-holds true e = refl
-holds false e = absurd (cc (e))
-
 instance_rule : (setting : Setting) (name : List ℕ) → S8 setting (Testing name) ≡ [] → is_instance (method_at setting.table (root_of setting) name) ≡ true
-instance_rule setting name e = holds (is_instance (method_at setting.table (root_of setting) name)) (unbroken _ _ (codes "method") e)
+instance_rule setting name e = not-false (is_instance (method_at setting.table (root_of setting) name)) (unbroken _ _ (codes "method") e)
 
 module _ (setting : Setting) where
   parameters_typed : (mode : Mode) (set : IsSet setting) (instance : S8 setting mode ≡ []) (m : Method) → tested_method (posed setting mode) mode ≡ Some m → AreDomainsOf (posed setting mode) (map (λ p. p.type) m.parameters) (posed setting mode).parameters
@@ -444,7 +409,7 @@ rules_of problem setting mode e =
       some = root_some problem setting third.0;
       fields = four.0;
       params = four.1;
-      predicate = holds (is_predicate (method_at setting.table (root_of setting) (codes "repOk"))) (unbroken _ _ (codes "root") fifth.0);
+      predicate = not-false (is_predicate (method_at setting.table (root_of setting) (codes "repOk"))) (unbroken _ _ (codes "root") fifth.0);
       instance = (append_is_nil (S8 setting mode) (S9 setting) fifth.1).0;
     }
 

@@ -7,11 +7,11 @@ use Rattle.kr_classes_table.proofs.Least.{is_least}
 use Rattle.kr_base.proofs.ListLemmas.{append_is_nil}
 
 -- all of several rules
-abbrev AllNone : List (Option Fault) → Type 0
+abbrev pub AllNone : List (Option Fault) → Type 0
 AllNone [] = Unit {0}
 AllNone (f ∷ fs) = (f ≡ None) × AllNone fs
 
-all_none : (fs : List (Option Fault)) → first_of fs ≡ None → AllNone fs
+pub all_none : (fs : List (Option Fault)) → first_of fs ≡ None → AllNone fs
 all_none [] e = tt
 all_none (None ∷ fs) e = (refl, all_none fs e)
 all_none (Some f ∷ fs) e = absurd (cc (e))

@@ -10,7 +10,7 @@ use Rattle.kr_classes_table.specs.Types.{JavaType}
 use Rattle.kr_classes_table.specs.Rules.{Fault}
 use Rattle.kr_classes_table.specs.Table.{Heading, type_named}
 use Rattle.kr_types_meaning.specs.Scopes.{Scope, Role, AsValue, in_old, after, class_before}
-use Rattle.kr_types_meaning.specs.Rules.{Typed, Value, Variable, Values, Untyped, Fits, ask, old_rule, is_code, is_ensuring}
+use Rattle.kr_types_meaning.specs.Rules.{Typed, Value, Variable, Values, Untyped, Fits, ask, old_rule, is_code, is_after_body}
 use Rattle.kr_types_meaning.specs.Typing.{judge, on_one, field_of, method_of, operand, judged, type_in}
 use Rattle.kr_laws_shapes.specs.Expressions.{Shaped}
 use Rattle.kr_laws_types.specs.Shapes.{Sort, Expression, Expressions, HasNumber, IsCode}
@@ -74,7 +74,7 @@ GoodNode arrays n = GoodOld arrays n.scope n.tree
 
 -- its type is known by its place
 abbrev pub KnownOld : Olds → Scope → Tree → Type 0
-KnownOld olds s (trees.Old p x) = is_ensuring s.part ≡ true → olds p ≡ type_in (judged (in_old s) x).typed
+KnownOld olds s (trees.Old p x) = is_after_body s.part ≡ true → olds p ≡ type_in (judged (in_old s) x).typed
 KnownOld olds s t = Unit {0}
 
 abbrev pub KnownNode : Olds → Node → Type 0
@@ -196,7 +196,7 @@ module _ (arrays : List JavaType) (hs : List Heading) where
   open_of Untyped t c e = absurd (cc (e))
 
   not_in : (s : Scope) (t : JavaType) (x : Typed) → old_rule s t ≡ Fits x → s.is_in_old ≡ false
-  not_in s t x e = go (is_ensuring s.part) s.is_in_old e
+  not_in s t x e = go (is_after_body s.part) s.is_in_old e
     where
       go : (a b : Bool) → ask (a && not b) 38 (Fits (Value t)) ≡ Fits x → b ≡ false
       go a false e = refl

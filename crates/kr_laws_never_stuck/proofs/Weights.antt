@@ -8,7 +8,7 @@ use Rattle.kr_ast.specs.Tree as trees
 use Rattle.kr_ast.specs.Tree.{Tree}
 use Rattle.kr_classes_table.specs.Nodes.{nodes}
 use Rattle.kr_parse_grammar.specs.declared.value.Modifiers.{Modifiers}
-use Rattle.kr_parse_grammar.specs.Grammar.{Class, at, Modified, nothing, access, static, final, overriding, Der, absent, present, end, next, last, comma, simple_name, qualified_name, class_type, generic_type, array_type, primitive_type, reference_type, number, long_number, truth, falsity, null, this, result_value, old_value, parentheses, variable, call, super_call, creation, generic_creation, diamond_creation, primitive_array, class_array, field_access, method_call, array_access, primary, stepped_behind, postfix, complement, primitive_cast, reference_cast, unsigned, sign, stepped_before, operand, binary, instance_of, operation, choice, assign, compound, conditional, assignment, declarator, initialised, local, final_local, assigns, steps, is_stepped, invokes, evaluated, local_statement, statement, block, empty, evaluate, return, break, continue, if_then, if_else, while, do_while, for, for_local, for_expressions, parameter, final_parameter, void, result, calls_super, nested, field, precondition, postcondition, method, constructor, no_member, skip_member, member, not_extended, extended, class, no_class, skip_class, another, Dotted, no_more, dot, Imports, no_import, import, Heading, unpackaged, packaged, Derives}
+use Rattle.kr_parse_grammar.specs.Grammar.{Class, at, Modified, nothing, access, static, final, overriding, Der, absent, present, end, next, last, comma, simple_name, qualified_name, class_type, generic_type, array_type, primitive_type, reference_type, number, long_number, truth, falsity, null, this, result_value, old_value, parentheses, variable, call, super_call, creation, generic_creation, diamond_creation, primitive_array, class_array, field_access, method_call, array_access, primary, stepped_behind, postfix, complement, primitive_cast, reference_cast, unsigned, sign, stepped_before, operand, binary, instance_of, operation, choice, assign, compound, conditional, assignment, declarator, initialised, local, final_local, assigns, steps, is_stepped, invokes, evaluated, local_statement, statement, block, empty, evaluate, return, break, continue, if_then, if_else, while, do_while, for, throw, try, caught, final_caught, catch, for_local, for_expressions, parameter, final_parameter, void, result, calls_super, nested, field, precondition, postcondition, exception, named_exception, method, constructor, no_member, skip_member, member, not_extended, extended, class, no_class, skip_class, another, Dotted, no_more, dot, Imports, no_import, import, Heading, unpackaged, packaged, Derives}
 
 module _ (declared : Place → List ℕ → ℕ) (held : Place → ℕ) where
   -- ---- nodes
@@ -147,6 +147,11 @@ module _ (declared : Place → List ℕ → ℕ) (held : Place → ℕ) where
   less (while {c = c} {s = s} _ _ _ _ _ d _ e) = omega (arith, less d, less e, two c s)
   less (do_while {c = c} {s = s} _ _ _ _ _ _ d _ _ e _ _) = omega (arith, less d, less e, two s c)
   less (for {k = k} {c = c} {u = u} {s = s} _ _ _ _ _ _ _ d _ e _ f _ g) = omega (arith, less d, less e, less f, less g, four k c u s)
+  less (throw _ _ _ d _) = omega (arith, less d)
+  less (try {t = t} {c = c} {u = u} _ b _ _ _ d _ e f) = omega (arith, less d, less e, less f, two (trees.Block b.place t) (trees.Cons c u), two c u)
+  less (caught _ d _) = omega (arith, less d)
+  less (final_caught _ _ _ d _) = omega (arith, less d)
+  less (catch {t = t} {u = u} _ _ _ e _ _ _ d _ _ f _) = omega (arith, less d, less f, two t (trees.Block e.place u))
   less (for_local {t = t} d) = omega (arith, less d, two t trees.Nil)
   less (for_expressions d) = less d
   -- members
@@ -159,6 +164,8 @@ module _ (declared : Place → List ℕ → ℕ) (held : Place → ℕ) where
   less (field {t = t} {u = u} _ m _ d e _) = omega (arith, modified m, less d, less e, two t u)
   less (precondition _ _ _ _ _ d _) = omega (arith, less d)
   less (postcondition _ _ _ _ _ d _) = omega (arith, less d)
+  less (exception {t = t} {u = u} _ _ _ _ _ _ _ _ d _ e _) = omega (arith, less d, less e, two t u)
+  less (named_exception {t = t} {u = u} _ _ _ n _ _ _ _ _ d _ _ e _) = omega (arith, less d, less e, two (trees.Parameter n.place t n.text) u)
   less (method {v = v} {t = t} {u = u} {s = s} a _ _ _ _ c m d _ _ e _ _ f _) = omega (arith, less c, modified m, less d, less e, less f, two (trees.Signature a.place t u v) s, three t u v)
   less (constructor {u = u} {s = s} {t = t} _ _ _ _ _ m _ _ _ d _ _ e f _) = omega (arith, modified m, less d, less e, less f, three u s t)
   less no_member = omega arith

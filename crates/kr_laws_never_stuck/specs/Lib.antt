@@ -4,5 +4,6 @@ pub mod ClassRules
 pub mod TypedContracts
 pub mod Keys
 pub mod DomainTypes
+pub mod Accepted
 pub mod NeverStuck
 pub mod WellTyped

@@ -29,9 +29,9 @@ use Rattle.kr_mean.specs.Heaps.{length_in, heap_of, value_at, choice_at}
 use Rattle.kr_mean.specs.Steps.{Local, State, Outcome, Run, stop, bind, class_of}
 use Rattle.kr_mean.specs.Meaning.{Target, LocalTarget, OwnField, FieldOf as FieldTarget, ElementOf, NoTarget, parts_within, called, run_chosen, run_method, eval, value}
 use Rattle.kr_mean.specs.Code.{Node, code, code_of_method, code_run}
-use Rattle.kr_mean.specs.Purity.{IsOneOf, written_by, writes_to, may_touch, rep_ok_method, tested, contract_of, roots, IsPredicateCode, root, run, IsCounted, IsFinitized, IsPure}
+use Rattle.kr_mean.specs.Purity.{IsOneOf, written_by, writes_to, may_touch, rep_ok_method, tested, conditions_after, contract_of, roots, IsPredicateCode, root, run, IsCounted, IsFinitized, IsPure}
 use Rattle.kr_laws_pruning.specs.Laws.{ended}
-use Rattle.kr_mean.specs.Runs.{End, class_number, root_class, requires_of, ensures_of, rep_ok, where_true, hold_all, parameters_from, start, end_of, outcome_of, end_on, slots_for, read_slots}
+use Rattle.kr_mean.specs.Runs.{End, class_number, root_class, requires_of, rep_ok, where_true, hold_all, parameters_from, start, end_of, outcome_of, end_on, slots_for, read_slots}
 use Rattle.kr_mean.specs.WellFormed.{IsWellFormed, AreSpots}
 use Rattle.kr_laws_slots.proofs.Numbering.{object, count_at, width_at, parameters, first_slot, parameter_slot, object_slot, object_at_number, number_of_object}
 use Rattle.kr_laws_slots.proofs.Spaces.{objects_long, objects_get}
@@ -116,15 +116,15 @@ NodeCoded problem e = AllOf (IsPredicateCode problem) (code e.scope e.tree)
 
 requires_code : (problem : Problem) → AllOf (NodeCoded problem) (flat_map (requires_of problem.program) (tested problem))
 requires_code problem =
-    all_front (NodeCoded problem) (flat_map (requires_of problem.program) (tested problem)) (flat_map (ensures_of problem.program) (tested problem))
+    all_front (NodeCoded problem) (flat_map (requires_of problem.program) (tested problem)) (flat_map (conditions_after problem.program) (tested problem))
     (all_parts (IsPredicateCode problem) (λ (e : Node). code e.scope e.tree) (contract_of problem) (all_back (IsPredicateCode problem) (flat_map (code_of_method problem.program) (rep_ok_method problem)) (flat_map (λ (e : Node). code e.scope e.tree) (contract_of problem)) (roots_code problem)))
 
 -- ---- `this.repOk()`
 
 -- with enough fuel to enter both nodes, the method that the root's class has is called
 rep_ok_runs : (program : Program) (c k : ℕ) (this_value : Value) (locals : List Local) (heap : List HeapObject) (candidates : ℕ)
-    → value program (class_scope program c) rep_ok (record { this_value = this_value; locals = locals; result = None; olds = []; heap = heap; candidates = candidates; fuel = suc (suc k) })
-    ≡ called program (parts_within program (suc k)) (codes "repOk") this_value [] (method_named program.table c (codes "repOk")) (record { this_value = this_value; locals = locals; result = None; olds = []; heap = heap; candidates = candidates; fuel = k })
+    → value program (class_scope program c) rep_ok (record { this_value = this_value; locals = locals; result = None; olds = []; thrown = None; heap = heap; candidates = candidates; fuel = suc (suc k) })
+    ≡ called program (parts_within program (suc k)) (codes "repOk") this_value [] (method_named program.table c (codes "repOk")) (record { this_value = this_value; locals = locals; result = None; olds = []; thrown = None; heap = heap; candidates = candidates; fuel = k })
 unfolding value eval bind judged
 rep_ok_runs program c k this_value locals heap candidates = refl
 
@@ -133,8 +133,8 @@ unfolding value eval bind
 rep_ok_spent program c s e = rw e refl
 
 rep_ok_spent_inside : (program : Program) (c : ℕ) (this_value : Value) (locals : List Local) (heap : List HeapObject) (candidates : ℕ)
-    → value program (class_scope program c) rep_ok (record { this_value = this_value; locals = locals; result = None; olds = []; heap = heap; candidates = candidates; fuel = 1 })
-    ≡ stop OutOfFuel (record { this_value = this_value; locals = locals; result = None; olds = []; heap = heap; candidates = candidates; fuel = 0 })
+    → value program (class_scope program c) rep_ok (record { this_value = this_value; locals = locals; result = None; olds = []; thrown = None; heap = heap; candidates = candidates; fuel = 1 })
+    ≡ stop OutOfFuel (record { this_value = this_value; locals = locals; result = None; olds = []; thrown = None; heap = heap; candidates = candidates; fuel = 0 })
 unfolding value eval bind judged
 rep_ok_spent_inside program c this_value locals heap candidates = refl
 
@@ -419,6 +419,7 @@ module _ (problem : Problem) (w : IsWellFormed problem) (pure : IsPure problem) 
       locals = parameters_like 0 (parameters problem) (omega arith);
       result = tt;
       olds = tt;
+      thrown = tt;
       heap = heaps_like;
       candidates = refl;
       candidates' = refl;
@@ -462,13 +463,13 @@ module _ (problem : Problem) (w : IsWellFormed problem) (pure : IsPure problem) 
     rep_ok_meets zero agree =
         let l = starts_like agree in
         rw (rep_ok_spent problem.program (root_class problem) (record (start problem v) { fuel = 0 }) refl, rep_ok_spent problem.program (root_class problem) (record (start problem u) { fuel = 0 }) refl)
-        (refl, record { this_value = l.this_value; locals = l.locals; result = tt; olds = tt; heap = l.heap; candidates = refl; candidates' = refl; fuel = refl })
+        (refl, record { this_value = l.this_value; locals = l.locals; result = tt; olds = tt; thrown = tt; heap = l.heap; candidates = refl; candidates' = refl; fuel = refl })
     rep_ok_meets (suc zero) agree =
         let l = starts_like agree in
         let s = start problem v in
         let t = start problem u in
         rw (rep_ok_spent_inside problem.program (root_class problem) s.this_value s.locals s.heap s.candidates, rep_ok_spent_inside problem.program (root_class problem) t.this_value t.locals t.heap t.candidates)
-        (refl, record { this_value = l.this_value; locals = l.locals; result = tt; olds = tt; heap = l.heap; candidates = refl; candidates' = refl; fuel = refl })
+        (refl, record { this_value = l.this_value; locals = l.locals; result = tt; olds = tt; thrown = tt; heap = l.heap; candidates = refl; candidates' = refl; fuel = refl })
     rep_ok_meets (suc (suc k)) agree =
         let l = starts_like agree in
         let s = start problem v in
@@ -480,9 +481,9 @@ module _ (problem : Problem) (w : IsWellFormed problem) (pure : IsPure problem) 
         let class : (object_in (heap_of problem v) o).class ≡ (domain_at problem problem.root).class = heap_class problem w v problem.root (get_or v 0 0) w.root r.number_in in
         let class' : (object_in (heap_of problem u) (nm o)).class ≡ (object_in (heap_of problem v) o).class = classes o (object_at_number problem problem.root (get_or v 0 0) w.root r.number_in).0 in
         let related : Rel (Reference o) (Reference (nm o)) = subst (λ (x : Value). Rel x (Reference (nm o))) e (subst (λ (y : Value). Rel (value_at problem v 0) y) e' l.this_value) in
-        let s2 : State = record { this_value = s.this_value; locals = s.locals; result = None; olds = []; heap = s.heap; candidates = s.candidates; fuel = k } in
-        let t2 : State = record { this_value = t.this_value; locals = t.locals; result = None; olds = []; heap = t.heap; candidates = t.candidates; fuel = k } in
-        let inside : Like problem.program setting s2 t2 = record { this_value = l.this_value; locals = l.locals; result = tt; olds = tt; heap = l.heap; candidates = refl; candidates' = refl; fuel = refl } in
+        let s2 : State = record { this_value = s.this_value; locals = s.locals; result = None; olds = []; thrown = None; heap = s.heap; candidates = s.candidates; fuel = k } in
+        let t2 : State = record { this_value = t.this_value; locals = t.locals; result = None; olds = []; thrown = None; heap = t.heap; candidates = t.candidates; fuel = k } in
+        let inside : Like problem.program setting s2 t2 = record { this_value = l.this_value; locals = l.locals; result = tt; olds = tt; thrown = tt; heap = l.heap; candidates = refl; candidates' = refl; fuel = refl } in
         let body = called_meets (suc k) o s2 t2 inside related class class' own refl in
         let left_is : value problem.program (class_scope problem.program (root_class problem)) rep_ok (record (start problem v) { fuel = suc (suc k) }) ≡ called problem.program (parts_within problem.program (suc k)) (codes "repOk") (Reference o) [] own s2 =
         rep_ok_runs problem.program (root_class problem) k s.this_value s.locals s.heap s.candidates ∙ ap (λ (x : Value). called problem.program (parts_within problem.program (suc k)) (codes "repOk") x [] own s2) e in

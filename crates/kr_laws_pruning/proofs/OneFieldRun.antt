@@ -14,7 +14,8 @@ use Rattle.kr_mean.specs.Operators.{said, is_comparison, holds_of, operated, bin
 use Rattle.kr_classes_table.specs.Table.{table_of}
 use Rattle.kr_classes_table.specs.Constants.{values_of}
 use Rattle.kr_types_meaning.specs.Typing.{judged}
-use Rattle.kr_mean.specs.Meaning.{binary, eval, exec, value}
+use Rattle.kr_mean.specs.Meaning.{binary, value}
+use Rattle.kr_laws_runs.proofs.Bounds.{value_is, execute_is}
 use Rattle.kr_laws_pruning.proofs.Comparisons.{small_is, compared}
 use Rattle.kr_mean.specs.Steps.{State, Outcome, Run, say, give, after_reads, go_on, ◌>>=◌, bind}
 use Rattle.kr_mean.specs.Runs.{End, True, False, IsStuck, rep_ok, where_true, start, end_of, outcome_of, end_on, slots_for, read_slots, order_of, is_same_number, is_accepted}
@@ -73,8 +74,10 @@ both_operands test e width m n = looks_at_both width test e m n ∙ ap (λ (f : 
 -- `this.repOk()` answers the comparison, for six units, and reads the field
 rep_ok_is : (form : Form) (i : ℕ) (z : ℤ) → value_at (problem_of form) (0 ∷ i ∷ []) 1 ≡ Int z
     → value (problem_of form).program (class_scope (problem_of form).program 0) rep_ok (start (problem_of form) (0 ∷ i ∷ [])) ≡ record { said = Ok (Truth (says form (Int z))); after = record (start (problem_of form) (0 ∷ i ∷ [])) { fuel = form.spare }; reads = At 0 (Field 0) ∷ [] }
-unfolding table_of values_of judged heap_of bind eval exec value
-rep_ok_is form i z v = rw (both_operands form.test form.compares, found form.field_name, found form.field_name, v, small_is form.number form.small) refl
+unfolding table_of values_of judged heap_of bind
+rep_ok_is form i z v =
+    rw (value_is, value_is, execute_is, value_is, both_operands form.test form.compares)
+    (rw (value_is, found form.field_name) (rw (found form.field_name, v, value_is, small_is form.number form.small) refl))
 
 -- the run when a condition gives this
 run_for : State → Bool → Outcome Bool

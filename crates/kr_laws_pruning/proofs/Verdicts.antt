@@ -1,5 +1,5 @@
 -- Two candidates that agree on what is reachable have the same verdict: a test sees the same objects in both.
-use Rattle.std.proofs.Common.{◌≡◌, ℕ, zero, suc, ◌+◌, ◌<◌, ◌≤◌, ◌⊎◌, inl, inr, true, false, List, [], ◌∷◌, length, get_or, Result, Ok, Err, Option, Some, None, refl, sym, ap, ◌∙◌, arith, subst}
+use Rattle.std.proofs.Common.{◌≡◌, ℕ, zero, suc, ◌+◌, ◌<◌, ◌≤◌, ◌⊎◌, inl, inr, Bool, true, false, List, [], ◌∷◌, length, get_or, Result, Ok, Err, Option, Some, None, refl, sym, ap, ◌∙◌, arith, subst}
 use Rattle.std.specs.Prelude.{map}
 use Rattle.std.specs.List.{range_with_len}
 use Rattle.std.proofs.lemmas.List.{get_or_past}
@@ -14,7 +14,7 @@ use Rattle.kr_classes_table.specs.Table.{Method}
 use Rattle.kr_types_meaning.specs.Scopes.{Scope}
 use Rattle.kr_mean.specs.declared.kind.Kind.{Kind}
 use Rattle.kr_mean.specs.declared.kind.Verdict.{Verdict}
-use Rattle.kr_mean.specs.declared.kind.Verdict.TheVariants.{Ensures, RepOk, Trap, CheckTrap}
+use Rattle.kr_mean.specs.declared.kind.Verdict.TheVariants.{Ensures, Signals, RepOk, CheckTrap}
 use Rattle.kr_mean.specs.declared.kind.Stop.{Stop}
 use Rattle.kr_mean.specs.declared.kind.Stop.TheVariants.{Trapped, OutOfFuel, Stuck}
 use Rattle.kr_mean.specs.Places.{SlotPlace}
@@ -26,14 +26,15 @@ use Rattle.kr_mean.specs.Meaning.{Target, LocalTarget, OwnField, FieldOf, Elemen
 use Rattle.kr_mean.specs.Code.{Node, code, code_of_method, code_run}
 use Rattle.kr_mean.specs.Purity.{written_by}
 use Rattle.kr_mean.specs.Runs.{rep_ok_node, ensures_of, parameter_values, tested_method}
-use Rattle.kr_mean.specs.Verdicts.{OldNode, olds_of, olds_valued, judged_as, then_judged, where_holds, ensured, checked, verdict_from, test_start, verdict_by, verdict_of}
+use Rattle.kr_mean.specs.Verdicts.{OldNode, olds_of, olds_valued, judged_as, then_judged, where_holds, ensured, checked, verdict_from, test_start, verdict_by, verdict_of, naming, Signal, signals_of, fitting, signalled, thrown, after_body}
+use Rattle.kr_mean.specs.Thrown.{object_of}
 use Rattle.kr_mean.specs.WellFormed.{IsWellFormed}
 use Rattle.kr_laws_slots.proofs.Membership.{Has}
 use Rattle.kr_laws_slots.proofs.Numbering.{object, count_at, width_at, parameters, first_slot, number_of_object}
 use Rattle.kr_laws_slots.proofs.Places.{class_at, extent_of, extent, heap_long, heap_class, values_of_class, heap_values}
-use Rattle.kr_laws_runs.proofs.Respects.{Each, AllOf, MayWrite, IsCode}
+use Rattle.kr_laws_runs.proofs.Respects.{Each, AllOf, MayWrite, IsCode, Any}
 use Rattle.kr_laws_slots.proofs.SlotForks.{all_has}
-use Rattle.kr_laws_slots.proofs.Goes.{Forked, renamed_value, renamed_place, KnownValue, Knows, KnownPlace, Setting, Related, SlotLike, LocalLike, OldLike, ObjectLike, HeapLike, Like, SaidLike, Reaches, Meets, Goes, bind_goes, plain_like, value_goes, method_goes, MayStore, MayPut}
+use Rattle.kr_laws_slots.proofs.Goes.{Forked, renamed_value, renamed_place, KnownValue, Knows, KnownPlace, Setting, Related, SlotLike, LocalLike, OldLike, ObjectLike, HeapLike, Like, SaidLike, Reaches, Meets, Goes, bind_goes, plain_like, value_goes, method_goes, MayStore, MayPut, declares, scopes, objects}
 use Rattle.kr_laws_slots.proofs.Reached.{IsMet, this_known, parameter_known, field_known, field_walked, root_walked}
 use Rattle.kr_laws_slots.proofs.Walked.{walked}
 use Rattle.kr_laws_runs.proofs.Bounds.{all_any}
@@ -180,6 +181,7 @@ module _ (problem : Problem) (w : IsWellFormed problem) (u v : List ℕ) (on_wal
     locals = plain_like problem.program setting (parameter_values problem u) (parameter_values problem v) (parameters_like 0 (parameters problem) (omega arith));
     result = tt;
     olds = tt;
+    thrown = tt;
     heap = heaps_like;
     candidates = refl;
     candidates' = refl;
@@ -204,10 +206,15 @@ module _ (problem : Problem) (w : IsWellFormed problem) (u v : List ℕ) (on_wal
   values_alike : (scope : Scope) (e : Tree) → Alike Rel (value problem.program scope e) (value problem.program scope e)
   values_alike scope e = value_goes problem.program setting (λ node. Unit {0}) any_code scope e (all_any (code scope e))
 
+  -- with the thrown object as a local, where it is named
+  named_alike : (b : Bool) (o p : Value) (m : Run Value) → Rel o p → Alike Rel m m → Alike Rel (naming b o m) (naming b p m)
+  named_alike true o p m r q = scopes problem.program setting Rel _ _ (bind_goes problem.program setting Any Rel _ _ _ _ (declares problem.program setting o p r) (λ a b u. q))
+  named_alike false o p m r q = q
+
   olds_alike : (os : List OldNode) → Alike (Each (OldLike problem.program setting)) (olds_valued problem.program os) (olds_valued problem.program os)
   olds_alike [] = record { by = λ s s' l. (tt, l) }
   olds_alike (o ∷ os) =
-      bind_goes problem.program setting Rel (Each (OldLike problem.program setting)) _ _ _ _ (values_alike o.scope o.tree) (λ x y r.
+      bind_goes problem.program setting Rel (Each (OldLike problem.program setting)) _ _ _ _ (named_alike o.is_named Null Null _ (refl, tt) (values_alike o.scope o.tree)) (λ x y r.
       bind_goes problem.program setting (Each (OldLike problem.program setting)) (Each (OldLike problem.program setting)) _ _ _ _ (olds_alike os) (λ xs ys e. record { by = λ s s' l. (((refl, r), e), l) }))
 
   locals_like : (ls ms : List Local) → Each (LocalLike problem.program setting) ls ms → Each Rel (map (λ l. l.value) ls) (map (λ l. l.value) ms)
@@ -263,13 +270,47 @@ module _ (problem : Problem) (w : IsWellFormed problem) (u v : List ℕ) (on_wal
   checked_same m os ps x y s s' h r l =
       judged_same Rel CheckTrap (value problem.program (rep_ok_node problem).scope (rep_ok_node problem).tree s) (value problem.program (rep_ok_node problem).scope (rep_ok_node problem).tree s') _ _ ((values_alike (rep_ok_node problem).scope (rep_ok_node problem).tree).by s s' l)
       (λ a b t t' q k. holds_same a b q RepOk _ _ (ensured_same 1 (ensures_of problem.program m) (record t { result = Some x; olds = os }) (record t' { result = Some y; olds = ps })
-      (record { this_value = k.this_value; locals = k.locals; result = r; olds = h; heap = k.heap; candidates = k.candidates; candidates' = k.candidates'; fuel = k.fuel })))
+      (record { this_value = k.this_value; locals = k.locals; result = r; olds = h; thrown = k.thrown; heap = k.heap; candidates = k.candidates; candidates' = k.candidates'; fuel = k.fuel })))
+
+  signalled_same : (o p : Value) (cs : List Signal) (s s' : State) → Rel o p → Like problem.program setting s s' → signalled problem.program o cs s ≡ signalled problem.program p cs s'
+  signalled_same o p [] s s' r l = refl
+  signalled_same o p (c ∷ cs) s s' r l =
+      judged_same Rel CheckTrap (naming c.is_named o (value problem.program c.condition.scope c.condition.tree) s) (naming c.is_named p (value problem.program c.condition.scope c.condition.tree) s') _ _
+      ((named_alike c.is_named o p _ r (values_alike c.condition.scope c.condition.tree)).by s s' l)
+      (λ x y t t' z k. holds_same x y z (Signals c.number) (signalled problem.program o cs t) (signalled problem.program p cs t') (signalled_same o p cs t t' r k))
+
+  thrown_same : (m : Method) (os ps : List Old) (k : Kind) (cs : List Signal) (s s' : State) → Each (OldLike problem.program setting) os ps → Like problem.program setting s s' → thrown problem m os k cs s ≡ thrown problem m ps k cs s'
+  thrown_same m os ps k [] s s' h l = refl
+  thrown_same m os ps k (c ∷ cs) s s' h l =
+      judged_same Rel CheckTrap (object_of problem.program k s) (object_of problem.program k s') _ _ ((objects problem.program setting k).by s s' l) (λ o p t t' r q.
+      judged_same Rel CheckTrap (value problem.program (rep_ok_node problem).scope (rep_ok_node problem).tree t) (value problem.program (rep_ok_node problem).scope (rep_ok_node problem).tree t') _ _ ((values_alike (rep_ok_node problem).scope (rep_ok_node problem).tree).by t t' q) (λ a b u u' z w.
+      holds_same a b z RepOk _ _ (signalled_same o p (c ∷ cs) (record u { olds = os }) (record u' { olds = ps }) r
+      (record { this_value = w.this_value; locals = w.locals; result = w.result; olds = h; thrown = w.thrown; heap = w.heap; candidates = w.candidates; candidates' = w.candidates'; fuel = w.fuel }))))
+
+  abbrev judged_there : Method → List Old → Result Value Stop → State → Verdict
+  judged_there m xs r t = judged_as (λ k. thrown problem m xs k (fitting problem.program k (signals_of problem.program m)) t) r t (λ result s. checked problem m xs result s)
+
+  -- after the body, however it ends
+  after_body_same : (m : Method) (os ps : List Old) (o o' : Outcome Value) → Each (OldLike problem.program setting) os ps → Meets problem.program setting Rel o o' → after_body problem m os o ≡ after_body problem m ps o'
+  after_body_same m os ps o o' h z =
+      let r = forked_end (renamed_place (λ o. o)) (KnownPlace 0 0 KnownHere []) (λ p. Unit {0}) (Reaches problem.program setting Rel o o') o.reads o'.reads (λ p. tt) z in
+      go o.said o'.said o.after o'.after r.0 r.1
+    where
+      stopped : (e : Stop) (s s' : State) → Like problem.program setting s s' → judged_there m os (Err e) s ≡ judged_there m ps (Err e) s'
+      stopped (Trapped k) s s' l = thrown_same m os ps k (fitting problem.program k (signals_of problem.program m)) s s' h l
+      stopped OutOfFuel s s' l = refl
+      stopped Stuck s s' l = refl
+
+      go : (r r' : Result Value Stop) (s s' : State) → SaidLike problem.program setting Rel r r' → Like problem.program setting s s' → judged_there m os r s ≡ judged_there m ps r' s'
+      go (Ok a) (Ok b) s s' e l = checked_same m os ps a b s s' h e l
+      go (Err x) (Err y) s s' e l = rw e (stopped x s s' l)
+      go (Ok a) (Err y) s s' e l = absurd e
+      go (Err x) (Ok b) s s' e l = absurd e
 
   from_same : (m : Method) (s s' : State) → Like problem.program setting s s' → verdict_from problem m s ≡ verdict_from problem m s'
   from_same m s s' l =
       judged_same (Each (OldLike problem.program setting)) CheckTrap (olds_valued problem.program (olds_of problem.program m) s) (olds_valued problem.program (olds_of problem.program m) s') _ _ ((olds_alike (olds_of problem.program m)).by s s' l) (λ os ps t t' h k.
-      judged_same Rel Trap (body_of problem.program t.this_value (map (λ l. l.value) t.locals) m t) (body_of problem.program t'.this_value (map (λ l. l.value) t'.locals) m t') _ _ ((bodies_alike m t.this_value t'.this_value _ _ k.this_value (locals_like t.locals t'.locals k.locals)).by t t' k) (λ x y a a' r q.
-      checked_same m os ps x y a a' h r q))
+      after_body_same m os ps (body_of problem.program t.this_value (map (λ l. l.value) t.locals) m t) (body_of problem.program t'.this_value (map (λ l. l.value) t'.locals) m t') h ((bodies_alike m t.this_value t'.this_value _ _ k.this_value (locals_like t.locals t'.locals k.locals)).by t t' k))
 
   by_same : (fuel : ℕ) (m : Option Method) → verdict_by problem u fuel m ≡ verdict_by problem v fuel m
   by_same fuel None = refl

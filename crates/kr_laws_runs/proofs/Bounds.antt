@@ -16,7 +16,9 @@ use Rattle.kr_classes_table.specs.Table.{Field, Method, items}
 use Rattle.kr_classes_table.specs.Arrays.{array_number}
 use Rattle.kr_types_meaning.specs.Scopes.{Scope, after}
 use Rattle.kr_mean.specs.declared.kind.Stop.{Stop}
-use Rattle.kr_mean.specs.declared.kind.Stop.TheVariants.{OutOfFuel, Stuck}
+use Rattle.kr_mean.specs.declared.kind.Kind.{Kind}
+use Rattle.kr_mean.specs.declared.kind.Stop.TheVariants.{Trapped, OutOfFuel, Stuck}
+use Rattle.kr_mean.specs.Thrown.{class_of_kind, object_of_class, object_or_new, object_of, handled, caught_by, attempted}
 use Rattle.kr_mean.specs.Program.{Program, default_of, spot_of_field, is_array_of}
 use Rattle.kr_mean.specs.Places.{SlotPlace}
 use Rattle.kr_mean.specs.Collections.{Collected, collected}
@@ -28,7 +30,7 @@ use Rattle.kr_mean.specs.Meaning.{Parts, Target, LocalTarget, OwnField, FieldOf,
 use Rattle.kr_mean.specs.Code.{Node, code, code_of_method, code_run}
 use Rattle.kr_mean.specs.Purity.{written_by}
 use Rattle.kr_laws_runs.specs.Laws.{Spends, round, HasEquations}
-use Rattle.kr_laws_runs.proofs.Respects.{Any, Same, Each, OnFlow, AllOf, MayWrite, Logic, IsCode, PartsAlike, values, flows, then_rounds, runs_method}
+use Rattle.kr_laws_runs.proofs.Respects.{Any, Same, Each, OnOption, OnFlow, AllOf, MayWrite, Logic, IsCode, PartsAlike, values, flows, then_rounds, runs_method}
 
 abbrev pub SaidSame : {A : Type 0} → (A → A → Type 0) → Result A Stop → Result A Stop → Type 0
 SaidSame S (Ok a) (Ok b) = S a b
@@ -60,6 +62,38 @@ bind_under j {A} {B} S T m m' f f' p q = record { by = λ s le. go s le (m s) (m
 
     go : (s : State) → s.fuel ≤ j → (o o' : Outcome A) → OneOutcome s.fuel S o o' → OneOutcome s.fuel T (go_on o.said o.after o.reads f) (go_on o'.said o'.after o'.reads f')
     go s le o o' x = subst (λ (t : State). OneOutcome s.fuel T (go_on o.said o.after o.reads f) (go_on o'.said t o'.reads f')) (sym x.after) (subst (λ (ps : List SlotPlace). OneOutcome s.fuel T (go_on o.said o.after o.reads f) (go_on o'.said o.after ps f')) (sym x.reads) (step s.fuel o.said o'.said o.after o.reads le x.said x.less))
+
+abbrev there : {A : Type 0} → Result A Stop → State → List SlotPlace → Outcome A
+there r t ps = record { said = r; after = t; reads = ps }
+
+-- a trap that is caught goes on with the fuel that is left
+pub attempt_under : (j : ℕ) {A : Type 0} (S : A → A → Type 0) (m m' : Run A) (h h' : Kind → Option (Run A)) → Under j S m m' → ((k : Kind) → OnOption (λ (x y : Run A). Under j S x y) (h k) (h' k))
+    → Under j S (attempted m h) (attempted m' h')
+unfolding attempted
+attempt_under j {A} S m m' h h' p q = record { by = λ s le. go s le (m s) (m' s) (p.by s le) }
+  where
+    onward : (n : ℕ) (k : Kind) (t : State) (ps : List SlotPlace) → n ≤ j → t.fuel ≤ n → (x y : Option (Run A)) → OnOption (λ (x y : Run A). Under j S x y) x y
+        → OneOutcome n S (caught_by x (there (Err (Trapped k)) t ps)) (caught_by y (there (Err (Trapped k)) t ps))
+    onward n k t ps le l None None u = record { said = refl; after = refl; reads = refl; less = l }
+    onward n k t ps le l (Some x) (Some y) u = let z = u.by t (omega (arith, l, le)) in record { said = z.said; after = z.after; reads = ap (λ (y : List SlotPlace). ps ++ y) z.reads; less = omega (arith, z.less, l) }
+    onward n k t ps le l None (Some y) u = absurd u
+    onward n k t ps le l (Some x) None u = absurd u
+
+    stopped_at : (n : ℕ) (x : Stop) (t : State) (ps : List SlotPlace) → n ≤ j → t.fuel ≤ n → OneOutcome n S (caught_by (handled (Err x) h) (there (Err x) t ps)) (caught_by (handled (Err x) h') (there (Err x) t ps))
+    stopped_at n (Trapped k) t ps le l = onward n k t ps le l (h k) (h' k) (q k)
+    stopped_at n OutOfFuel t ps le l = record { said = refl; after = refl; reads = refl; less = l }
+    stopped_at n Stuck t ps le l = record { said = refl; after = refl; reads = refl; less = l }
+
+    step : (n : ℕ) (r r' : Result A Stop) (t : State) (ps : List SlotPlace) → n ≤ j → SaidSame S r r' → t.fuel ≤ n → OneOutcome n S (caught_by (handled r h) (there r t ps)) (caught_by (handled r' h') (there r' t ps))
+    step n (Ok a) (Ok b) t ps le e l = record { said = e; after = refl; reads = refl; less = l }
+    step n (Err x) (Err y) t ps le e l = rw e (stopped_at n x t ps le l)
+    step n (Ok a) (Err y) t ps le e l = absurd e
+    step n (Err x) (Ok b) t ps le e l = absurd e
+
+    go : (s : State) → s.fuel ≤ j → (o o' : Outcome A) → OneOutcome s.fuel S o o' → OneOutcome s.fuel S (caught_by (handled o.said h) o) (caught_by (handled o'.said h') o')
+    go s le o o' x =
+        subst (λ (t : State). OneOutcome s.fuel S (caught_by (handled o.said h) o) (caught_by (handled o'.said h') (there o'.said t o'.reads))) (sym x.after)
+        (subst (λ (ps : List SlotPlace). OneOutcome s.fuel S (caught_by (handled o.said h) o) (caught_by (handled o'.said h') (there o'.said o.after ps))) (sym x.reads) (step s.fuel o.said o'.said o.after o.reads le x.said x.less))
 
 pub said_self : {A : Type 0} (S : A → A → Type 0) → ((a : A) → S a a) → (r : Result A Stop) → SaidSame S r r
 said_self S one (Ok a) = one a
@@ -202,6 +236,17 @@ array_spends program t (Truth b) s = omega arith
 array_spends program t Null s = omega arith
 array_spends program t (Reference o) s = omega arith
 
+pub object_spends : (program : Program) (k : Kind) → Spends (object_of program k)
+object_spends program k s = go s.thrown
+  where
+    made : (c : Option ℕ) → (object_of_class program c s).after.fuel ≤ s.fuel
+    made None = omega arith
+    made (Some c) = omega arith
+
+    go : (x : Option Value) → (object_or_new program k x s).after.fuel ≤ s.fuel
+    go None = made (class_of_kind program k)
+    go (Some v) = omega arith
+
 pub collect_spends : (n : List ℕ) (o : Value) (vs : List Value) → Spends (collect n o vs)
 collect_spends n (Reference o) vs s = go (collected (object_in s.heap o).class n vs (object_in s.heap o).values)
   where
@@ -281,6 +326,9 @@ module _ (program : Program) (j : ℕ) where
     chooses = chooses;
     withins = withins;
     scopes = scopes;
+    throws_as = λ S k v w e. rw e (record { by = λ s le. record { said = refl; after = refl; reads = refl; less = omega arith } });
+    objects = λ k. self j Same one (object_of program k) (object_spends program k);
+    attempts = attempt_under j;
   }
 
 -- ---- a bound of at least the fuel cuts nothing off

@@ -16,19 +16,21 @@ use Rattle.kr_classes_table.specs.Types.{JavaType, NumberType, BooleanType, Null
 use Rattle.kr_classes_table.specs.Table.{Field, Method, Constructor, items, fields_of, line_of, method_named}
 use Rattle.kr_classes_table.specs.Constants.{constant_in, constant_of, value_at}
 use Rattle.kr_classes_table.specs.Numbers.{Width, Bits32, Bits64, wrap}
-use Rattle.kr_types_meaning.specs.Scopes.{Scope, Meant, LocalName, FieldName, NoName, written, after, meant, class_before, static_only, method_meant, bind_local as with_local}
+use Rattle.kr_types_meaning.specs.Scopes.{Scope, Meant, LocalName, FieldName, NoName, written, caught_type, after, meant, class_before, static_only, method_meant, bind_local as with_local}
+use Rattle.kr_mean.specs.declared.kind.Kind.{Kind}
 use Rattle.kr_mean.specs.declared.kind.Kind.TheVariants.{NullPointerException, ClassCastException, NoReturn}
 use Rattle.kr_mean.specs.declared.kind.Stop.{Stop}
 use Rattle.kr_mean.specs.declared.kind.Stop.TheVariants.{Trapped, OutOfFuel, Stuck}
 use Rattle.kr_mean.specs.Program.{Program, default_of, is_of_type, field_position, overriding, class_scope, method_scope, constructor_scope, constructor_of, declared_fields}
 use Rattle.kr_mean.specs.Steps.{Run, say, give, stop, given, not_null, ◌>>=◌, tick, get_this, read_local, declare, assign, get_result, get_old, within, scoped, load, load_at, load_in, load_field, element, class_or_null, class_of, store, store_new, store_element, make, collect}
+use Rattle.kr_mean.specs.Thrown.{class_of_kind, kind_of, throw_as, throw_in, throw, is_caught, object_of, attempted}
 use Rattle.kr_mean.specs.declared.operations.BinaryOperation.{BinaryOperation}
 use Rattle.kr_mean.specs.declared.operations.UnaryOperation.{UnaryOperation}
 use Rattle.kr_mean.specs.declared.operations.StepOperation.{StepOperation}
 use Rattle.kr_mean.specs.Operators.{operated, operated_alone, binary_operation, compound_operation, unary_operation, step_operation, step_binary, gives_old}
 use Rattle.kr_mean.specs.declared.flow.Flow.{Flow}
 use Rattle.kr_mean.specs.declared.flow.Flow.TheVariants.{Next, Broke, Continued, Left, Gave}
-use Rattle.kr_mean.specs.Meaning.{Parts, Target, LocalTarget, OwnField, FieldOf, ElementOf, NoTarget, Change, then_on, then_round, then_update, returned, completed, choose, values_of, all, updates, condition, rounds, constant, read_name, access, typed_method, run_body, run_method, run_chosen, own_call, called, method_call, super_method, super_arguments, initialised, all_initialised, constructed_by, constructed, create, create_array, target_of, assigned, changed, compound, change_from, stepped, binary, cast, is_primitive, instance, value_of, initial_value, declared, all_declared, declaring_locals, flow_of, statement, spent, parts_within, eval, exec, primitive_cast, width_at, width_of, operand_width}
+use Rattle.kr_mean.specs.Meaning.{Parts, Target, LocalTarget, OwnField, FieldOf, ElementOf, NoTarget, Change, then_on, then_round, then_update, returned, completed, choose, values_of, all, updates, condition, rounds, constant, read_name, access, typed_method, run_body, run_method, run_chosen, own_call, called, method_call, super_method, super_arguments, initialised, all_initialised, constructed_by, constructed, create, create_array, target_of, assigned, changed, compound, change_from, stepped, binary, cast, is_primitive, instance, value_of, initial_value, declared, all_declared, declaring_locals, catch_run, caught, flow_of, statement, spent, parts_within, eval, exec, primitive_cast, width_at, width_of, operand_width}
 use Rattle.kr_mean.specs.Code.{Node, code, code_of_all, code_of_method, code_of_constructor, code_of_class, overriders, runnable, runnable_behind, methods_run, classes_run, code_run}
 use Rattle.kr_mean.specs.Purity.{IsOneOf, written_by}
 use Rattle.kr_laws_runs.proofs.Overriders.{overrider_in}
@@ -125,6 +127,9 @@ pub record Logic (program : Program) (MayStore : Field → Type 0) (MayPut : Jav
   pub chooses : {A : Type 0} (S : A → A → Type 0) (v v' : Value) (m m' n n' : Run A) → R v v' → Rel S m m' → Rel S n n' → Rel S (choose v m n) (choose v' m' n')
   pub withins : {A : Type 0} (S : A → A → Type 0) (o o' : Value) (n : ℕ) (vs ws : List Value) (m m' : Run A) → R o o' → Each R vs ws → Rel S m m' → Rel S (within o n vs m) (within o' n ws m')
   pub scopes : {A : Type 0} (S : A → A → Type 0) (m m' : Run A) → Rel S m m' → Rel S (scoped m) (scoped m')
+  pub throws_as : {A : Type 0} (S : A → A → Type 0) (k : Kind) (v w : Value) → R v w → Rel S (throw_as k v) (throw_as k w)
+  pub objects : (k : Kind) → Rel R (object_of program k) (object_of program k)
+  pub attempts : {A : Type 0} (S : A → A → Type 0) (m m' : Run A) (h h' : Kind → Option (Run A)) → Rel S m m' → ((k : Kind) → OnOption (λ (x y : Run A). Rel S x y) (h k) (h' k)) → Rel S (attempted m h) (attempted m' h')
 
 -- Nodes of code: closed under what they run, and none of them writes what may not be written.
 pub record IsCode (program : Program) (MayStore : Field → Type 0) (MayPut : JavaType → Type 0) (Q : Node → Type 0) : Type 0 where
@@ -554,6 +559,29 @@ module _ (program : Program) (MayStore : Field → Type 0) (MayPut : JavaType �
     return_goes r s trees.Nil h = l.gives_ (OnFlow l.R) Left Left tt
     return_goes r s e h = returned_by s e h
 
+    throws_in : (v w : Value) (class : Class) → l.R v w → l.Rel (OnFlow l.R) (throw_in program v class) (throw_in program w class)
+    throws_in v w (Object c) r = l.throws_as (OnFlow l.R) (kind_of program c) v w r
+    throws_in v w (Array t) r = l.stops (OnFlow l.R) Stuck
+    throws_in v w Set r = l.stops (OnFlow l.R) Stuck
+    throws_in v w ListClass r = l.stops (OnFlow l.R) Stuck
+
+    throws : (v w : Value) → l.R v w → l.Rel (OnFlow l.R) (throw program v) (throw program w)
+    throws v w r = l.binds _ _ _ _ _ _ (classes_of_ v w r) (λ c d e. rw e (throws_in v w c r))
+
+    catch_runs : (s : Scope) (d b : Tree) (k : Kind) → Coded (after s d) b → l.Rel (OnFlow l.R) (catch_run program p s d b k) (catch_run program p' s d b k)
+    catch_runs s d b k h =
+        l.scopes (OnFlow l.R) _ _ (l.binds _ _ _ _ _ _ l.ticks (λ x y u. l.binds _ _ _ _ _ _ (l.objects k) (λ o o' r. l.binds _ _ _ _ _ _ (l.declares o o' r) (λ x y u. q.exec (after s d) b h))))
+
+    -- the same clause fits
+    caughts : (s : Scope) (cs : List Tree) → AllCoded s cs → (k : Kind) → OnOption (λ (x y : Run Flow). l.Rel (OnFlow l.R) x y) (caught program p s cs k) (caught program p' s cs k)
+    caughts s [] h k = tt
+    caughts s (trees.Catch r d b ∷ cs) h k = go (is_caught program (caught_type s d) (class_of_kind program k)) (caughts s cs (all_back Q (code s (trees.Catch r d b)) (code_of_all s cs) h) k)
+      where
+        go : (x : Bool) → OnOption (λ (x y : Run Flow). l.Rel (OnFlow l.R) x y) (caught program p s cs k) (caught program p' s cs k) → OnOption (λ (x y : Run Flow). l.Rel (OnFlow l.R) x y) (if x then Some (catch_run program p s d b k) else caught program p s cs k) (if x then Some (catch_run program p' s d b k) else caught program p' s cs k)
+        go true rest = catch_runs s d b k (all_front Q (code s (trees.Catch r d b)) (code_of_all s cs) h).1
+        go false rest = rest
+    caughts s (t ∷ cs) h k = tt
+
     pub flows : RunsAlike (OnFlow l.R) (flow_of program p) (flow_of program p')
     flows s (trees.Empty _) h = l.gives_ (OnFlow l.R) Next Next tt
     flows s (trees.Block _ ts) h = l.scopes (OnFlow l.R) _ _ (alls s (items ts) (each_item s ts h.1))
@@ -576,6 +604,8 @@ module _ (program : Program) (MayStore : Field → Type 0) (MayPut : JavaType �
     flows s (trees.Break _) h = l.gives_ (OnFlow l.R) Broke Broke tt
     flows s (trees.Continue _) h = l.gives_ (OnFlow l.R) Continued Continued tt
     flows s (trees.Return r e) h = return_goes r s e h.1
+    flows s (trees.Throw _ e) h = l.binds _ _ _ _ _ _ (q.value s e h.1) (λ v w r. throws v w r)
+    flows s (trees.Try _ b cs) h = l.attempts (OnFlow l.R) _ _ _ _ (q.exec s b (all_front Q (code s b) (code s cs) h.1)) (caughts s (items cs) (each_item s cs (all_back Q (code s b) (code s cs) h.1)))
     flows s _ h = l.stops (OnFlow l.R) Stuck
 
     pub statements : RunsAlike (OnFlow l.R) (statement program p) (statement program p')

@@ -20,9 +20,9 @@ use Rattle.kr_mean.specs.declared.flow.Flow.{Flow}
 use Rattle.kr_mean.specs.declared.flow.Flow.TheVariants.{Next, Broke, Continued, Left, Gave}
 use Rattle.kr_mean.specs.Meaning.{Parts, returned, values_of, all, run_body, run_method, run_chosen}
 use Rattle.kr_laws_safety.specs.Fits.{IsOf, AreOf, type_at}
-use Rattle.kr_laws_safety.specs.Triples.{Fixed, IsThis, Safe, Extends, type_of_old}
+use Rattle.kr_laws_safety.specs.Triples.{Fixed, IsThis, Safe, Closes, Extends, type_of_old}
 use Rattle.kr_laws_safety.proofs.Heaps.{value_more, values_more}
-use Rattle.kr_laws_safety.proofs.Steps.{safe_give, safe_trap, safe_then, safe_within}
+use Rattle.kr_laws_safety.proofs.Steps.{safe_give, safe_trap, safe_then, safe_within, closes_within}
 use Rattle.kr_laws_types.specs.Types.{is_variable_type, AreVariables}
 use Rattle.kr_laws_types.specs.Shapes.{Expression, Expressions}
 use Rattle.kr_laws_types.specs.Expressions.{plain}
@@ -175,6 +175,13 @@ module _ (program : Program) (fixed : Fixed) (facts : IsTypedProgram program) (p
   method_run types this ls m receiver vs h i j =
       subst (λ (n : ℕ). Safe program fixed types this ls (within receiver n vs (run_body program p m)) (GivesAs program ls m.result)) (length-map m.parameters (λ x. x.type))
       (safe_within program fixed types this (if m.is_static then None else Some m.class) ls (types_in m.parameters) receiver vs (run_body program p m) (λ more v. is_void m.result ≡ false → IsOf program.table more m.result v) i j (body m h types))
+
+  -- where it traps, the locals are as they were
+  pub method_closes : (types : List JavaType) (this : Option ℕ) (ls : List JavaType) (m : Method) (receiver : Value) (vs : List Value) → IsMethod program m → IsThis program.table types (if m.is_static then None else Some m.class) receiver → AreOf program.table types (types_in m.parameters) vs
+      → Closes program fixed types this ls (run_method program p receiver vs (Some m))
+  method_closes types this ls m receiver vs h i j =
+      subst (λ (n : ℕ). Closes program fixed types this ls (within receiver n vs (run_body program p m))) (length-map m.parameters (λ x. x.type))
+      (closes_within program fixed types this (if m.is_static then None else Some m.class) ls (types_in m.parameters) receiver vs (run_body program p m) _ i j (body m h types))
 
   static_this : (types : List JavaType) (m : Method) (v : Value) → m.is_static ≡ true → IsThis program.table types (if m.is_static then None else Some m.class) v
   static_this types m v e = subst (λ (b : Bool). IsThis program.table types (if b then None else Some m.class) v) (sym e) tt

@@ -10,7 +10,7 @@ use Rattle.kr_value.specs.Heaps.{object_in}
 use Rattle.kr_classes_table.specs.Numbers.{Bits32}
 use Rattle.kr_classes_table.specs.Types.{JavaType, int_type, BooleanType, ListType, is_element}
 use Rattle.kr_mean.specs.declared.kind.Kind.{Kind as TrapKind}
-use Rattle.kr_mean.specs.declared.kind.Kind.TheVariants.{NoSuchElementException}
+use Rattle.kr_mean.specs.declared.kind.Kind.TheVariants.{NullPointerException, NoSuchElementException}
 use Rattle.kr_mean.specs.Program.{Program}
 use Rattle.kr_mean.specs.Collections.{Collected, is_same_value, has_member, without, added_once, is_empty, collected}
 use Rattle.kr_mean.specs.Steps.{State, with_members, collected_said, collect_as, collect}
@@ -18,7 +18,7 @@ use Rattle.kr_laws_safety.specs.Fits.{IsOf, AreAll, IsObjectOf, IsHeapOf, type_a
 use Rattle.kr_laws_safety.specs.Triples.{Fixed, IsStateOf, Fine, Safe, Gives}
 use Rattle.kr_laws_safety.specs.Steps.{Collection, Sets, Lists, type_with, class_with}
 use Rattle.kr_laws_safety.proofs.Heaps.{extends_self, object_found, object_set, all_append}
-use Rattle.kr_laws_safety.proofs.Steps.{Assigned, type_known, with_heap, set_long}
+use Rattle.kr_laws_safety.proofs.Steps.{Assigned, type_known, with_heap, set_long, fine_trap}
 
 module _ (program : Program) (fixed : Fixed) where
   -- a collection's object
@@ -50,7 +50,7 @@ module _ (program : Program) (fixed : Fixed) where
   collect_by types this ls Lists t u n (Int z) vs i f = absurd (cc (i.1))
   collect_by types this ls Sets t u n (Truth b) vs i f = absurd (cc (i))
   collect_by types this ls Lists t u n (Truth b) vs i f = absurd (cc (i))
-  collect_by types this ls k t u n Null vs i f = record { by = λ s h. (types, ls, extends_self types, h, extends_self ls) }
+  collect_by types this ls k t u n Null vs i f = record { by = λ s h. fine_trap program fixed types this ls NullPointerException s h }
   collect_by types this ls k t u n (Reference o) vs i f = record { by = λ s h. go s h (members_of types s o k t h.heap i) }
     where
       typed : (s : State) → type_at types o ≡ type_with k t → (object_in s.heap o).class ≡ class_with k → is_element t ≡ true → (ms : List Value) → AreAll program.table types t ms → IsObjectOf program types (type_at types o) (record { class = (object_in s.heap o).class; values = ms })
@@ -68,7 +68,7 @@ module _ (program : Program) (fixed : Fixed) where
 
           by_given : (r : Result Value TrapKind) → IsGiven types u r → Fine program fixed types this ls (Gives program ls u) (collected_said r) (record s { heap = with_members s.heap o c.members })
           by_given (Ok v) q = (types, ls, extends_self types, new, (refl, q), extends_self ls)
-          by_given (Err kind) q = (types, ls, extends_self types, new, extends_self ls)
+          by_given (Err kind) q = fine_trap program fixed types this ls kind (record s { heap = with_members s.heap o c.members }) new
 
       go : (s : State) → IsStateOf program fixed types this ls s → (type_at types o ≡ type_with k t) × ((object_in s.heap o).class ≡ class_with k) × (is_element t ≡ true) × AreAll program.table types t (object_in s.heap o).values
           → Fine program fixed types this ls (Gives program ls u) (collect n (Reference o) vs s).said (collect n (Reference o) vs s).after

@@ -28,7 +28,7 @@ use Rattle.kr_laws_types.specs.Expressions.{plain}
 use Rattle.kr_laws_types.proofs.Expressions.{after_expression}
 use Rattle.kr_laws_safety.specs.Typed.{AreAllVariables, types_in, CallsSuper, IsConstructor, IsConstructed, IsInitialised, AreInitialised, first_class, IsLine, IsTypedProgram}
 use Rattle.kr_laws_safety.specs.Claims.{this_of, types_of, GivesAs, IsScope, Coded, LeadsOn, PartsSafe}
-use Rattle.kr_laws_safety.proofs.Targets.{variable_target, variable_not_void, default_is}
+use Rattle.kr_laws_safety.proofs.Targets.{variable_target, variable_not_void, defaults_are}
 use Rattle.kr_laws_safety.proofs.Glue.{kept, safe_next, safe_keep, typed_at}
 use Rattle.kr_laws_safety.proofs.Sequences.{after_all, sequence}
 use Rattle.kr_laws_safety.proofs.Calls.{Fit, variables_used, arguments_are, parameter_types, parameter_variables, Given, arguments}
@@ -44,7 +44,7 @@ pub present : (arrays : List JavaType) (olds : Place → Option JavaType) (s : S
 present arrays olds s trees.Nil h q = absurd (cc (q))
 present arrays olds s _ h q = h
 
-initialised_present : (program : Program) (p : Parts) (o : Value) (f : Field) (e : Tree) → is_nil e ≡ false → initialised program p o f e ≡ (p.value (class_scope program f.class) e >>= (λ v. store_new program f o v))
+pub initialised_present : (program : Program) (p : Parts) (o : Value) (f : Field) (e : Tree) → is_nil e ≡ false → initialised program p o f e ≡ (p.value (class_scope program f.class) e >>= (λ v. store_new program f o v))
 initialised_present program p o f trees.Nil q = absurd (cc (q))
 initialised_present program p o f _ q = refl
 
@@ -257,14 +257,10 @@ module _ (program : Program) (fixed : Fixed) (facts : IsTypedProgram program) (p
 
   -- ---- creations
 
-  defaults : (types : List JavaType) (fs : List Field) → AreAllVariables (map (λ f. f.type) fs) → AreOf program.table types (map (λ f. f.type) fs) (map (λ f. default_of f.type) fs)
-  defaults types [] h = tt
-  defaults types (f ∷ fs) h = (default_is program.table types f.type h.0, defaults types fs h.1)
-
   pub object_created : (types : List JavaType) (this : Option ℕ) (ls : List JavaType) (c : ℕ) (vs : List Value) → AreOf program.table types (types_in (constructor_parameters program.table c)) vs → Safe program fixed types this ls (create program p (ClassType c) vs) (Gives program ls (ClassType c))
   object_created types this ls c vs j =
       safe_next program fixed types this ls (make (Object c) (map (λ f. default_of f.type) (fields_of program.table c))) _ (λ more v. (o : ℕ) × (v ≡ Reference o) × IsNew more o c) _
-      (safe_map program fixed types this ls (make (Object c) (map (λ f. default_of f.type) (fields_of program.table c))) _ _ (safe_make program fixed types this ls (ClassType c) (Object c) (map (λ f. default_of f.type) (fields_of program.table c)) (refl, defaults types (fields_of program.table c) (facts.classes c).fields))
+      (safe_map program fixed types this ls (make (Object c) (map (λ f. default_of f.type) (fields_of program.table c))) _ _ (safe_make program fixed types this ls (ClassType c) (Object c) (map (λ f. default_of f.type) (fields_of program.table c)) (refl, defaults_are program.table types (fields_of program.table c) (facts.classes c).fields))
       (λ more ms v h. (h.0, (h.1, h.2, record { there = h.3; type = h.4; own = h.5 }))))
       (λ more v x n. subst (λ (w : Value). Safe program fixed more this ls (constructed program p (line_of program.table c) w vs >> give w) (Gives program ls (ClassType c))) (sym n.1)
       (safe_keep program fixed more this ls (constructed program p (line_of program.table c) (Reference n.0) vs) _ _ (line_constructed c n.0 (line_of program.table c) (facts.classes c).line (line_below program.table c) more this ls vs n.2 (values_more program.table types more (types_in (constructor_parameters program.table c)) vs x j))

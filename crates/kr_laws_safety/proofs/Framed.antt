@@ -12,8 +12,10 @@ use Rattle.kr_classes_table.specs.Types.{JavaType, ArrayType}
 use Rattle.kr_classes_table.specs.Table.{Field}
 use Rattle.kr_classes_table.specs.Arrays.{array_number}
 use Rattle.kr_types_meaning.specs.Scopes.{Scope}
+use Rattle.kr_mean.specs.declared.kind.Kind.{Kind}
 use Rattle.kr_mean.specs.declared.kind.Stop.{Stop}
-use Rattle.kr_mean.specs.declared.kind.Stop.TheVariants.{Stuck}
+use Rattle.kr_mean.specs.declared.kind.Stop.TheVariants.{Trapped, OutOfFuel, Stuck}
+use Rattle.kr_mean.specs.Thrown.{class_of_kind, object_of_class, object_or_new, object_of, handled, caught_by, attempted}
 use Rattle.kr_mean.specs.Program.{Program, spot_of_field, is_array_of}
 use Rattle.kr_mean.specs.Places.{SlotPlace}
 use Rattle.kr_mean.specs.Collections.{Collected, collected}
@@ -21,7 +23,7 @@ use Rattle.kr_mean.specs.Steps.{Local, State, Outcome, Run, say, stop, go_on, bi
 use Rattle.kr_mean.specs.Operators.{operated, operated_alone}
 use Rattle.kr_mean.specs.Meaning.{choose, make_array, create_array, value}
 use Rattle.kr_mean.specs.Code.{code}
-use Rattle.kr_laws_runs.proofs.Respects.{Any, Same, Each, Logic, IsCode, evals}
+use Rattle.kr_laws_runs.proofs.Respects.{Any, Same, Each, OnOption, Logic, IsCode, evals}
 use Rattle.kr_mean.specs.Code.{code_run}
 use Rattle.kr_mean.specs.Purity.{written_by}
 use Rattle.kr_laws_runs.proofs.Bounds.{SaidSame, AnyField, AnyType, AnyNode, may_any, all_any, each_same, said_self, same_option}
@@ -218,6 +220,45 @@ withins S o o' n vs ws m m' r e p = rw (r, each_same vs ws e) (record { by = λ 
 scopes : {A : Type 0} (S : A → A → Type 0) (m m' : Run A) → Framed S m m' → Framed S (scoped m) (scoped m')
 scopes S m m' p = record { by = λ s. let x = p.by s in record { said = x.said; after = ap (λ (t : State). record t { locals = take (length s.locals) t.locals }) x.after; kept = x.kept } }
 
+abbrev there : {A : Type 0} → Result A Stop → State → List SlotPlace → Outcome A
+there r t ps = record { said = r; after = t; reads = ps }
+
+-- a trap that is caught goes on in the frame in which the attempt began
+attempts : {A : Type 0} (S : A → A → Type 0) (m m' : Run A) (h h' : Kind → Option (Run A)) → Framed S m m' → ((k : Kind) → OnOption (λ (x y : Run A). Framed S x y) (h k) (h' k)) → Framed S (attempted m h) (attempted m' h')
+unfolding attempted
+attempts {A} S m m' h h' p q = record { by = λ s. go s (m s) (m' s) (p.by s) }
+  where
+    onward : (s : State) (k : Kind) (t : State) (ps qs : List SlotPlace) → t.this_value ≡ s.this_value → (x y : Option (Run A)) → OnOption (λ (x y : Run A). Framed S x y) x y → OneFrame s S (caught_by x (there (Err (Trapped k)) t ps)) (caught_by y (there (Err (Trapped k)) t qs))
+    onward s k t ps qs l None None u = record { said = refl; after = refl; kept = l }
+    onward s k t ps qs l (Some x) (Some y) u = let z = u.by t in record { said = z.said; after = z.after; kept = z.kept ∙ l }
+    onward s k t ps qs l None (Some y) u = absurd u
+    onward s k t ps qs l (Some x) None u = absurd u
+
+    stopped_at : (s : State) (x : Stop) (t : State) (ps qs : List SlotPlace) → t.this_value ≡ s.this_value → OneFrame s S (caught_by (handled (Err x) h) (there (Err x) t ps)) (caught_by (handled (Err x) h') (there (Err x) t qs))
+    stopped_at s (Trapped k) t ps qs l = onward s k t ps qs l (h k) (h' k) (q k)
+    stopped_at s OutOfFuel t ps qs l = record { said = refl; after = refl; kept = l }
+    stopped_at s Stuck t ps qs l = record { said = refl; after = refl; kept = l }
+
+    step : (s : State) (r r' : Result A Stop) (t : State) (ps qs : List SlotPlace) → SaidSame S r r' → t.this_value ≡ s.this_value → OneFrame s S (caught_by (handled r h) (there r t ps)) (caught_by (handled r' h') (there r' t qs))
+    step s (Ok a) (Ok b) t ps qs e l = record { said = e; after = refl; kept = l }
+    step s (Err x) (Err y) t ps qs e l = rw e (stopped_at s x t ps qs l)
+    step s (Ok a) (Err y) t ps qs e l = absurd e
+    step s (Err x) (Ok b) t ps qs e l = absurd e
+
+    go : (s : State) (o o' : Outcome A) → OneFrame s S o o' → OneFrame s S (caught_by (handled o.said h) o) (caught_by (handled o'.said h') o')
+    go s o o' x = subst (λ (t : State). OneFrame s S (caught_by (handled o.said h) o) (caught_by (handled o'.said h') (there o'.said t o'.reads))) (sym x.after) (step s o.said o'.said o.after o.reads o'.reads x.said x.kept)
+
+object_keeps : (program : Program) (k : Kind) → KeepsThis (object_of program k)
+object_keeps program k s = go s.thrown
+  where
+    made : (c : Option ℕ) → (object_of_class program c s).after.this_value ≡ s.this_value
+    made None = refl
+    made (Some c) = refl
+
+    go : (x : Option Value) → (object_or_new program k x s).after.this_value ≡ s.this_value
+    go None = made (class_of_kind program k)
+    go (Some v) = refl
+
 abbrev frame_logic : (program : Program) → Logic program AnyField AnyType
 frame_logic program = record {
   R = Same;
@@ -250,6 +291,9 @@ frame_logic program = record {
   chooses = chooses;
   withins = withins;
   scopes = scopes;
+  throws_as = λ S k v w e. rw e (record { by = λ s. record { said = refl; after = refl; kept = refl } });
+  objects = λ k. self Same one (object_of program k) (object_keeps program k);
+  attempts = attempts;
 }
 
 any_code : (program : Program) → IsCode program AnyField AnyType AnyNode

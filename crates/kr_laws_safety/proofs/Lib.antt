@@ -18,6 +18,7 @@ pub mod Vectors
 pub mod Operators
 pub mod Pure
 pub mod KeepTypes
+pub mod Thrown
 pub mod Statements
 pub mod Runs
 pub mod Framed

@@ -27,7 +27,7 @@ use Rattle.kr_mean.specs.Program.{Program, default_of, is_array_of}
 use Rattle.kr_mean.specs.Steps.{State, Run, say, stop}
 use Rattle.kr_mean.specs.Operators.{said as ended, into, operated, operated_alone, binary_operation, compound_operation, unary_operation}
 use Rattle.kr_mean.specs.Meaning.{make_array, create_array}
-use Rattle.kr_mean.specs.declared.kind.Kind.TheVariants.{ArrayTooLong}
+use Rattle.kr_mean.specs.declared.kind.Kind.TheVariants.{ArrayTooLong, NegativeArraySizeException}
 use Rattle.kr_laws_safety.specs.Fits.{IsWithin, IsOf, IsHeapOf, type_at}
 use Rattle.kr_laws_safety.specs.Triples.{Fixed, IsStateOf, Fine, Safe, Gives}
 use Rattle.kr_laws_safety.specs.Steps.{is_junction}
@@ -36,7 +36,7 @@ use Rattle.kr_laws_slots.proofs.Spaces.{some_is}
 use Rattle.kr_laws_safety.proofs.Promoted.{alone_is, numbers_are}
 use Rattle.kr_laws_safety.proofs.Heaps.{value_more, extends_self, object_found, all_replicate, same_type}
 use Rattle.kr_laws_safety.proofs.Vectors.{type_same}
-use Rattle.kr_laws_safety.proofs.Steps.{IsObjectType, Assigned, object_type, type_known, no_number, safe_make, safe_map}
+use Rattle.kr_laws_safety.proofs.Steps.{IsObjectType, Assigned, object_type, type_known, no_number, fine_trap, safe_make, safe_map}
 
 -- ---- numbers
 
@@ -278,7 +278,7 @@ module _ (program : Program) (fixed : Fixed) where
   -- a good result is a value
   pub said : (types : List JavaType) (this : Option ℕ) (ls : List JavaType) (t : JavaType) (r : Result Value Stop) (s : State) → IsStateOf program fixed types this ls s → Good t r → Fine program fixed types this ls (Gives program ls t) r s
   said types this ls t (Ok v) s h g = (types, ls, extends_self types, h, (refl, g program.table types), extends_self ls)
-  said types this ls t (Err (Trapped k)) s h g = (types, ls, extends_self types, h, extends_self ls)
+  said types this ls t (Err (Trapped k)) s h g = fine_trap program fixed types this ls k s h
   said types this ls t (Err OutOfFuel) s h g = absurd g
   said types this ls t (Err Stuck) s h g = absurd g
 
@@ -396,7 +396,7 @@ module _ (program : Program) (fixed : Fixed) where
           (λ more ms x h. (h.0, subst (λ (y : Value). IsOf program.table more (ArrayType t) y) (sym h.2) (h.3, ap (λ (u : JavaType). is_assignable program.table u (ArrayType t)) h.4 ∙ type_same t)))
 
       sized : (s : State) → IsStateOf program fixed types this ls s → (n : ℕ) (b : Bool) → nat_lt 64 n ≡ b → Made (if b then stop (Trapped ArrayTooLong) else make_array t n (array_number program.arrays (ArrayType t))) s
-      sized s h n true q = (types, ls, extends_self types, h, extends_self ls)
+      sized s h n true q = fine_trap program fixed types this ls ArrayTooLong s h
       sized s h n false q = subst (λ (x : Option ℕ). Made (make_array t n x) s) (sym e) ((made n (ltb-false 64 n q)).by s h)
 
       go : (s : State) → IsStateOf program fixed types this ls s → (z : ℤ) × (v ≡ Int z) → Made (create_array program t v) s
@@ -404,4 +404,4 @@ module _ (program : Program) (fixed : Fixed) where
         where
           of : (z : ℤ) → Made (create_array program t (Int z)) s
           of (pos n) = sized s h n (nat_lt 64 n) refl
-          of (negsuc n) = (types, ls, extends_self types, h, extends_self ls)
+          of (negsuc n) = fine_trap program fixed types this ls NegativeArraySizeException s h

@@ -69,7 +69,7 @@ module _ (program : Program) (fixed : Fixed) where
 
   -- `this` may be known more closely
   pub unstuck_here : (types : List JavaType) (this that : Option ℕ) (ls : List JavaType) {A : Type 0} (m : Run A) → ((v : Value) → IsThis program.table types this v → IsThis program.table types that v) → Unstuck program fixed types that ls m → Unstuck program fixed types this ls m
-  unstuck_here types this that ls m up p = record { by = λ s h. p.by s (record { heap = h.heap; this_is = up s.this_value h.this_is; locals_are = h.locals_are; result = h.result; olds = h.olds; candidates = h.candidates; enough = h.enough }) }
+  unstuck_here types this that ls m up p = record { by = λ s h. p.by s (record { heap = h.heap; this_is = up s.this_value h.this_is; locals_are = h.locals_are; result = h.result; olds = h.olds; thrown = h.thrown; candidates = h.candidates; enough = h.enough }) }
 
   module _ (facts : IsTypedProgram program) where
     -- ---- the predicate
@@ -193,6 +193,7 @@ module _ (problem : Problem) (facts : IsTypedProgram problem.program) (contracts
     locals_are = subst (λ (vs : List Value). AreOf problem.program.table (object_types problem) (parameter_types_of x) vs) (sym (parameters_plain 0 (parameter_values problem vector))) (parameters_typed x e);
     result = tt;
     olds = tt;
+    thrown = refl;
     candidates = refl;
     enough = omega (arith, long);
   }

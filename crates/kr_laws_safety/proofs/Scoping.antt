@@ -150,4 +150,6 @@ after_statement arrays olds s u (trees.IfElse p c a b) h = refl
 after_statement arrays olds s u (trees.While p c a) h = refl
 after_statement arrays olds s u (trees.Do p a c) h = refl
 after_statement arrays olds s u (trees.For p i c v a) h = refl
+after_statement arrays olds s u (trees.Throw p e) h = refl
+after_statement arrays olds s u (trees.Try p b cs) h = refl
 after_statement arrays olds s u _ h = absurd h

@@ -65,6 +65,8 @@ module _ (arrays : List JavaType) (olds : Place → Option JavaType) where
   after_shifted m s u (trees.While p c a) h = refl
   after_shifted m s u (trees.Do p a c) h = refl
   after_shifted m s u (trees.For p i c v a) h = refl
+  after_shifted m s u (trees.Throw p e) h = refl
+  after_shifted m s u (trees.Try p b cs) h = refl
   after_shifted m s u _ h = absurd h
 
   pub after_variables : (m : Bool) (s u : Scope) (t : Tree) → IsCode arrays olds (Statement m) u t → (judged s t).faults ≡ [] → AreVariables s.locals → AreVariables (after s t).locals
@@ -83,6 +85,8 @@ module _ (arrays : List JavaType) (olds : Place → Option JavaType) where
   after_variables m s u (trees.While p c a) h f k = k
   after_variables m s u (trees.Do p a c) h f k = k
   after_variables m s u (trees.For p i c v a) h f k = k
+  after_variables m s u (trees.Throw p e) h f k = k
+  after_variables m s u (trees.Try p b cs) h f k = k
   after_variables m s u _ h f k = absurd h
 
   -- ---- lists of statements

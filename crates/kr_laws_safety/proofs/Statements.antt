@@ -1,33 +1,41 @@
 -- Statements, and every run: by induction over its bound.
-use Rattle.std.proofs.Common.{◌≡◌, ℕ, zero, suc, Bool, true, false, List, [], ◌∷◌, ◌++◌, length, Option, Some, refl, sym, ap, ◌∙◌, subst}
-use Rattle.std.specs.Prelude.{◌||◌, not}
+use Rattle.std.proofs.Common.{◌≡◌, ℕ, zero, suc, Bool, true, false, List, [], ◌∷◌, ◌++◌, length, Option, Some, None, refl, sym, ap, ◌∙◌, subst}
+use Rattle.std.specs.Prelude.{◌||◌, not, codes, if◌then◌else◌}
+use Rattle.kr_base.specs.Places.{nowhere}
+use Rattle.kr_laws_slots.proofs.Spaces.{some_is}
 use Rattle.kr_base.specs.declared.place.Place.{Place}
 use Rattle.kr_ast.specs.Tree as trees
 use Rattle.kr_ast.specs.Tree.{Tree}
 use Rattle.kr_value.specs.declared.value.Value.{Value}
 use Rattle.kr_value.specs.declared.value.Value.TheVariants.{Bool as Truth}
-use Rattle.kr_classes_table.specs.Types.{JavaType, BooleanType, VoidType, is_void, is_known}
-use Rattle.kr_classes_table.specs.Table.{Table, items, is_assignable}
+use Rattle.kr_value.specs.declared.object.Class.TheVariants.{Object}
+use Rattle.kr_classes_table.specs.Types.{JavaType, BooleanType, VoidType, ClassType, ArrayType, SetType, ListType, InferredType, UnknownType, is_void, is_known}
+use Rattle.kr_classes_table.specs.Table.{Table, items, class_or, class_named, is_below, is_assignable}
 use Rattle.kr_classes_table.specs.Rules.{Fault}
 use Rattle.kr_types_meaning.specs.Scopes.{Scope, Locals, after, written, value, statement, in_loop, declaring, bind_local}
 use Rattle.kr_types_meaning.specs.Rules as rules
-use Rattle.kr_types_meaning.specs.Rules.{Typed, Values, Untyped, Judgement, Fits, ask, fine, takes, initial_fits, is_statement, condition_rule, return_rule, jump_rule, declaration_rule}
-use Rattle.kr_types_meaning.specs.Typing.{judge, on_one, on_maybe, judged, type_in}
-use Rattle.kr_mean.specs.Program.{Program, default_of}
+use Rattle.kr_types_meaning.specs.Rules.{Typed, Values, Untyped, Judgement, Fits, ask, fine, takes, initial_fits, is_statement, condition_rule, return_rule, jump_rule, declaration_rule, throwable, throw_rule, caught_rule}
+use Rattle.kr_types_meaning.specs.Typing.{Judged, judge, on_one, on_maybe, judged, type_in}
+use Rattle.kr_mean.specs.Program.{Program, default_of, is_of_type}
 use Rattle.kr_mean.specs.Steps.{Run, give, ◌>>=◌, ◌>>◌, tick, declare, assign, scoped}
+use Rattle.kr_mean.specs.Thrown.{class_of_kind, is_caught, object_of, attempted, throw}
+use Rattle.kr_mean.specs.declared.kind.Kind.{Kind}
 use Rattle.kr_mean.specs.declared.flow.Flow.{Flow}
 use Rattle.kr_mean.specs.declared.flow.Flow.TheVariants.{Next, Broke, Continued, Left, Gave}
-use Rattle.kr_mean.specs.Meaning.{Parts, then_on, then_round, then_update, choose, all, updates, condition, rounds, initial_value, all_declared, flow_of, statement as run_statement, spent, parts_within, eval, exec}
-use Rattle.kr_laws_safety.specs.Fits.{IsOf}
+use Rattle.kr_mean.specs.Meaning.{Parts, then_on, then_round, then_update, choose, all, updates, condition, rounds, initial_value, all_declared, catch_run, caught, flow_of, statement as run_statement, spent, parts_within, eval, exec}
+use Rattle.kr_laws_safety.specs.Fits.{IsOf, type_at}
 use Rattle.kr_laws_safety.specs.Triples.{Fixed, Safe, Extends, Keeps, type_of_old}
-use Rattle.kr_laws_safety.proofs.Steps.{safe_give, safe_spent, safe_map, safe_then, safe_tick, safe_choose, safe_declare, safe_assign, safe_scoped}
+use Rattle.kr_laws_safety.proofs.Steps.{safe_give, safe_spent, safe_map, safe_then, safe_tick, safe_choose, safe_declare, safe_assign, safe_scoped, closes_scoped, closes_tick}
+use Rattle.kr_laws_safety.proofs.Heaps.{one_more}
+use Rattle.kr_laws_safety.proofs.Thrown.{IsObject, SafeThrown, safe_attempted, thrown_then, thrown_map, thrown_tick, thrown_scoped, thrown_object, safe_throw}
 use Rattle.kr_laws_types.specs.Types.{is_variable_type, is_value_type, is_expression_type}
-use Rattle.kr_laws_types.specs.Shapes.{Expression, Expressions, Statement, Statements, Declarators, IsCode}
+use Rattle.kr_laws_types.specs.Shapes.{Expression, Expressions, Statement, Statements, Declarators, Catches, IsCode}
+use Rattle.kr_laws_shapes.specs.Shapes.{IsBlock}
 use Rattle.kr_laws_types.specs.Expressions.{plain}
 use Rattle.kr_laws_types.proofs.Given.{variable_known, result_known}
 use Rattle.kr_laws_types.proofs.Expressions.{after_expression, written_variable}
 use Rattle.kr_laws_safety.specs.Typed.{IsTypedProgram}
-use Rattle.kr_laws_safety.specs.Claims.{this_of, types_of, GivesAs, IsScope, Coded, Leads, LeadsOn, ValuesSafe, StatementsSafe, LoopsSafe, PartsSafe}
+use Rattle.kr_laws_safety.specs.Claims.{this_of, types_of, GivesAs, IsScope, Coded, Leads, LeadsOn, ValuesSafe, StatementsSafe, LoopsSafe, BlocksClose, PartsSafe}
 use Rattle.kr_laws_safety.proofs.Targets.{variable_target, variable_not_void, value_not_void, result_target, void_is, void_from, used}
 use Rattle.kr_laws_safety.proofs.Glue.{kept, on_type, boolean_is, safe_next, safe_keep, typed_at}
 use Rattle.kr_laws_safety.proofs.Scoping.{after_plain, after_statement, types_long, last_local}
@@ -39,7 +47,7 @@ use Rattle.kr_laws_types.proofs.Typed.{front_none, back_none, below_none}
 
 -- ---- parts that may be absent
 
-initial_present : (p : Parts) (s : Scope) (k : ℕ) (e : Tree) → is_nil e ≡ false → initial_value p s k e ≡ (p.value s e >>= (λ v. assign k v))
+pub initial_present : (p : Parts) (s : Scope) (k : ℕ) (e : Tree) → is_nil e ≡ false → initial_value p s k e ≡ (p.value s e >>= (λ v. assign k v))
 initial_present p s k trees.Nil q = absurd (cc (q))
 initial_present p s k _ q = refl
 
@@ -119,6 +127,26 @@ module _ (program : Program) (fixed : Fixed) where
       (λ others v y i. safe_choose program fixed others this ls v _ (give Next) _ (i refl)
       (safe_then program fixed others this ls body _ _ _ (b others) (λ last ms flow z h. then_rounds this ls r l (rounds n test body) (λ types. rounds_safe n this ls r l test body t b types) last ms flow h))
       (safe_give program fixed others this ls Next _ refl)))
+
+-- ---- what is thrown and caught
+
+-- a type of values that fits the class of a name is a class or null's, so that the name is a class's
+class_thrown : (table : Table) (t : JavaType) (o n : List ℕ) → is_value_type t ≡ true → is_assignable table t (UnknownType o n) ≡ true → ⊥
+class_thrown table (SetType InferredType) o n k e = cc (e)
+class_thrown table (SetType t) o n k e = cc (e)
+class_thrown table (ListType InferredType) o n k e = cc (e)
+class_thrown table (ListType t) o n k e = cc (e)
+class_thrown table _ o n k e = cc (k, e)
+
+named_class : (table : Table) (t : JavaType) (x : Option ℕ) (o n : List ℕ) → is_value_type t ≡ true → is_assignable table t (class_or x (UnknownType o n)) ≡ true → (c : ℕ) × (class_or x (UnknownType o n) ≡ ClassType c)
+named_class table t (Some c) o n k e = (c, refl)
+named_class table t None o n k e = absurd (class_thrown table t o n k e)
+
+-- an object of a class is caught by a class above it
+pub class_caught : (program : Program) (t : JavaType) (c : ℕ) → is_of_type program t (Object c) ≡ true → (d : ℕ) × (t ≡ ClassType d) × (is_below program.table c d ≡ true)
+class_caught program (ClassType d) c e = (d, refl, e)
+class_caught program (ArrayType t) c e = absurd (cc (e))
+class_caught program _ c e = absurd (cc (e))
 
 module _ (program : Program) (fixed : Fixed) (facts : IsTypedProgram program) (p : Parts) (q : PartsSafe program fixed p) where
   -- ---- parts of statements
@@ -353,6 +381,91 @@ module _ (program : Program) (fixed : Fixed) (facts : IsTypedProgram program) (p
       (subst (λ (z : Scope). LeadsOn program.table s.result s.is_in_loop (types_of s.locals) (types_of z.locals) others ms flow) same l))))
       (λ others ms flow x. flows_lead program.table s.result s.is_in_loop (types_of s.locals) others ms flow x.0 x.1)
 
+  -- ---- `throw`
+
+  thrown : (s : Scope) (pl : Place) (e : Tree) → IsScope program fixed s → is_statement s.role ≡ false → Coded program fixed (Expression false) s e → (judge pl (on_one (throw_rule s) (judged s e).typed) (judged s e).faults).faults ≡ [] → (types : List JavaType)
+      → Safe program fixed types (this_of s) (types_of s.locals) (p.value (plain s) e >>= throw program) (Leads program.table s.result s.is_in_loop (types_of s.locals) (types_of s.locals))
+  thrown s pl e k r h f types =
+      let verdict = on_one (throw_rule s) (judged s e).typed in
+      let x = typed_at program fixed facts s e k h (below_none pl verdict (judged s e).faults f) in
+      let rule = kept pl verdict (judged s e).faults f in
+      let fits = asked (is_assignable s.table x.type (throwable s)) 41 fine rule.0 (sym (on_type (throw_rule s) (judged s e).typed x.type x.known) ∙ rule.1) in
+      let c = named_class s.table x.type (class_named s.table.headings (trees.NamedType nowhere (codes "Throwable"))) [] (codes "Throwable") (subst (λ (z : Bool). is_expression_type z x.type ≡ true) r x.kind) fits.0 in
+      let fit : is_assignable program.table x.type (ClassType c.0) ≡ true = subst (λ (z : Table). is_assignable z x.type (ClassType c.0) ≡ true) k.0 (subst (λ (z : JavaType). is_assignable s.table x.type z ≡ true) c.1 fits.0) in
+      safe_next program fixed types (this_of s) (types_of s.locals) (p.value (plain s) e) (throw program) (λ more v. is_void (ClassType c.0) ≡ false → IsOf program.table more (ClassType c.0) v) _ (q.value s e k h (below_none pl verdict (judged s e).faults f) types x.type (ClassType c.0) x.known refl fit)
+      (λ more v y i. safe_throw program fixed more (this_of s) (types_of s.locals) c.0 v _ (i refl))
+
+  -- ---- `try`
+
+  -- what a clause does with an object that it catches: its local comes right after those from before the `try`
+  catches : (s : Scope) (pl at : Place) (t : Tree) (n : List ℕ) (b : Tree) → IsScope program fixed s → is_statement s.role ≡ false → Coded program fixed (Statement false) (bind_local n (written s t) s) b → (judged (bind_local n (written s t) s) b).faults ≡ [] → (kind : Kind)
+      → is_caught program (written s t) (class_of_kind program kind) ≡ true → (types : List JavaType) → SafeThrown program fixed kind types (this_of s) (types_of s.locals) (catch_run program p (plain s) (trees.Parameter at t n) b kind) (Leads program.table s.result s.is_in_loop (types_of s.locals) (types_of s.locals))
+  catches s pl at t n b k r h f kind w types = go (class_of_kind program kind) refl w
+    where
+      inside : Scope
+      inside = bind_local n (written s t) s
+
+      before : List JavaType
+      before = types_of s.locals
+
+      with_it : Value → Run Flow
+      with_it o = declare o >> p.exec (plain inside) b
+
+      ran : (c : ℕ) → is_of_type program (written s t) (Object c) ≡ true → (types : List JavaType) (o : Value) → IsObject types c o → Safe program fixed types (this_of s) before (with_it o) (λ more after flow. Extends before after × Flows program.table s.result s.is_in_loop more flow)
+      ran c w types o i =
+          let d = class_caught program (written s t) c w in
+          let variable : is_variable_type (written s t) ≡ true = ap is_variable_type d.1 in
+          let scope : IsScope program fixed inside = (k.0, k.1, (variable, k.2), k.3, k.4) in
+          let fit : is_assignable program.table (type_at types i.0) (written s t) ≡ true = ap (λ (z : JavaType). is_assignable program.table z (written s t)) i.3 ∙ (ap (λ (z : JavaType). is_assignable program.table (ClassType c) z) d.1 ∙ d.2) in
+          let of : IsOf program.table types (written s t) o = subst (λ (z : Value). IsOf program.table types (written s t) z) (sym i.1) (i.2, fit) in
+          safe_then program fixed types (this_of s) before (declare o) _ (λ more after u. after ≡ before ++ written s t ∷ []) _ (safe_declare program fixed types (this_of s) before (written s t) o of)
+          (λ more ms u x e. subst (λ (z : List JavaType). Safe program fixed more (this_of s) z (p.exec (plain inside) b) (λ more after flow. Extends before after × Flows program.table s.result s.is_in_loop more flow)) (sym e)
+          (safe_map program fixed more (this_of s) (types_of inside.locals) (p.exec (plain inside) b) _ _ (inner inside b scope r h f more)
+          (λ others ns flow y. lead_flows program.table s.result s.is_in_loop before (types_of inside.locals) others ns flow (one_more before (written s t)) y)))
+
+      go : (x : Option ℕ) → class_of_kind program kind ≡ x → is_caught program (written s t) x ≡ true → SafeThrown program fixed kind types (this_of s) before (catch_run program p (plain s) (trees.Parameter at t n) b kind) (Leads program.table s.result s.is_in_loop before before)
+      go None e w = absurd (cc (w))
+      go (Some c) e w =
+          thrown_map program fixed kind types (this_of s) before (catch_run program p (plain s) (trees.Parameter at t n) b kind) _ _
+          (thrown_scoped program fixed kind types (this_of s) before (tick >> (object_of program kind >>= with_it)) (λ more flow. Flows program.table s.result s.is_in_loop more flow)
+          (thrown_tick program fixed kind types (this_of s) before (object_of program kind >>= with_it) _
+          (thrown_then program fixed kind types (this_of s) before (object_of program kind) with_it (λ more after v. (after ≡ before) × IsObject more c v) _ (thrown_object program fixed facts kind c types (this_of s) before e)
+          (λ more ms o x i. subst (λ (z : List JavaType). Safe program fixed more (this_of s) z (with_it o) (λ more after flow. Extends before after × Flows program.table s.result s.is_in_loop more flow)) (sym i.0) (ran c w more o i.1)))))
+          (λ more ms flow x. flows_lead program.table s.result s.is_in_loop before more ms flow x.0 x.1)
+
+  -- the first clause that fits
+  caught_by : (s : Scope) (cs : Tree) → IsScope program fixed s → is_statement s.role ≡ false → Coded program fixed Catches s cs → (judged s cs).faults ≡ [] → (kind : Kind) (m : Run Flow) (types : List JavaType) → caught program p (plain s) (items cs) kind ≡ Some m
+      → SafeThrown program fixed kind types (this_of s) (types_of s.locals) m (Leads program.table s.result s.is_in_loop (types_of s.locals) (types_of s.locals))
+  unfolding judged
+  caught_by s trees.Nil k r h f kind m types e = absurd (cc (e))
+  caught_by s (trees.Cons (trees.Catch pl (trees.Parameter at t n) b) cs) k r h f kind m types e = go (is_caught program (written s t) (class_of_kind program kind)) refl e (caught_by s cs k r h.1 rest kind m types)
+    where
+      here : Judged
+      here = judged s (trees.Catch pl (trees.Parameter at t n) b)
+
+      rest : (judged s cs).faults ≡ []
+      rest = back_none here.faults (judged s cs).faults f
+
+      body_fine : (judged (bind_local n (written s t) s) b).faults ≡ []
+      body_fine = back_none (judged s (trees.Parameter at t n)).faults (judged (bind_local n (written s t) s) b).faults (below_none pl (caught_rule s 42 (written s t)) _ (front_none here.faults (judged s cs).faults f))
+
+      Good : Run Flow → Type 0
+      Good m = SafeThrown program fixed kind types (this_of s) (types_of s.locals) m (Leads program.table s.result s.is_in_loop (types_of s.locals) (types_of s.locals))
+
+      go : (x : Bool) → is_caught program (written s t) (class_of_kind program kind) ≡ x → (if x then Some (catch_run program p (plain s) (trees.Parameter at t n) b kind) else caught program p (plain s) (items cs) kind) ≡ Some m → (caught program p (plain s) (items cs) kind ≡ Some m → Good m) → Good m
+      go true w e others = subst Good (some_is (catch_run program p (plain s) (trees.Parameter at t n) b kind) m e) (catches s pl at t n b k r h.0.1 body_fine kind w types)
+      go false w e others = others e
+  caught_by s (trees.Cons (trees.Catch pl _ b) cs) k r h f kind m types e = absurd h.0.0
+  caught_by s (trees.Cons _ cs) k r h f kind m types e = absurd h.0
+  caught_by s _ k r h f kind m types e = absurd h
+
+  tried : (s : Scope) (b cs : Tree) → IsScope program fixed s → is_statement s.role ≡ false → IsBlock b → Coded program fixed (Statement false) s b → Coded program fixed Catches s cs → (judged s b).faults ≡ [] → (judged s cs).faults ≡ [] → (types : List JavaType)
+      → Safe program fixed types (this_of s) (types_of s.locals) (attempted (p.exec (plain s) b) (caught program p (plain s) (items cs))) (Leads program.table s.result s.is_in_loop (types_of s.locals) (types_of s.locals))
+  tried s (trees.Block pl ts) cs k r i h c f g types =
+      safe_attempted program fixed types (this_of s) (types_of s.locals) (p.exec (plain s) (trees.Block pl ts)) (caught program p (plain s) (items cs)) _ (inner s (trees.Block pl ts) k r h f types) (q.blocks s pl ts k r h f types)
+      (λ kind m more e x. caught_by s cs k r c g kind m more e)
+  tried s _ cs k r i h c f g types = absurd i
+
   -- ---- every statement
 
   -- a unit, and then what the statement does
@@ -393,7 +506,16 @@ module _ (program : Program) (fixed : Fixed) (facts : IsTypedProgram program) (p
       (λ last. q.loops (this_of s) (types_of s.locals) s.result s.is_in_loop _ _ (λ end. boolean_part s c pl (judged (in_loop s) a).faults k h.1 f end) (λ end. body s a k r h.0 fa end) last) others ms flow l))
       types
   statements_safe m s (trees.For pl i c u a) k r h f types = ticked s (types_of s.locals) _ (λ more. for_loop s pl i c u a k r h f more) types
+  statements_safe m s (trees.Throw pl e) k r h f types = ticked s (types_of s.locals) _ (λ more. thrown s pl e k r h f more) types
+  statements_safe m s (trees.Try pl b cs) k r h f types =
+      ticked s (types_of s.locals) _ (λ more. tried s b cs k r h.0 h.1 h.2 (front_none (judged s b).faults (judged s cs).faults f) (back_none (judged s b).faults (judged s cs).faults f) more) types
   statements_safe m s _ k r h f types = absurd h
+
+  pub blocks_close : BlocksClose program fixed (run_statement program p)
+  unfolding judged
+  blocks_close s pl ts k r h f types =
+      closes_tick program fixed types (this_of s) (types_of s.locals) (scoped (all p (plain s) (items ts)))
+      (closes_scoped program fixed types (this_of s) (types_of s.locals) (all p (plain s) (items ts)) _ (sequence program fixed facts p q s (items ts) k r (items_unbroken program.arrays (type_of_old fixed.olds) s ts h f) types))
 
 module _ (program : Program) (fixed : Fixed) (facts : IsTypedProgram program) where
   spent_safe : PartsSafe program fixed spent
@@ -401,6 +523,7 @@ module _ (program : Program) (fixed : Fixed) (facts : IsTypedProgram program) wh
     value = λ s e k h f types t u r g a. safe_spent program fixed types (this_of s) (types_of s.locals) _;
     exec = λ m s t k r h f types. safe_spent program fixed types (this_of s) (types_of s.locals) _;
     loops = λ this ls r l test body t b types. safe_spent program fixed types this ls _;
+    blocks = λ s pl ts k r h f types. record { by = λ t i kind e. absurd (cc (e)) };
   }
 
   mutual
@@ -410,12 +533,16 @@ module _ (program : Program) (fixed : Fixed) (facts : IsTypedProgram program) wh
     evals zero s e k h f types t u r g a = safe_spent program fixed types (this_of s) (types_of s.locals) _
     evals (suc n) s e k h f types t u r g a =
         safe_keep program fixed types (this_of s) (types_of s.locals) tick _ _ (safe_tick program fixed types (this_of s) (types_of s.locals))
-        (λ more v x. values_safe program fixed facts (parts_within program n) (record { value = evals n; exec = execs n; loops = rounds_safe program fixed n }) s e k h f more t u r g a)
+        (λ more v x. values_safe program fixed facts (parts_within program n) (record { value = evals n; exec = execs n; loops = rounds_safe program fixed n; blocks = blocks n }) s e k h f more t u r g a)
 
     execs : (n : ℕ) → StatementsSafe program fixed (exec program n)
     execs zero m s t k r h f types = statements_safe program fixed facts spent spent_safe m s t k r h f types
-    execs (suc n) m s t k r h f types = statements_safe program fixed facts (parts_within program n) (record { value = evals n; exec = execs n; loops = rounds_safe program fixed n }) m s t k r h f types
+    execs (suc n) m s t k r h f types = statements_safe program fixed facts (parts_within program n) (record { value = evals n; exec = execs n; loops = rounds_safe program fixed n; blocks = blocks n }) m s t k r h f types
+
+    blocks : (n : ℕ) → BlocksClose program fixed (exec program n)
+    blocks zero s pl ts k r h f types = blocks_close program fixed facts spent spent_safe s pl ts k r h f types
+    blocks (suc n) s pl ts k r h f types = blocks_close program fixed facts (parts_within program n) (record { value = evals n; exec = execs n; loops = rounds_safe program fixed n; blocks = blocks n }) s pl ts k r h f types
 
   -- every run, whatever its bound
   pub parts_safe : (n : ℕ) → PartsSafe program fixed (parts_within program n)
-  parts_safe n = record { value = evals n; exec = execs n; loops = rounds_safe program fixed n }
+  parts_safe n = record { value = evals n; exec = execs n; loops = rounds_safe program fixed n; blocks = blocks n }

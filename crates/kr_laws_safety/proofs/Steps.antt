@@ -16,14 +16,15 @@ use Rattle.kr_classes_table.specs.Types.{JavaType, NumberType, int_type, Boolean
 use Rattle.kr_classes_table.specs.Table.{Table, Field, ancestors, is_among, is_below, is_assignable}
 use Rattle.kr_classes_table.specs.Constants.{is_at_place}
 use Rattle.kr_mean.specs.declared.kind.Kind.{Kind}
+use Rattle.kr_mean.specs.declared.kind.Kind.TheVariants.{NullPointerException, ArrayIndexOutOfBoundsException}
 use Rattle.kr_mean.specs.declared.kind.Stop.{Stop}
 use Rattle.kr_mean.specs.declared.kind.Stop.TheVariants.{Trapped, OutOfFuel, Stuck}
 use Rattle.kr_mean.specs.Program.{Program, is_array_of, field_position, spot_of_field}
 use Rattle.kr_mean.specs.Places.{SlotPlace}
-use Rattle.kr_mean.specs.Steps.{Local, Old, State, Outcome, Run, give, stop, go_on, bind, ◌>>=◌, tick, tick_at, get_this, local_at, local_given, read_local, plain_local, declare, assign_if, assign, given, get_result, old_at, get_old, entered, within, scoped, load_if, load, load_at, load_in, load_field, index_within, element_read, element_if, element, class_or_null, put, store_at, store, store_new_if, store_new, store_index, store_element_if, store_element, make}
+use Rattle.kr_mean.specs.Steps.{Local, Old, State, Outcome, Run, give, stop, go_on, bind, ◌>>=◌, ◌>>◌, tick, tick_at, get_this, local_at, local_given, read_local, plain_local, declare, assign_if, assign, given, get_result, old_at, get_old, entered, within, scoped, load_if, load, load_at, load_in, load_field, index_within, element_read, element_if, element, class_or_null, put, store_at, store, store_new_if, store_new, store_index, store_element_if, store_element, make}
 use Rattle.kr_mean.specs.Meaning.{choose}
 use Rattle.kr_laws_safety.specs.Fits.{IsOf, AreOf, IsLength, IsObjectOf, IsHeapOf, type_at}
-use Rattle.kr_laws_safety.specs.Triples.{Fixed, IsThis, values_in, IsResult, AreOlds, IsStateOf, Extends, Fine, Safe, Gives, Keeps, type_of_local, type_of_old}
+use Rattle.kr_laws_safety.specs.Triples.{Fixed, IsThis, values_in, IsResult, AreOlds, IsStateOf, Extends, IsThrownAs, FineTrap, Fine, Safe, Closes, Gives, Keeps, type_of_local, type_of_old}
 use Rattle.kr_laws_safety.specs.Steps.{field_types, HasField, IsClassOf, IsSeen}
 use Rattle.kr_laws_safety.proofs.Heaps.{extends_self, extends_twice, value_more, values_more, one_more, heap_append, heap_long, last_type, object_found, object_set, value_found, value_set, values_long, values_front, all_found, all_set, same_type}
 
@@ -89,40 +90,50 @@ module _ (program : Program) (fixed : Fixed) where
     locals_are = values_more program.table types more ls (values_in s.locals) x h.locals_are;
     result = result_more types more fixed.result s.result x h.result;
     olds = olds_more types more fixed.olds s.olds x h.olds;
+    thrown = h.thrown;
     candidates = h.candidates;
     enough = omega (arith, h.enough, l);
   }
 
   with_locals : (types : List JavaType) (this : Option ℕ) (ls ms : List JavaType) (s : State) (locals : List Local) → IsStateOf program fixed types this ls s → AreOf program.table types ms (values_in locals) → IsStateOf program fixed types this ms (record s { locals = locals })
-  with_locals types this ls ms s locals h k = record { heap = h.heap; this_is = h.this_is; locals_are = k; result = h.result; olds = h.olds; candidates = h.candidates; enough = h.enough }
+  with_locals types this ls ms s locals h k = record { heap = h.heap; this_is = h.this_is; locals_are = k; result = h.result; olds = h.olds; thrown = h.thrown; candidates = h.candidates; enough = h.enough }
+
+  pub unthrown : (types : List JavaType) (this : Option ℕ) (ls : List JavaType) (s : State) → IsStateOf program fixed types this ls s → IsStateOf program fixed types this ls (record s { thrown = None })
+  unthrown types this ls s h = record { heap = h.heap; this_is = h.this_is; locals_are = h.locals_are; result = h.result; olds = h.olds; thrown = refl; candidates = h.candidates; enough = h.enough }
 
   -- ---- composition of runs
 
   pub safe_give : (types : List JavaType) (this : Option ℕ) (ls : List JavaType) {A : Type 0} (a : A) (Q : List JavaType → List JavaType → A → Type 0) → Q types ls a → Safe program fixed types this ls (give a) Q
   safe_give types this ls a Q q = record { by = λ s h. (types, ls, extends_self types, h, q, extends_self ls) }
 
+  -- a step that traps throws no object
+  pub fine_trap : (types : List JavaType) (this : Option ℕ) (ls : List JavaType) (k : Kind) (s : State) → IsStateOf program fixed types this ls s → FineTrap program fixed types this ls k s
+  fine_trap types this ls k s h = (types, ls, extends_self types, unthrown types this ls s h, extends_self ls, subst (λ (x : Option Value). IsThrownAs program types k x) (sym h.thrown) tt)
+
   pub safe_trap : (types : List JavaType) (this : Option ℕ) (ls : List JavaType) {A : Type 0} (k : Kind) (Q : List JavaType → List JavaType → A → Type 0) → Safe program fixed types this ls (stop {A = A} (Trapped k)) Q
-  safe_trap types this ls k Q = record { by = λ s h. (types, ls, extends_self types, h, extends_self ls) }
+  safe_trap types this ls k Q = record { by = λ s h. fine_trap types this ls k s h }
 
   pub safe_spent : (types : List JavaType) (this : Option ℕ) (ls : List JavaType) {A : Type 0} (Q : List JavaType → List JavaType → A → Type 0) → Safe program fixed types this ls (stop {A = A} OutOfFuel) Q
   safe_spent types this ls Q = record { by = λ s h. tt }
 
+  -- the end of a run that began with more objects and locals
+  pub fine_more : (types more : List JavaType) (this : Option ℕ) (ls ms : List JavaType) {B : Type 0} (Q : List JavaType → List JavaType → B → Type 0) → Extends types more → Extends ls ms → (r : Result B Stop) (t : State) → Fine program fixed more this ms Q r t → Fine program fixed types this ls Q r t
+  fine_more types more this ls ms Q x y (Ok b) t h = (h.0, h.1, extends_twice types more h.0 x h.2, h.3, h.4, extends_twice ls ms h.1 y h.5)
+  fine_more types more this ls ms Q x y (Err (Trapped k)) t h = (h.0, h.1, extends_twice types more h.0 x h.2, h.3, extends_twice ls ms h.1 y h.4, h.5)
+  fine_more types more this ls ms Q x y (Err OutOfFuel) t h = tt
+  fine_more types more this ls ms Q x y (Err Stuck) t h = h
+
+  pub fine_then : (types : List JavaType) (this : Option ℕ) (ls : List JavaType) {A B : Type 0} (f : A → Run B) (R : List JavaType → List JavaType → A → Type 0) (Q : List JavaType → List JavaType → B → Type 0)
+      → ((more ms : List JavaType) (a : A) → Extends types more → R more ms a → Safe program fixed more this ms (f a) Q) → (r : Result A Stop) (t : State) (ps : List SlotPlace) → Fine program fixed types this ls R r t → Fine program fixed types this ls Q (go_on r t ps f).said (go_on r t ps f).after
+  fine_then types this ls f R Q q (Ok a) t ps h = fine_more types h.0 this ls h.1 Q h.2 h.5 (f a t).said (f a t).after ((q h.0 h.1 a h.2 h.4).by t h.3)
+  fine_then types this ls f R Q q (Err (Trapped k)) t ps h = h
+  fine_then types this ls f R Q q (Err OutOfFuel) t ps h = tt
+  fine_then types this ls f R Q q (Err Stuck) t ps h = h
+
   pub safe_then : (types : List JavaType) (this : Option ℕ) (ls : List JavaType) {A B : Type 0} (m : Run A) (f : A → Run B) (R : List JavaType → List JavaType → A → Type 0) (Q : List JavaType → List JavaType → B → Type 0) → Safe program fixed types this ls m R
       → ((more ms : List JavaType) (a : A) → Extends types more → R more ms a → Safe program fixed more this ms (f a) Q) → Safe program fixed types this ls (m >>= f) Q
   unfolding bind
-  safe_then types this ls {A} {B} m f R Q p q = record { by = λ s h. go (m s).said (m s).after (m s).reads (p.by s h) }
-    where
-      widen : (more ms : List JavaType) → Extends types more → Extends ls ms → (r : Result B Stop) (t : State) → Fine program fixed more this ms Q r t → Fine program fixed types this ls Q r t
-      widen more ms x y (Ok b) t h = (h.0, h.1, extends_twice types more h.0 x h.2, h.3, h.4, extends_twice ls ms h.1 y h.5)
-      widen more ms x y (Err (Trapped k)) t h = (h.0, h.1, extends_twice types more h.0 x h.2, h.3, extends_twice ls ms h.1 y h.4)
-      widen more ms x y (Err OutOfFuel) t h = tt
-      widen more ms x y (Err Stuck) t h = h
-
-      go : (r : Result A Stop) (t : State) (ps : List SlotPlace) → Fine program fixed types this ls R r t → Fine program fixed types this ls Q (go_on r t ps f).said (go_on r t ps f).after
-      go (Ok a) t ps h = widen h.0 h.1 h.2 h.5 (f a t).said (f a t).after ((q h.0 h.1 a h.2 h.4).by t h.3)
-      go (Err (Trapped k)) t ps h = h
-      go (Err OutOfFuel) t ps h = tt
-      go (Err Stuck) t ps h = h
+  safe_then types this ls m f R Q p q = record { by = λ s h. fine_then types this ls f R Q q (m s).said (m s).after (m s).reads (p.by s h) }
 
   pub safe_map : (types : List JavaType) (this : Option ℕ) (ls : List JavaType) {A : Type 0} (m : Run A) (R Q : List JavaType → List JavaType → A → Type 0) → Safe program fixed types this ls m R → ((more ms : List JavaType) (a : A) → R more ms a → Q more ms a) → Safe program fixed types this ls m Q
   safe_map types this ls {A} m R Q p q = record { by = λ s h. go (m s).said (m s).after (p.by s h) }
@@ -138,7 +149,7 @@ module _ (program : Program) (fixed : Fixed) where
     where
       go : (s : State) (n : ℕ) → IsStateOf program fixed types this ls s → Fine program fixed types this ls (Keeps ls) (tick_at n s).said (tick_at n s).after
       go s zero h = tt
-      go s (suc n) h = (types, ls, extends_self types, record { heap = h.heap; this_is = h.this_is; locals_are = h.locals_are; result = h.result; olds = h.olds; candidates = h.candidates; enough = h.enough }, refl, extends_self ls)
+      go s (suc n) h = (types, ls, extends_self types, record { heap = h.heap; this_is = h.this_is; locals_are = h.locals_are; result = h.result; olds = h.olds; thrown = h.thrown; candidates = h.candidates; enough = h.enough }, refl, extends_self ls)
 
   pub safe_choose : (types : List JavaType) (this : Option ℕ) (ls : List JavaType) {A : Type 0} (v : Value) (m n : Run A) (Q : List JavaType → List JavaType → A → Type 0) → IsOf program.table types BooleanType v → Safe program fixed types this ls m Q → Safe program fixed types this ls n Q → Safe program fixed types this ls (choose v m n) Q
   safe_choose types this ls (Truth true) m n Q i p q = p
@@ -203,65 +214,100 @@ module _ (program : Program) (fixed : Fixed) where
           subst (λ (b : Bool). Fine program fixed types this ls (Keeps ls) (assign_if b k v s).said (assign_if b k v s).after) (sym q) (types, ls, extends_self types, with_locals types this ls ls s (slice_set s.locals k (plain_local v)) h r.1, refl, extends_self ls)
 
   -- a body in a frame of its own: `this` and the locals are as they were
-  pub safe_within : (types : List JavaType) (this inner : Option ℕ) (ls ps : List JavaType) {A : Type 0} (receiver : Value) (vs : List Value) (body : Run A) (Q : List JavaType → A → Type 0) → IsThis program.table types inner receiver → AreOf program.table types ps vs
-      → Safe program fixed types inner ps body (λ more after a. Q more a) → Safe program fixed types this ls (within receiver (length ps) vs body) (λ more after a. (after ≡ ls) × Q more a)
-  safe_within types this inner ls ps {A} receiver vs body Q i j p = record { by = λ s h. go s h (eq-eqb (length vs) (length ps) (values_long program.table types ps vs j)) }
+  inside_state : (types : List JavaType) (this inner : Option ℕ) (ls ps : List JavaType) (receiver : Value) (vs : List Value) (s : State) → IsThis program.table types inner receiver → AreOf program.table types ps vs → IsStateOf program fixed types this ls s → IsStateOf program fixed types inner ps (record s { this_value = receiver; locals = map plain_local vs })
+  inside_state types this inner ls ps receiver vs s i j h = record { heap = h.heap; this_is = i; locals_are = subst (λ (x : List Value). AreOf program.table types ps x) (sym (plain_values vs)) j; result = h.result; olds = h.olds; thrown = h.thrown; candidates = h.candidates; enough = h.enough }
     where
       plain_values : (vs : List Value) → values_in (map plain_local vs) ≡ vs
       plain_values [] = refl
       plain_values (v ∷ vs) = ap (λ (x : List Value). v ∷ x) (plain_values vs)
 
-      back : (s : State) → IsStateOf program fixed types this ls s → (o : Outcome A) → Fine program fixed types inner ps (λ more after a. Q more a) o.said o.after
-          → Fine program fixed types this ls (λ more after a. (after ≡ ls) × Q more a) o.said (record o.after { this_value = s.this_value; locals = s.locals })
-      back s h o f = by_said o.said f
-        where
-          outside : (more ms : List JavaType) → Extends types more → IsStateOf program fixed more inner ms o.after → IsStateOf program fixed more this ls (record o.after { this_value = s.this_value; locals = s.locals })
-          outside more ms x k = record {
-            heap = k.heap;
-            this_is = this_more types more this s.this_value x h.this_is;
-            locals_are = values_more program.table types more ls (values_in s.locals) x h.locals_are;
-            result = k.result;
-            olds = k.olds;
-            candidates = k.candidates;
-            enough = k.enough;
-          }
+  back_state : (types more : List JavaType) (this inner : Option ℕ) (ls ms : List JavaType) (s t : State) → Extends types more → IsStateOf program fixed types this ls s → IsStateOf program fixed more inner ms t → IsStateOf program fixed more this ls (record t { this_value = s.this_value; locals = s.locals })
+  back_state types more this inner ls ms s t x h k = record {
+    heap = k.heap;
+    this_is = this_more types more this s.this_value x h.this_is;
+    locals_are = values_more program.table types more ls (values_in s.locals) x h.locals_are;
+    result = k.result;
+    olds = k.olds;
+    thrown = k.thrown;
+    candidates = k.candidates;
+    enough = k.enough;
+  }
 
-          by_said : (r : Result A Stop) → Fine program fixed types inner ps (λ more after a. Q more a) r o.after → Fine program fixed types this ls (λ more after a. (after ≡ ls) × Q more a) r (record o.after { this_value = s.this_value; locals = s.locals })
-          by_said (Ok a) f = (f.0, ls, f.2, outside f.0 f.1 f.2 f.3, (refl, f.4), extends_self ls)
-          by_said (Err (Trapped k)) f = (f.0, ls, f.2, outside f.0 f.1 f.2 f.3, extends_self ls)
-          by_said (Err OutOfFuel) f = tt
-          by_said (Err Stuck) f = f
+  pub safe_within : (types : List JavaType) (this inner : Option ℕ) (ls ps : List JavaType) {A : Type 0} (receiver : Value) (vs : List Value) (body : Run A) (Q : List JavaType → A → Type 0) → IsThis program.table types inner receiver → AreOf program.table types ps vs
+      → Safe program fixed types inner ps body (λ more after a. Q more a) → Safe program fixed types this ls (within receiver (length ps) vs body) (λ more after a. (after ≡ ls) × Q more a)
+  safe_within types this inner ls ps {A} receiver vs body Q i j p = record { by = λ s h. go s h (eq-eqb (length vs) (length ps) (values_long program.table types ps vs j)) }
+    where
+      by_said : (s : State) → IsStateOf program fixed types this ls s → (r : Result A Stop) (t : State) → Fine program fixed types inner ps (λ more after a. Q more a) r t → Fine program fixed types this ls (λ more after a. (after ≡ ls) × Q more a) r (record t { this_value = s.this_value; locals = s.locals })
+      by_said s h (Ok a) t f = (f.0, ls, f.2, back_state types f.0 this inner ls f.1 s t f.2 h f.3, (refl, f.4), extends_self ls)
+      by_said s h (Err (Trapped k)) t f = (f.0, ls, f.2, back_state types f.0 this inner ls f.1 s (record t { thrown = None }) f.2 h f.3, extends_self ls, f.5)
+      by_said s h (Err OutOfFuel) t f = tt
+      by_said s h (Err Stuck) t f = f
 
       go : (s : State) → IsStateOf program fixed types this ls s → nat_eq (length vs) (length ps) ≡ true → Fine program fixed types this ls (λ more after a. (after ≡ ls) × Q more a) (within receiver (length ps) vs body s).said (within receiver (length ps) vs body s).after
       go s h e =
           let inside : State = record s { this_value = receiver; locals = map plain_local vs } in
-          let state : IsStateOf program fixed types inner ps inside = record { heap = h.heap; this_is = i; locals_are = subst (λ (x : List Value). AreOf program.table types ps x) (sym (plain_values vs)) j; result = h.result; olds = h.olds; candidates = h.candidates; enough = h.enough } in
-          subst (λ (b : Bool). Fine program fixed types this ls (λ more after a. (after ≡ ls) × Q more a) (entered b receiver vs body s).said (entered b receiver vs body s).after) (sym e) (back s h (body inside) (p.by inside state))
+          subst (λ (b : Bool). Fine program fixed types this ls (λ more after a. (after ≡ ls) × Q more a) (entered b receiver vs body s).said (entered b receiver vs body s).after) (sym e) (by_said s h (body inside).said (body inside).after (p.by inside (inside_state types this inner ls ps receiver vs s i j h)))
+
+  pub closes_within : (types : List JavaType) (this inner : Option ℕ) (ls ps : List JavaType) {A : Type 0} (receiver : Value) (vs : List Value) (body : Run A) (Q : List JavaType → List JavaType → A → Type 0) → IsThis program.table types inner receiver → AreOf program.table types ps vs
+      → Safe program fixed types inner ps body Q → Closes program fixed types this ls (within receiver (length ps) vs body)
+  closes_within types this inner ls ps {A} receiver vs body Q i j p = record { by = λ s h k e. go s h k (nat_eq (length vs) (length ps)) (eq-eqb (length vs) (length ps) (values_long program.table types ps vs j)) e }
+    where
+      Closed : State → Kind → Outcome A → Type 0
+      Closed s k o = (more : List JavaType) × Extends types more × IsStateOf program fixed more this ls (record o.after { thrown = None }) × IsThrownAs program more k o.after.thrown
+
+      go : (s : State) → IsStateOf program fixed types this ls s → (k : Kind) (b : Bool) → b ≡ true → (entered b receiver vs body s).said ≡ Err (Trapped k) → Closed s k (entered b receiver vs body s)
+      go s h k false q e = absurd (cc (q))
+      go s h k true q e =
+          let inside : State = record s { this_value = receiver; locals = map plain_local vs } in
+          let f : FineTrap program fixed types inner ps k (body inside).after = subst (λ (r : Result A Stop). Fine program fixed types inner ps Q r (body inside).after) e (p.by inside (inside_state types this inner ls ps receiver vs s i j h)) in
+          (f.0, f.2, back_state types f.0 this inner ls f.1 s (record (body inside).after { thrown = None }) f.2 h f.3, f.5)
 
   -- locals declared inside end with it
-  pub safe_scoped : (types : List JavaType) (this : Option ℕ) (ls : List JavaType) {A : Type 0} (m : Run A) (Q : List JavaType → A → Type 0) → Safe program fixed types this ls m (λ more after a. Extends ls after × Q more a) → Safe program fixed types this ls (scoped m) (λ more after a. (after ≡ ls) × Q more a)
-  safe_scoped types this ls {A} m Q p = record { by = λ s h. go s h (m s).said (m s).after (p.by s h) }
+  taken_locals : (types ls us : List JavaType) (n : ℕ) (xs : List Local) → length ls ≡ n → AreOf program.table types (ls ++ us) (values_in xs) → AreOf program.table types ls (values_in (take n xs))
+  taken_locals types ls us n xs e h = subst (λ (k : ℕ). AreOf program.table types ls (values_in (take k xs))) e (subst (λ (x : List Value). AreOf program.table types ls x) (sym (map_take (length ls) xs)) (values_front program.table types ls us (values_in xs) h))
     where
-      taken : (more us : List JavaType) (n : ℕ) (xs : List Local) → length ls ≡ n → AreOf program.table more (ls ++ us) (values_in xs) → AreOf program.table more ls (values_in (take n xs))
-      taken more us n xs e h = subst (λ (k : ℕ). AreOf program.table more ls (values_in (take k xs))) e (subst (λ (x : List Value). AreOf program.table more ls x) (sym (map_take (length ls) xs)) (values_front program.table more ls us (values_in xs) h))
-        where
-          map_take : (k : ℕ) (xs : List Local) → values_in (take k xs) ≡ take k (values_in xs)
-          map_take zero xs = refl
-          map_take (suc k) [] = refl
-          map_take (suc k) (x ∷ xs) = ap (λ (y : List Value). x.value ∷ y) (map_take k xs)
+      map_take : (k : ℕ) (xs : List Local) → values_in (take k xs) ≡ take k (values_in xs)
+      map_take zero xs = refl
+      map_take (suc k) [] = refl
+      map_take (suc k) (x ∷ xs) = ap (λ (y : List Value). x.value ∷ y) (map_take k xs)
 
-      outside : (s : State) → IsStateOf program fixed types this ls s → (t : State) (more ms : List JavaType) → Extends ls ms → IsStateOf program fixed more this ms t → IsStateOf program fixed more this ls (record t { locals = take (length s.locals) t.locals })
-      outside s h t more ms x k =
-          let long : length ls ≡ length s.locals = sym (values_long program.table types ls (values_in s.locals) h.locals_are) ∙ length-map s.locals (λ (l : Local). l.value) in
-          let inside = subst (λ (y : List JavaType). AreOf program.table more y (values_in t.locals)) x.1 k.locals_are in
-          record { heap = k.heap; this_is = k.this_is; locals_are = taken more x.0 (length s.locals) t.locals long inside; result = k.result; olds = k.olds; candidates = k.candidates; enough = k.enough }
+  front_state : (types : List JavaType) (this : Option ℕ) (ls ms : List JavaType) (n : ℕ) (t : State) → length ls ≡ n → Extends ls ms → IsStateOf program fixed types this ms t → IsStateOf program fixed types this ls (record t { locals = take n t.locals })
+  front_state types this ls ms n t long x k =
+      let inside = subst (λ (y : List JavaType). AreOf program.table types y (values_in t.locals)) x.1 k.locals_are in
+      record { heap = k.heap; this_is = k.this_is; locals_are = taken_locals types ls x.0 n t.locals long inside; result = k.result; olds = k.olds; thrown = k.thrown; candidates = k.candidates; enough = k.enough }
 
-      go : (s : State) → IsStateOf program fixed types this ls s → (r : Result A Stop) (t : State) → Fine program fixed types this ls (λ more after a. Extends ls after × Q more a) r t
-          → Fine program fixed types this ls (λ more after a. (after ≡ ls) × Q more a) r (record t { locals = take (length s.locals) t.locals })
-      go s h (Ok a) t f = (f.0, ls, f.2, outside s h t f.0 f.1 f.5 f.3, (refl, f.4.1), extends_self ls)
-      go s h (Err (Trapped k)) t f = (f.0, ls, f.2, outside s h t f.0 f.1 f.4 f.3, extends_self ls)
-      go s h (Err OutOfFuel) t f = tt
-      go s h (Err Stuck) t f = f
+  pub locals_long : (types ls : List JavaType) (xs : List Local) → AreOf program.table types ls (values_in xs) → length ls ≡ length xs
+  locals_long types ls xs h = sym (values_long program.table types ls (values_in xs) h) ∙ length-map xs (λ (l : Local). l.value)
+
+  pub fine_scoped : (types : List JavaType) (this : Option ℕ) (ls : List JavaType) {A : Type 0} (Q : List JavaType → A → Type 0) (n : ℕ) → length ls ≡ n → (r : Result A Stop) (t : State) → Fine program fixed types this ls (λ more after a. Extends ls after × Q more a) r t
+      → Fine program fixed types this ls (λ more after a. (after ≡ ls) × Q more a) r (record t { locals = take n t.locals })
+  fine_scoped types this ls Q n long (Ok a) t f = (f.0, ls, f.2, front_state f.0 this ls f.1 n t long f.5 f.3, (refl, f.4.1), extends_self ls)
+  fine_scoped types this ls Q n long (Err (Trapped k)) t f = (f.0, ls, f.2, front_state f.0 this ls f.1 n (record t { thrown = None }) long f.4 f.3, extends_self ls, f.5)
+  fine_scoped types this ls Q n long (Err OutOfFuel) t f = tt
+  fine_scoped types this ls Q n long (Err Stuck) t f = f
+
+  pub safe_scoped : (types : List JavaType) (this : Option ℕ) (ls : List JavaType) {A : Type 0} (m : Run A) (Q : List JavaType → A → Type 0) → Safe program fixed types this ls m (λ more after a. Extends ls after × Q more a) → Safe program fixed types this ls (scoped m) (λ more after a. (after ≡ ls) × Q more a)
+  safe_scoped types this ls m Q p = record { by = λ s h. fine_scoped types this ls Q (length s.locals) (locals_long types ls s.locals h.locals_are) (m s).said (m s).after (p.by s h) }
+
+  -- so a block leaves the locals from before where it traps
+  pub closes_scoped : (types : List JavaType) (this : Option ℕ) (ls : List JavaType) {A : Type 0} (m : Run A) (Q : List JavaType → List JavaType → A → Type 0) → Safe program fixed types this ls m Q → Closes program fixed types this ls (scoped m)
+  closes_scoped types this ls m Q p = record { by = λ s h k e. go s h k (subst (λ (r : Result _ Stop). Fine program fixed types this ls Q r (m s).after) e (p.by s h)) }
+    where
+      go : (s : State) → IsStateOf program fixed types this ls s → (k : Kind) → Fine program fixed types this ls Q (Err (Trapped k)) (m s).after
+          → (more : List JavaType) × Extends types more × IsStateOf program fixed more this ls (record (scoped m s).after { thrown = None }) × IsThrownAs program more k (scoped m s).after.thrown
+      go s h k f = (f.0, f.2, front_state f.0 this ls f.1 (length s.locals) (record (m s).after { thrown = None }) (locals_long types ls s.locals h.locals_are) f.4 f.3, f.5)
+
+  pub closes_tick : (types : List JavaType) (this : Option ℕ) (ls : List JavaType) {A : Type 0} (m : Run A) → Closes program fixed types this ls m → Closes program fixed types this ls (tick >> m)
+  unfolding bind
+  closes_tick types this ls {A} m p = record { by = λ s h k e. go s s.fuel h k e }
+    where
+      ticked : State → ℕ → Outcome A
+      ticked s n = go_on (tick_at n s).said (tick_at n s).after (tick_at n s).reads (λ (u : Unit {0}). m)
+
+      go : (s : State) (n : ℕ) → IsStateOf program fixed types this ls s → (k : Kind) → (ticked s n).said ≡ Err (Trapped k)
+          → (more : List JavaType) × Extends types more × IsStateOf program fixed more this ls (record (ticked s n).after { thrown = None }) × IsThrownAs program more k (ticked s n).after.thrown
+      go s zero h k e = absurd (cc (e))
+      go s (suc n) h k e = p.by (record s { fuel = n }) (record { heap = h.heap; this_is = h.this_is; locals_are = h.locals_are; result = h.result; olds = h.olds; thrown = h.thrown; candidates = h.candidates; enough = h.enough }) k e
 
   -- ---- the class of a reference
 
@@ -305,7 +351,7 @@ module _ (program : Program) (fixed : Fixed) where
   unfolding bind
   safe_load_field types this ls c n t (Int z) f i = absurd (cc (i.1))
   safe_load_field types this ls c n t (Truth b) f i = absurd (cc (i))
-  safe_load_field types this ls c n t Null f i = record { by = λ s h. (types, ls, extends_self types, h, extends_self ls) }
+  safe_load_field types this ls c n t Null f i = record { by = λ s h. fine_trap types this ls NullPointerException s h }
   safe_load_field types this ls c n t (Reference o) f i = record { by = λ s h. go s h (class_known types s o c h.heap i) }
     where
       go : (s : State) → IsStateOf program fixed types this ls s → (d : ℕ) × (type_at types o ≡ ClassType d) × (is_below program.table d c ≡ true) → Fine program fixed types this ls (Gives program ls t) (load_field program n (Reference o) s).said (load_field program n (Reference o) s).after
@@ -356,7 +402,7 @@ module _ (program : Program) (fixed : Fixed) where
   pub safe_length : (types : List JavaType) (this : Option ℕ) (ls : List JavaType) (t : JavaType) (v : Value) → IsOf program.table types (ArrayType t) v → Safe program fixed types this ls (load v Length) (λ more after x. (after ≡ ls) × (n : ℕ) × (x ≡ Int (pos n)) × IsLength n)
   safe_length types this ls t (Int z) i = absurd (cc (i.1))
   safe_length types this ls t (Truth b) i = absurd (cc (i))
-  safe_length types this ls t Null i = record { by = λ s h. (types, ls, extends_self types, h, extends_self ls) }
+  safe_length types this ls t Null i = record { by = λ s h. fine_trap types this ls NullPointerException s h }
   safe_length types this ls t (Reference o) i = record { by = λ s h. go s h (array_of_type types s o t h.heap i.0 (array_known types s o t h.heap i)) }
     where
       go : (s : State) → IsStateOf program fixed types this ls s → IsObjectOf program types (ArrayType t) (object_in s.heap o) → Fine program fixed types this ls (λ more after x. (after ≡ ls) × (n : ℕ) × (x ≡ Int (pos n)) × IsLength n) (load (Reference o) Length s).said (load (Reference o) Length s).after
@@ -367,7 +413,7 @@ module _ (program : Program) (fixed : Fixed) where
   pub safe_element : (types : List JavaType) (this : Option ℕ) (ls : List JavaType) (t : JavaType) (v w : Value) → IsOf program.table types (ArrayType t) v → IsOf program.table types int_type w → Safe program fixed types this ls (element v w) (Gives program ls t)
   safe_element types this ls t (Int z) w i j = absurd (cc (i.1))
   safe_element types this ls t (Truth b) w i j = absurd (cc (i))
-  safe_element types this ls t Null (Int z) i j = record { by = λ s h. (types, ls, extends_self types, h, extends_self ls) }
+  safe_element types this ls t Null (Int z) i j = record { by = λ s h. fine_trap types this ls NullPointerException s h }
   safe_element types this ls t Null (Truth b) i j = absurd (cc (j))
   safe_element types this ls t Null Null i j = absurd (cc (j))
   safe_element types this ls t Null (Reference p) i j = record { by = λ s h. absurd (no_int types s p h.heap j) }
@@ -377,7 +423,7 @@ module _ (program : Program) (fixed : Fixed) where
   safe_element types this ls t (Reference o) (Int z) i j = record { by = λ s h. go s h (array_of_type types s o t h.heap i.0 (array_known types s o t h.heap i)) }
     where
       read : (s : State) → IsStateOf program fixed types this ls s → IsObjectOf program types (ArrayType t) (object_in s.heap o) → (k : Option ℕ) → index_within z (length (object_in s.heap o).values) ≡ k → Fine program fixed types this ls (Gives program ls t) (element_read k o s).said (element_read k o s).after
-      read s h x None e = (types, ls, extends_self types, h, extends_self ls)
+      read s h x None e = fine_trap types this ls ArrayIndexOutOfBoundsException s h
       read s h x (Some k) e = (types, ls, extends_self types, h, (refl, all_found program.table types t (object_in s.heap o).values k x.1 (index_below z (length (object_in s.heap o).values) k e)), extends_self ls)
 
       go : (s : State) → IsStateOf program fixed types this ls s → IsObjectOf program types (ArrayType t) (object_in s.heap o) → Fine program fixed types this ls (Gives program ls t) (element (Reference o) (Int z) s).said (element (Reference o) (Int z) s).after
@@ -392,7 +438,7 @@ module _ (program : Program) (fixed : Fixed) where
   pub safe_store_element : (types : List JavaType) (this : Option ℕ) (ls : List JavaType) (t : JavaType) (v w x : Value) → IsOf program.table types (ArrayType t) v → IsOf program.table types int_type w → IsOf program.table types t x → Safe program fixed types this ls (store_element program t v w x) (Keeps ls)
   safe_store_element types this ls t (Int z) w x i j y = absurd (cc (i.1))
   safe_store_element types this ls t (Truth b) w x i j y = absurd (cc (i))
-  safe_store_element types this ls t Null (Int z) x i j y = record { by = λ s h. (types, ls, extends_self types, h, extends_self ls) }
+  safe_store_element types this ls t Null (Int z) x i j y = record { by = λ s h. fine_trap types this ls NullPointerException s h }
   safe_store_element types this ls t Null (Truth b) x i j y = absurd (cc (j))
   safe_store_element types this ls t Null Null x i j y = absurd (cc (j))
   safe_store_element types this ls t Null (Reference p) x i j y = record { by = λ s h. absurd (no_int types s p h.heap j) }
@@ -405,7 +451,7 @@ module _ (program : Program) (fixed : Fixed) where
       changed s a k = (a.0, all_set program.table types t (object_in s.heap o).values k x a.1 y, subst IsLength (sym (length-set (object_in s.heap o).values k x)) a.2)
 
       stored : (s : State) → IsStateOf program fixed types this ls s → type_at types o ≡ ArrayType t → (k : Option ℕ) → Fine program fixed types this ls (Keeps ls) (store_index o k x s).said (store_index o k x s).after
-      stored s h e None = (types, ls, extends_self types, h, extends_self ls)
+      stored s h e None = fine_trap types this ls ArrayIndexOutOfBoundsException s h
       stored s h e (Some k) =
           let new = subst (λ (u : JavaType). IsObjectOf program types u (record { class = (object_in s.heap o).class; values = slice_set (object_in s.heap o).values k x })) (sym e) (changed s (array_of_type types s o t h.heap i.0 e) k) in
           (types, ls, extends_self types, with_heap types types this ls s (put s.heap o k x) (extends_self types) h (object_set program types types s.heap o _ h.heap new) (set_long s.heap o _ types h.heap new), refl, extends_self ls)
@@ -422,7 +468,7 @@ module _ (program : Program) (fixed : Fixed) where
       → ((d : ℕ) → is_below program.table d c ≡ true → is_below program.table d f.class ≡ true) → IsOf program.table types (ClassType c) v → IsOf program.table types f.type x → Safe program fixed types this ls (store program f v x) (Keeps ls)
   safe_store types this ls f c (Int z) x has b up i y = absurd (cc (i.1))
   safe_store types this ls f c (Truth z) x has b up i y = absurd (cc (i))
-  safe_store types this ls f c Null x has b up i y = record { by = λ s h. (types, ls, extends_self types, h, extends_self ls) }
+  safe_store types this ls f c Null x has b up i y = record { by = λ s h. fine_trap types this ls NullPointerException s h }
   safe_store types this ls f c (Reference o) x has b up i y = record { by = λ s h. go s h (class_known types s o c h.heap i) }
     where
       go : (s : State) → IsStateOf program fixed types this ls s → (d : ℕ) × (type_at types o ≡ ClassType d) × (is_below program.table d c ≡ true) → Fine program fixed types this ls (Keeps ls) (store program f (Reference o) x s).said (store program f (Reference o) x s).after

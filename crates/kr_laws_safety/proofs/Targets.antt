@@ -1,17 +1,18 @@
 -- Types to which others are assignable, and the values of these.
-use Rattle.std.proofs.Common.{◌≡◌, ℕ, Bool, true, false, List, refl, sym, ap, subst, arith}
-use Rattle.std.specs.Prelude.{ℤ, pos, negsuc, not}
+use Rattle.std.proofs.Common.{◌≡◌, ℕ, Bool, true, false, List, [], ◌∷◌, refl, sym, ap, subst, arith}
+use Rattle.std.specs.Prelude.{ℤ, pos, negsuc, not, map}
 use Rattle.kr_value.specs.declared.value.Value.{Value}
 use Rattle.kr_value.specs.declared.value.Value.TheVariants.{Int, Bool as Truth, Null, Ref as Reference}
 use Rattle.kr_classes_table.specs.Numbers.{Width, Bits32, Bits64}
 use Rattle.kr_classes_table.specs.Types.{JavaType, NumberType, BooleanType, NullType, VoidType, ClassType, ArrayType, SetType, ListType, InferredType, is_void, is_reference}
-use Rattle.kr_classes_table.specs.Table.{Table, is_below, is_assignable}
+use Rattle.kr_classes_table.specs.Table.{Table, Field, is_below, is_assignable}
 use Rattle.kr_mean.specs.Program.{default_of}
-use Rattle.kr_laws_safety.specs.Fits.{IsWithin, IsOf, type_at}
+use Rattle.kr_laws_safety.specs.Fits.{IsWithin, IsOf, AreOf, type_at}
 use Rattle.kr_laws_safety.proofs.Heaps.{same_type}
 use Rattle.kr_laws_safety.proofs.Vectors.{type_same}
 use Rattle.kr_laws_safety.proofs.Steps.{below_itself}
 use Rattle.kr_laws_types.specs.Types.{is_variable_type, is_result_type, is_value_type}
+use Rattle.kr_laws_safety.specs.Typed.{AreAllVariables}
 use Rattle.kr_laws_safety.specs.Claims.{is_target}
 
 -- ---- kinds
@@ -64,6 +65,10 @@ default_is table types (ArrayType t) e = refl
 default_is table types (SetType t) e = refl
 default_is table types (ListType t) e = refl
 default_is table types _ e = absurd (cc (e))
+
+pub defaults_are : (table : Table) (types : List JavaType) (fs : List Field) → AreAllVariables (map (λ f. f.type) fs) → AreOf table types (map (λ f. f.type) fs) (map (λ f. default_of f.type) fs)
+defaults_are table types [] h = tt
+defaults_are table types (f ∷ fs) h = (default_is table types f.type h.0, defaults_are table types fs h.1)
 
 -- an int is a long
 pub long_within : (z : ℤ) → IsWithin Bits32 z → IsWithin Bits64 z

@@ -10,7 +10,7 @@ use Rattle.kr_classes_table.specs.Table.{is_assignable, are_related}
 use Rattle.kr_types_meaning.specs.Scopes.{Scope, value, in_old, written}
 use Rattle.kr_types_meaning.specs.Rules as rules
 use Rattle.kr_types_meaning.specs.Promotion.{are_numbers}
-use Rattle.kr_types_meaning.specs.Rules.{Fits, gives, both_boolean, related_references, is_ensuring, choice_rule, cast_rule, instance_rule, array_creation_rule, result_value_rule, old_rule}
+use Rattle.kr_types_meaning.specs.Rules.{Fits, gives, both_boolean, related_references, is_ensuring, is_after_body, choice_rule, cast_rule, instance_rule, array_creation_rule, result_value_rule, old_rule}
 use Rattle.kr_types_meaning.specs.Typing.{on_one, on_two, judged, type_in}
 use Rattle.kr_mean.specs.Program.{Program}
 use Rattle.kr_mean.specs.Steps.{give, ◌>>=◌, class_or_null}
@@ -163,13 +163,13 @@ module _ (program : Program) (fixed : Fixed) (facts : IsTypedProgram program) (p
       let each = and_parts (is_ensuring s.part) (not (is_void s.result)) both.0 in
       safe_as program fixed facts.below types (this_of s) (types_of s.locals) _ t u a (safe_result program fixed types (this_of s) (types_of s.locals) t (k.4 each.0 (not_true s.is_in_old both.1) (not_true (is_void s.result) each.1) ∙ ap (λ (n : JavaType). Some n) (ruled_gives s.result t asked.1)))
 
-  pub before : (s : Scope) (pl : Place) (e : Tree) → (is_ensuring s.part ≡ true → type_of_old fixed.olds pl ≡ type_in (judged (in_old (plain s)) e).typed) → IsScope program fixed s → Coded program fixed (Expression false) (in_old s) e → (judged s (trees.Old pl e)).faults ≡ [] → Goal program fixed facts p q s (trees.Old pl e)
+  pub before : (s : Scope) (pl : Place) (e : Tree) → (is_after_body s.part ≡ true → type_of_old fixed.olds pl ≡ type_in (judged (in_old (plain s)) e).typed) → IsScope program fixed s → Coded program fixed (Expression false) (in_old s) e → (judged s (trees.Old pl e)).faults ≡ [] → Goal program fixed facts p q s (trees.Old pl e)
   unfolding judged
   before s pl e old k h f types t u r g a =
       let below = below_none pl (on_one (old_rule s) (judged (in_old s) e).typed) (judged (in_old s) e).faults f in
       let x = typed_at program fixed facts (in_old s) e (k.0, k.1, k.2, k.3, λ n o. absurd (cc (o))) h below in
       let rule = ruled_as (on_one (old_rule s) (judged (in_old s) e).typed) (old_rule s x.type) t (on_type (old_rule s) (judged (in_old s) e).typed x.type x.known) (ruled pl (on_one (old_rule s) (judged (in_old s) e).typed) (judged (in_old s) e).faults t f r) in
-      let asked = ruled_ask (is_ensuring s.part && not s.is_in_old) 38 (Fits (rules.Value x.type)) t rule in
+      let asked = ruled_ask (is_after_body s.part && not s.is_in_old) 38 (Fits (rules.Value x.type)) t rule in
       let is = ruled_value x.type t asked.1 in
       safe_as program fixed facts.below types (this_of s) (types_of s.locals) _ t u a
-      (safe_old program fixed types (this_of s) (types_of s.locals) pl t (old (and_parts (is_ensuring s.part) (not s.is_in_old) asked.0).0 ∙ (type_plain (in_old s) e ∙ (x.known ∙ ap (λ (n : JavaType). Some n) is))))
+      (safe_old program fixed types (this_of s) (types_of s.locals) pl t (old (and_parts (is_after_body s.part) (not s.is_in_old) asked.0).0 ∙ (type_plain (in_old s) e ∙ (x.known ∙ ap (λ (n : JavaType). Some n) is))))

@@ -1,6 +1,8 @@
 -- Between crates: what is claimed of code without broken nodes: no run of it is stuck, expressions give values of the types that
 -- they are used as, and statements lead on only as they may.
 use Rattle.std.specs.Prelude.{◌≡◌, ℕ, Bool, true, false, if◌then◌else◌, List, [], ◌∷◌, ◌++◌, Option, Some, None}
+use Rattle.kr_base.specs.declared.place.Place.{Place}
+use Rattle.kr_ast.specs.Tree as trees
 use Rattle.kr_ast.specs.Tree.{Tree}
 use Rattle.kr_value.specs.declared.value.Value.{Value}
 use Rattle.kr_classes_table.specs.Types.{JavaType, BooleanType, NullType, is_void}
@@ -17,7 +19,7 @@ use Rattle.kr_mean.specs.declared.flow.Flow.{Flow}
 use Rattle.kr_mean.specs.declared.flow.Flow.TheVariants.{Next, Broke, Continued, Left, Gave}
 use Rattle.kr_mean.specs.Meaning.{Parts}
 use Rattle.kr_laws_safety.specs.Fits.{IsOf}
-use Rattle.kr_laws_safety.specs.Triples.{Fixed, Safe, Extends, type_of_old}
+use Rattle.kr_laws_safety.specs.Triples.{Fixed, Safe, Closes, Extends, type_of_old}
 
 -- `this`, which static code doesn't have
 abbrev pub this_of : Scope → Option ℕ
@@ -79,7 +81,13 @@ abbrev pub LoopsSafe : Program → Fixed → (Run Value → Run Flow → Run Flo
 LoopsSafe program fixed f = (this : Option ℕ) (ls : List JavaType) (result : JavaType) (loops : Bool) (test : Run Value) (body : Run Flow) → ((types : List JavaType) → Safe program fixed types this ls test (GivesAs program ls BooleanType))
     → ((types : List JavaType) → Safe program fixed types this ls body (Leads program.table result true ls ls)) → (types : List JavaType) → Safe program fixed types this ls (f test body) (Leads program.table result loops ls ls)
 
+-- a block without broken nodes that traps leaves the locals as they were
+abbrev pub BlocksClose : Program → Fixed → (Scope → Tree → Run Flow) → Type 0
+BlocksClose program fixed f = (s : Scope) (p : Place) (ts : Tree) → IsScope program fixed s → is_statement s.role ≡ false → Coded program fixed (Statement false) s (trees.Block p ts) → (judged s (trees.Block p ts)).faults ≡ [] → (types : List JavaType)
+    → Closes program fixed types (this_of s) (types_of s.locals) (f (plain s) (trees.Block p ts))
+
 pub record PartsSafe (program : Program) (fixed : Fixed) (parts : Parts) : Type 0 where
   pub value : ValuesSafe program fixed parts.value
   pub exec : StatementsSafe program fixed parts.exec
   pub loops : LoopsSafe program fixed parts.rounds
+  pub blocks : BlocksClose program fixed parts.exec

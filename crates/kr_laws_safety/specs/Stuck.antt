@@ -28,7 +28,7 @@ abbrev pub CandidatesLaw : Type 0
 CandidatesLaw = (problem : Problem) → IsTypedProgram problem.program → HasContracts problem → IsWellFormed problem → HaveDomainsTypes problem → (vector : List ℕ) → IsVector (space_of problem) vector → IsStuck problem vector → ⊥
 
 -- On no candidate is a test of a method stuck, whatever its fuel: neither an `\old`, nor the body, nor the predicate after it,
--- nor a postcondition; and each of the last two gives a truth value, where it gives a value.
+-- nor a postcondition, nor a `signals` clause that fits; and each of the last three gives a truth value, where it gives a value.
 abbrev pub TestsLaw : Type 0
 TestsLaw = (problem : Problem) → IsTypedProgram problem.program → HasContracts problem → IsWellFormed problem → HaveDomainsTypes problem → (vector : List ℕ) → IsVector (space_of problem) vector
     → (m : Method) → tested_method problem problem.mode ≡ Some m → (fuel : ℕ) → IsTestable problem m (test_start problem vector fuel)

@@ -13,7 +13,7 @@ use Rattle.kr_parse_grammar.specs.Grammar as grammar
 use Rattle.kr_parse_grammar.specs.Grammar.{Der, Derives}
 use Rattle.kr_types_meaning.specs.Laws.{IsClassName}
 use Rattle.kr_laws_shapes.specs.Expressions.{IsValueKind, IsCreated, is_compound}
-use Rattle.kr_laws_shapes.specs.Shapes.{IsExpression, AreExpressions, IsVariableType, IsResultType, IsDeclarator, AreDeclarators, One, IsCode, IsStatement, AreStatements, AreParameters, IsContractLine, AreContractLines, MayCallSuper, MayExtend, IsMember, IsClass, AreClasses}
+use Rattle.kr_laws_shapes.specs.Shapes.{IsExpression, AreExpressions, IsVariableType, IsResultType, IsDeclarator, AreDeclarators, IsCaught, IsSignalled, One, Catch, Catches, IsCode, IsStatement, AreStatements, AreParameters, IsContractLine, AreContractLines, MayCallSuper, MayExtend, IsMember, IsClass, AreClasses}
 
 -- each item of a list
 abbrev AllItems : (Tree → Type 0) → Tree → Type 0
@@ -49,6 +49,8 @@ Has grammar.Evaluated t = IsStatement t
 Has grammar.BlockStatement t = IsCode (One true) t
 Has grammar.Statement t = IsStatement t
 Has grammar.ForInitial t = AreStatements t
+Has grammar.Caught t = IsCaught t
+Has grammar.Catch t = IsCode Catch t
 Has grammar.Parameter t = IsParameter t
 Has grammar.ResultType t = IsResultType t
 Has grammar.ConstructorCall t = IsSuperCall t
@@ -77,6 +79,8 @@ declares_more (trees.IfElse p c a b) h = h
 declares_more (trees.While p c a) h = h
 declares_more (trees.Do p a c) h = h
 declares_more (trees.For p i c u a) h = h
+declares_more (trees.Throw p e) h = h
+declares_more (trees.Try p b cs) h = h
 declares_more t h = absurd h
 
 expressions : (t : Tree) → AllItems IsExpression t → AreExpressions t
@@ -92,6 +96,17 @@ statements : (t : Tree) → AllItems (IsCode (One true)) t → AreStatements t
 statements trees.Nil h = tt
 statements (trees.Cons a b) h = (h.0, statements b h.1)
 statements t h = absurd h
+
+catches : (t : Tree) → AllItems (IsCode Catch) t → IsCode Catches t
+catches trees.Nil h = tt
+catches (trees.Cons a b) h = (h.0, catches b h.1)
+catches t h = absurd h
+
+-- a class's name without one of the object
+signalled : (t : Tree) → IsClassName t → IsSignalled t
+signalled (trees.NamedType p n) h = tt
+signalled (trees.QualifiedType p o n) h = tt
+signalled t h = absurd h
 
 evaluations : (t : Tree) → AllItems IsStatement t → AreStatements t
 evaluations trees.Nil h = tt
@@ -274,6 +289,11 @@ has (grammar.if_else a b d e k l x m y n o z) = (has x, has y, has z)
 has (grammar.while a b d k l x m y) = (has x, has y)
 has (grammar.do_while a b d e g k x l m y n o) = (has x, has y)
 has (grammar.for {k = k} {u = u} a b d e g p q w l x m y n z) = (initial k (has w), has x, arguments u (has y), has z)
+has (grammar.throw a b k d l) = has d
+has (grammar.try {t = t} {u = u} a b d k l x m y z) = (tt, statements t (has x), (has y, catches u (has z)))
+has (grammar.caught n d k) = has d
+has (grammar.final_caught a n k d l) = has d
+has (grammar.catch {u = u} a b d e g k l x m n y o) = (has x, statements u (has y))
 has (grammar.for_local d) = (has d, tt)
 has (grammar.for_expressions {t = t} d) = evaluations t (has d)
 has (grammar.parameter n d k) = has d
@@ -285,6 +305,8 @@ has (grammar.nested {t = t} f k l d) = class_is_member t (has d)
 has (grammar.field {u = u} a f k d e l) = (has d, declarators u (has e))
 has (grammar.precondition a b c k l d m) = has d
 has (grammar.postcondition a b c k l d m) = has d
+has (grammar.exception {t = t} a b c d e k l m x n y o) = (signalled t (has x), has y)
+has (grammar.named_exception a b c n d e k l m x o q y w) = (has x, has y)
 has (grammar.method {v = v} {u = u} {s = s} a b c d e x f y k l z m n w o) = ((has y, maybe_parameters u (has z), contract_lines v (has x)), statements s (has w))
 has (grammar.constructor {u = u} {s = s} {t = t} a b c d e f k n l x m o y z p) = (maybe_parameters u (has x), super_call s (has y), statements t (has z))
 has grammar.no_member = tt

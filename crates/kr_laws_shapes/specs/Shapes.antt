@@ -40,15 +40,36 @@ AreDeclarators trees.Nil = Unit {0}
 AreDeclarators (trees.Cons a b) = IsDeclarator a × AreDeclarators b
 AreDeclarators t = ⊥
 
--- a statement, and whether it may be a declaration; or statements in a list, each of which may
+-- what a `catch` declares; a `signals` may have the class alone
+abbrev pub IsCaught : Tree → Type 0
+IsCaught (trees.Parameter p t n) = IsClassName t
+IsCaught t = ⊥
+
+abbrev pub IsSignalled : Tree → Type 0
+IsSignalled (trees.Parameter p t n) = IsClassName t
+IsSignalled t = IsClassName t
+
+-- the body of a `try`
+abbrev pub IsBlock : Tree → Type 0
+IsBlock (trees.Block p ts) = Unit {0}
+IsBlock t = ⊥
+
+-- a statement, and whether it may be a declaration; or statements in a list, each of which may; a `catch`, or several
 pub data Sort : Type 0 where
   One : Bool → Sort
   Several : Sort
+  Catch : Sort
+  Catches : Sort
 
 abbrev pub IsCode : Sort → Tree → Type 0
 IsCode Several trees.Nil = Unit {0}
 IsCode Several (trees.Cons a b) = IsCode (One true) a × IsCode Several b
 IsCode Several t = ⊥
+IsCode Catch (trees.Catch p d b) = IsCaught d × IsCode (One false) b
+IsCode Catch t = ⊥
+IsCode Catches trees.Nil = Unit {0}
+IsCode Catches (trees.Cons a b) = IsCode Catch a × IsCode Catches b
+IsCode Catches t = ⊥
 IsCode (One d) (trees.Local p t ds) = (d ≡ true) × IsVariableType t × AreDeclarators ds
 IsCode (One d) (trees.Empty p) = Unit {0}
 IsCode (One d) (trees.Block p ts) = IsCode Several ts
@@ -61,6 +82,8 @@ IsCode (One d) (trees.IfElse p c a b) = IsExpression c × IsCode (One false) a �
 IsCode (One d) (trees.While p c a) = IsExpression c × IsCode (One false) a
 IsCode (One d) (trees.Do p a c) = IsCode (One false) a × IsExpression c
 IsCode (One d) (trees.For p i c u a) = IsCode Several i × MayBeExpression c × AreExpressions u × IsCode (One false) a
+IsCode (One d) (trees.Throw p e) = IsExpression e
+IsCode (One d) (trees.Try p b cs) = IsBlock b × IsCode (One false) b × IsCode Catches cs
 IsCode (One d) t = ⊥
 
 abbrev pub IsStatement : Tree → Type 0
@@ -80,6 +103,7 @@ AreParameters t = ⊥
 abbrev pub IsContractLine : Tree → Type 0
 IsContractLine (trees.Requires p e) = IsExpression e
 IsContractLine (trees.Ensures p e) = IsExpression e
+IsContractLine (trees.Signals p d e) = IsSignalled d × IsExpression e
 IsContractLine t = ⊥
 
 abbrev pub AreContractLines : Tree → Type 0

@@ -17,7 +17,7 @@ use Rattle.kr_value.specs.declared.object.Spot.{Spot}
 use Rattle.kr_value.specs.declared.object.Spot.TheVariants.{Field, Length, Element}
 use Rattle.kr_value.specs.Heaps.{HeapObject, no_object, object_in, has_spot_of, has_spot, value_of_spot}
 use Rattle.kr_classes_table.specs.Types.{JavaType, NumberType, BooleanType, NullType, VoidType, ClassType, ArrayType, SetType, ListType, InferredType, UnknownType, AppliedType}
-use Rattle.kr_classes_table.specs.Table.{Field as FieldOf, Method}
+use Rattle.kr_classes_table.specs.Table.{Field as FieldOf, Method, fields_of}
 use Rattle.kr_classes_table.specs.Arrays.{array_number}
 use Rattle.kr_classes_table.specs.Constants.{is_at_place}
 use Rattle.kr_classes_table.specs.declared.errors.OperatorError.TheVariants.{ZeroDivisor, NotDefined}
@@ -28,11 +28,12 @@ use Rattle.kr_types_meaning.specs.Scopes.{Scope}
 use Rattle.kr_mean.specs.declared.kind.Kind.{Kind}
 use Rattle.kr_mean.specs.declared.kind.Kind.TheVariants.{NegativeArraySizeException, ArrayTooLong}
 use Rattle.kr_mean.specs.declared.kind.Stop.{Stop}
-use Rattle.kr_mean.specs.declared.kind.Stop.TheVariants.{Trapped, Stuck}
+use Rattle.kr_mean.specs.declared.kind.Stop.TheVariants.{Trapped, OutOfFuel, Stuck}
 use Rattle.kr_mean.specs.Program.{Program, default_of, spot_of_field, is_array_of}
 use Rattle.kr_mean.specs.Places.{SlotPlace, This, Parameter, At}
 use Rattle.kr_mean.specs.Collections.{is_same_value, has_member, without, Collected, gives, added_once, add, remove_first, is_collection, is_empty, called_with, called_alone, called_on, collected}
 use Rattle.kr_mean.specs.Steps.{Local, Old, State, Outcome, Run, say, stop, go_on, bind, ◌>>=◌, given, tick, tick_at, get_result, old_at, get_old, local_at, place_reads, local_given, read_local, plain_local, declare, assign_if, assign, back_to, entered, within, scoped, load_if, load, index_within, element_read, element_if, element, class_or_null, put, store_at, store, store_new, store_index, store_element_if, store_element, make, collected_said, collect_as, collect}
+use Rattle.kr_mean.specs.Thrown.{class_of_kind, throw_as, object_of_class, object_or_new, object_of, handled, caught_by, attempted}
 use Rattle.kr_mean.specs.declared.operations.BinaryOperation.{BinaryOperation}
 use Rattle.kr_mean.specs.declared.operations.UnaryOperation.{UnaryOperation}
 use Rattle.kr_mean.specs.Operators.{said, into, operated, operated_alone, unary_operation}
@@ -190,6 +191,7 @@ module _ (program : Program) (st : Setting) where
     pub locals : Each LocalLike s.locals s'.locals
     pub result : OnOption Related s.result s'.result
     pub olds : Each OldLike s.olds s'.olds
+    pub thrown : OnOption Related s.thrown s'.thrown
     pub heap : HeapLike s.heap s'.heap
     pub candidates : s.candidates ≡ st.candidates
     pub candidates' : s'.candidates ≡ st.candidates
@@ -249,7 +251,7 @@ module _ (program : Program) (st : Setting) where
     where
       go : (n : ℕ) (s s' : State) → Like s s' → Meets Any (tick_at n s) (tick_at n s')
       go zero s s' l = (refl, l)
-      go (suc n) s s' l = (tt, record { this_value = l.this_value; locals = l.locals; result = l.result; olds = l.olds; heap = l.heap; candidates = l.candidates; candidates' = l.candidates'; fuel = refl })
+      go (suc n) s s' l = (tt, record { this_value = l.this_value; locals = l.locals; result = l.result; olds = l.olds; thrown = l.thrown; heap = l.heap; candidates = l.candidates; candidates' = l.candidates'; fuel = refl })
 
   same_null : Related Null Null
   same_null = (refl, tt)
@@ -434,9 +436,9 @@ module _ (program : Program) (st : Setting) where
   reads_local k = record { by = λ s s' l. given_like (local_at s.locals k) (local_at s'.locals k) s s' (found k s.locals s'.locals l.locals) l }
 
   with_locals_like : (ls ms : List Local) (s s' : State) → Each LocalLike ls ms → Like s s' → Like (record s { locals = ls }) (record s' { locals = ms })
-  with_locals_like ls ms s s' e l = record { this_value = l.this_value; locals = e; result = l.result; olds = l.olds; heap = l.heap; candidates = l.candidates; candidates' = l.candidates'; fuel = l.fuel }
+  with_locals_like ls ms s s' e l = record { this_value = l.this_value; locals = e; result = l.result; olds = l.olds; thrown = l.thrown; heap = l.heap; candidates = l.candidates; candidates' = l.candidates'; fuel = l.fuel }
 
-  declares : (v w : Value) → Related v w → Goes Any (declare v) (declare w)
+  pub declares : (v w : Value) → Related v w → Goes Any (declare v) (declare w)
   declares v w r = record { by = λ s s' l. (tt, with_locals_like _ _ s s' (each_append LocalLike s.locals s'.locals (plain_local v ∷ []) (plain_local w ∷ []) l.locals ((refl, r), tt)) l) }
 
   assigns : (k : ℕ) (v w : Value) → Related v w → Goes Any (assign k v) (assign k w)
@@ -482,17 +484,17 @@ module _ (program : Program) (st : Setting) where
   }
     where
       back : (s s' : State) → Like s s' → (a a' : Outcome A) → Reaches S a a' → Reaches S (back_to s a) (back_to s' a')
-      back s s' l a a' x = (x.0, record { this_value = l.this_value; locals = l.locals; result = x.1.result; olds = x.1.olds; heap = x.1.heap; candidates = x.1.candidates; candidates' = x.1.candidates'; fuel = x.1.fuel })
+      back s s' l a a' x = (x.0, record { this_value = l.this_value; locals = l.locals; result = x.1.result; olds = x.1.olds; thrown = x.1.thrown; heap = x.1.heap; candidates = x.1.candidates; candidates' = x.1.candidates'; fuel = x.1.fuel })
 
       go : (s s' : State) → Like s s' → (b : Bool) → Meets S (entered b o vs m s) (entered b o' ws m' s')
       go s s' l false = (refl, l)
       go s s' l true =
           let t : State = record s { this_value = o; locals = map plain_local vs } in
           let t' : State = record s' { this_value = o'; locals = map plain_local ws } in
-          let inner : Like t t' = record { this_value = r; locals = plain_like vs ws e; result = l.result; olds = l.olds; heap = l.heap; candidates = l.candidates; candidates' = l.candidates'; fuel = l.fuel } in
+          let inner : Like t t' = record { this_value = r; locals = plain_like vs ws e; result = l.result; olds = l.olds; thrown = l.thrown; heap = l.heap; candidates = l.candidates; candidates' = l.candidates'; fuel = l.fuel } in
           forked_map (renamed_place st.name) (KnownPlace st.candidates st.parameters st.Known st.left) st.Agree (Reaches S (m t) (m' t')) (Reaches S (back_to s (m t)) (back_to s' (m' t'))) (m t).reads (m' t').reads (p.by t t' inner) (back s s' l (m t) (m' t'))
 
-  scopes : {A : Type 0} (S : A → A → Type 0) (m m' : Run A) → Goes S m m' → Goes S (scoped m) (scoped m')
+  pub scopes : {A : Type 0} (S : A → A → Type 0) (m m' : Run A) → Goes S m m' → Goes S (scoped m) (scoped m')
   scopes S m m' p = record {
     by = λ s s' l. forked_map (renamed_place st.name) (KnownPlace st.candidates st.parameters st.Known st.left) st.Agree (Reaches S (m s) (m' s')) (Reaches S (scoped m s) (scoped m' s')) (m s).reads (m' s').reads (p.by s s' l)
         (λ x. (x.0, with_locals_like _ _ (m s).after (m' s').after (subst (λ (n : ℕ). Each LocalLike (take (length s.locals) (m s).after.locals) (take n (m' s').after.locals)) (sym (each_length LocalLike s.locals s'.locals l.locals)) (each_take LocalLike (length s.locals) (m s).after.locals (m' s').after.locals x.1.locals)) x.1));
@@ -501,7 +503,7 @@ module _ (program : Program) (st : Setting) where
   -- ---- the heap
 
   pub with_heap_like : (h h' : List HeapObject) (s s' : State) → HeapLike h h' → Like s s' → Like (record s { heap = h }) (record s' { heap = h' })
-  with_heap_like h h' s s' e l = record { this_value = l.this_value; locals = l.locals; result = l.result; olds = l.olds; heap = e; candidates = l.candidates; candidates' = l.candidates'; fuel = l.fuel }
+  with_heap_like h h' s s' e l = record { this_value = l.this_value; locals = l.locals; result = l.result; olds = l.olds; thrown = l.thrown; heap = e; candidates = l.candidates; candidates' = l.candidates'; fuel = l.fuel }
 
   -- an object that isn't a candidate's becomes another
   set_like : (h h' : List HeapObject) (o : ℕ) (new new' : HeapObject) → st.candidates ≤ o → (o < length h → ObjectLike new new') → HeapLike h h' → HeapLike (slice_set h o new) (slice_set h' o new')
@@ -650,6 +652,9 @@ module _ (program : Program) (st : Setting) where
   default_like (UnknownType o n) = (refl, tt)
   default_like (AppliedType h t) = (refl, tt)
 
+  with_thrown_like : (x y : Option Value) (s s' : State) → OnOption Related x y → Like s s' → Like (record s { thrown = x }) (record s' { thrown = y })
+  with_thrown_like x y s s' e l = record { this_value = l.this_value; locals = l.locals; result = l.result; olds = l.olds; thrown = e; heap = l.heap; candidates = l.candidates; candidates' = l.candidates'; fuel = l.fuel }
+
   stuck_like : {A : Type 0} (S : A → A → Type 0) (e : Stop) → Goes S (stop e) (stop e)
   stuck_like S e = record { by = λ s s' l. (refl, l) }
 
@@ -667,6 +672,72 @@ module _ (program : Program) (st : Setting) where
       go : (b : Bool) → Goes Related (if b then stop (Trapped ArrayTooLong) else make_array t n (array_number program.arrays (ArrayType t))) (if b then stop (Trapped ArrayTooLong) else make_array t n (array_number program.arrays (ArrayType t)))
       go true = stuck_like Related (Trapped ArrayTooLong)
       go false = makes_number t n (array_number program.arrays (ArrayType t))
+
+  -- ---- what is thrown and caught
+
+  throws_as : {A : Type 0} (S : A → A → Type 0) (k : Kind) (v w : Value) → Related v w → Goes S (throw_as k v) (throw_as k w)
+  throws_as S k v w r = record { by = λ s s' l. (refl, with_thrown_like (Some v) (Some w) s s' r l) }
+
+  each_default : (fs : List FieldOf) → Each Related (map (λ f. default_of f.type) fs) (map (λ f. default_of f.type) fs)
+  each_default [] = tt
+  each_default (f ∷ fs) = (default_like f.type, each_default fs)
+
+  makes_object : (c : Option ℕ) → Goes Related (object_of_class program c) (object_of_class program c)
+  makes_object None = stuck_like Related Stuck
+  makes_object (Some c) = makes (Object c) _ _ (each_default (fields_of program.table c))
+
+  pub objects : (k : Kind) → Goes Related (object_of program k) (object_of program k)
+  objects k = record { by = λ s s' l. go s.thrown s'.thrown l.thrown s s' l }
+    where
+      go : (x y : Option Value) → OnOption Related x y → (s s' : State) → Like s s' → Meets Related (object_or_new program k x s) (object_or_new program k y s')
+      go None None e s s' l = (makes_object (class_of_kind program k)).by s s' l
+      go (Some v) (Some w) e s s' l = (e, with_thrown_like None None s s' tt l)
+      go None (Some w) e s s' l = absurd e
+      go (Some v) None e s s' l = absurd e
+
+  -- reads after a trap that is caught
+  abbrev then_caught : {A : Type 0} → Option (Run A) → State → List SlotPlace
+  then_caught None s = []
+  then_caught (Some m) s = (m s).reads
+
+  reads_caught : {A : Type 0} (x : Option (Run A)) (o : Outcome A) → (caught_by x o).reads ≡ o.reads ++ then_caught x o.after
+  reads_caught None o = sym (append-nil o.reads)
+  reads_caught (Some m) o = refl
+
+  abbrev there : {A : Type 0} → Result A Stop → State → List SlotPlace → Outcome A
+  there r t ps = record { said = r; after = t; reads = ps }
+
+  abbrev Behind : {A : Type 0} → (A → A → Type 0) → Option (Run A) → Option (Run A) → Result A Stop → Result A Stop → State → State → List SlotPlace → List SlotPlace → Type 0
+  Behind S x y r r' t t' ps qs = Forked (renamed_place st.name) (KnownPlace st.candidates st.parameters st.Known st.left) st.Agree (Reaches S (caught_by x (there r t ps)) (caught_by y (there r' t' qs))) (then_caught x t) (then_caught y t')
+
+  attempts : {A : Type 0} (S : A → A → Type 0) (m m' : Run A) (h h' : Kind → Option (Run A)) → Goes S m m' → ((k : Kind) → OnOption (λ (x y : Run A). Goes S x y) (h k) (h' k)) → Goes S (attempted m h) (attempted m' h')
+  unfolding attempted
+  attempts {A} S m m' h h' p q = record { by = λ s s' l. whole (m s) (m' s') (p.by s s' l) }
+    where
+      onward : (k : Kind) (t t' : State) (ps qs : List SlotPlace) → Like t t' → (x y : Option (Run A)) → OnOption (λ (x y : Run A). Goes S x y) x y → Behind S x y (Err (Trapped k)) (Err (Trapped k)) t t' ps qs
+      onward k t t' ps qs l None None u = (refl, l)
+      onward k t t' ps qs l (Some x) (Some y) u = u.by t t' l
+      onward k t t' ps qs l None (Some y) u = absurd u
+      onward k t t' ps qs l (Some x) None u = absurd u
+
+      stopped : (x : Stop) (t t' : State) (ps qs : List SlotPlace) → Like t t' → Behind S (handled (Err x) h) (handled (Err x) h') (Err x) (Err x) t t' ps qs
+      stopped (Trapped k) t t' ps qs l = onward k t t' ps qs l (h k) (h' k) (q k)
+      stopped OutOfFuel t t' ps qs l = (refl, l)
+      stopped Stuck t t' ps qs l = (refl, l)
+
+      step : (r r' : Result A Stop) (t t' : State) (ps qs : List SlotPlace) → SaidLike S r r' → Like t t' → Behind S (handled r h) (handled r' h') r r' t t' ps qs
+      step (Ok a) (Ok b) t t' ps qs e l = (e, l)
+      step (Err x) (Err y) t t' ps qs e l = rw e (stopped x t t' ps qs l)
+      step (Ok a) (Err y) t t' ps qs e l = absurd e
+      step (Err x) (Ok b) t t' ps qs e l = absurd e
+
+      whole : (o o' : Outcome A) → Meets S o o' → Meets S (caught_by (handled o.said h) o) (caught_by (handled o'.said h') o')
+      whole o o' z =
+          let x = handled o.said h in
+          let y = handled o'.said h' in
+          let both = forked_then (renamed_place st.name) (KnownPlace st.candidates st.parameters st.Known st.left) st.Agree (Reaches S o o') (Reaches S (caught_by x o) (caught_by y o')) o.reads o'.reads (then_caught x o.after) (then_caught y o'.after) z (λ w. step o.said o'.said o.after o'.after o.reads o'.reads w.0 w.1) in
+          subst (λ (ps : List SlotPlace). Forked (renamed_place st.name) (KnownPlace st.candidates st.parameters st.Known st.left) st.Agree (Reaches S (caught_by x o) (caught_by y o')) ps (caught_by y o').reads) (sym (reads_caught x o))
+          (subst (λ (qs : List SlotPlace). Forked (renamed_place st.name) (KnownPlace st.candidates st.parameters st.Known st.left) st.Agree (Reaches S (caught_by x o) (caught_by y o')) (o.reads ++ then_caught x o.after) qs) (sym (reads_caught y o')) both)
 
   -- ---- operators
 
@@ -871,7 +942,7 @@ module _ (program : Program) (st : Setting) where
   collects n Null o' vs ws r e = rw r.0 (record { by = λ s s' l. (refl, l) })
   collects n (Reference o) o' vs ws r e = rw r.0 (collects_of n o vs ws r.1 e)
 
-  abbrev goes_logic : Logic program MayStore MayPut
+  goes_logic : Logic program MayStore MayPut
   goes_logic = record {
     R = Related;
     Rel = λ S m m'. Goes S m m';
@@ -903,14 +974,18 @@ module _ (program : Program) (st : Setting) where
     chooses = chooses;
     withins = withins;
     scopes = scopes;
+    throws_as = throws_as;
+    objects = objects;
+    attempts = attempts;
   }
 
   -- a whole expression: where the two candidates agree on the places read, the two runs agree
   pub value_goes : (Q : Node → Type 0) → IsCode program MayStore MayPut Q → (scope : Scope) (e : Tree) → AllOf Q (code scope e) → Goes Related (value program scope e) (value program scope e)
-  unfolding value
+  unfolding value goes_logic
   value_goes Q closed scope e h = record { by = λ s s' l. subst (λ (n : ℕ). Meets Related (eval program s.fuel scope e s) (eval program n scope e s')) (sym l.fuel) ((evals program MayStore MayPut Q closed goes_logic s.fuel scope e h).by s s' l) }
 
   -- the body of a method
   pub method_goes : (Q : Node → Type 0) → IsCode program MayStore MayPut Q → (n : ℕ) (o o' : Value) (vs ws : List Value) (m : Option Method) → AllOf (λ k. AllOf Q (code_of_method program k)) (Rattle.std.specs.Prelude.option_to_list m) → Related o o' → Each Related vs ws
       → Goes Related (run_method program (parts_within program n) o vs m) (run_method program (parts_within program n) o' ws m)
+  unfolding goes_logic
   method_goes Q closed n o o' vs ws m h r e = runs_method program MayStore MayPut Q closed goes_logic (parts_within program n) (parts_within program n) (parts_alike program MayStore MayPut Q closed goes_logic n) o o' vs ws m h r e

@@ -11,3 +11,4 @@ pub mod Named
 pub mod SlotForks
 pub mod Walked
 pub mod Reached
+pub mod Flattened

@@ -20,7 +20,7 @@ use Rattle.kr_laws_shapes.specs.Expressions.{IsWritten, IsCreated, Shaped}
 use Rattle.kr_laws_types.specs.Typed.{AreKnown, AreTypesKnown}
 use Rattle.kr_laws_types.proofs.Typed.{has_type, written_type}
 use Rattle.kr_laws_types.specs.Types.{is_variable_type, is_result_type, is_value_type, is_expression_type, AreVariables, HasVariables}
-use Rattle.kr_laws_types.specs.Shapes.{Sort, Expression, Expressions, Statement, Statements, Declarators, Declarator, IsCode}
+use Rattle.kr_laws_types.specs.Shapes.{Sort, Expression, Expressions, Statement, Statements, Declarators, Declarator, Catches, Catch, IsCode}
 use Rattle.kr_laws_types.specs.Expressions.{plain, is_place, IsTyped}
 use Rattle.kr_laws_types.proofs.Given.{AreValues, Good, Fine, variable_value, variable_known, result_known, value_expression, variable_fine, access_fine, constant_fine, own_call_fine, class_call_fine, super_fine, object_call_fine, operator_fine, unary_fine, element_fine, assignment_fine, compound_fine, step_fine, choice_fine, cast_fine, instance_fine, number_fine, this_fine, result_fine, old_fine, creation_fine, array_creation_fine}
 
@@ -297,6 +297,8 @@ module _ (arrays : List JavaType) (olds : Place → Option JavaType) where
   good Statements s _ k h = tt
   good Declarators s _ k h = tt
   good Declarator s _ k h = tt
+  good Catches s _ k h = tt
+  good Catch s _ k h = tt
 
   -- ---- and they have types
 
@@ -338,6 +340,8 @@ module _ (arrays : List JavaType) (olds : Place → Option JavaType) where
   shaped Statements s _ h = tt
   shaped Declarators s _ h = tt
   shaped Declarator s _ h = tt
+  shaped Catches s _ h = tt
+  shaped Catch s _ h = tt
 
   locals_known : (ls : List Local) → AreVariables ls → AreKnown ls
   locals_known [] h = tt

@@ -9,12 +9,12 @@ use Rattle.kr_ast.specs.Tree as trees
 use Rattle.kr_ast.specs.Tree.{Tree}
 use Rattle.kr_classes_table.specs.Types.{JavaType, ClassType, ArrayType, SetType, ListType, is_known}
 use Rattle.kr_classes_table.specs.Rules.{Fault}
-use Rattle.kr_classes_table.specs.Table.{Parameter, Method, applied, method_named, constructor_parameters}
+use Rattle.kr_classes_table.specs.Table.{Parameter, Method, applied, method_named, constructor_parameters, is_assignable}
 use Rattle.kr_classes_table.specs.Constants.{value_at}
 use Rattle.kr_types_meaning.specs.declared.operators.OperatorKind.{OperatorKind}
 use Rattle.kr_types_meaning.specs.declared.operators.OperatorKind.TheVariants.{Equality}
-use Rattle.kr_types_meaning.specs.Scopes.{Scope, Declaring, Locals, Fields, Constants, in_old, in_contract, Requiring, Ensuring, bind_local, bind_as, declaring, after, value, statement, in_loop, written, class_before, meant, method_meant, super_class}
-use Rattle.kr_types_meaning.specs.Rules.{Typed, Value, Variable, Values, Untyped, Judgement, Fits, Breaks, fine, ask, takes, arguments_fit, type_rule, array_rule, element_rule, result_rule, arguments_rule, call_rule, static_rule, above_rule, super_rule, method_rule, object_call_rule, creation_fits, creation_rule, array_creation_rule, unary_rule, operator_rule, choice_rule, cast_rule, instance_rule, is_broken, written_rule, assignment_rule, compound_rule, step_rule, access_rule, old_rule, contract_rule, condition_rule, return_rule, jump_rule, declaration_rule, initial_fits, is_new, is_simple, parameter_rule, super_constructor_rule, implied_rule, kind_of, kind_rule}
+use Rattle.kr_types_meaning.specs.Scopes.{Scope, Declaring, Locals, Fields, Constants, in_old, in_contract, Requiring, Ensuring, bind_local, bind_as, declaring, after, value, statement, in_loop, written, class_before, meant, method_meant, super_class, caught_type, in_signals}
+use Rattle.kr_types_meaning.specs.Rules.{Typed, Value, Variable, Values, Untyped, Judgement, Fits, Breaks, fine, ask, takes, arguments_fit, type_rule, array_rule, element_rule, result_rule, arguments_rule, call_rule, static_rule, above_rule, super_rule, method_rule, object_call_rule, creation_fits, creation_rule, array_creation_rule, unary_rule, operator_rule, choice_rule, cast_rule, instance_rule, is_broken, written_rule, assignment_rule, compound_rule, step_rule, access_rule, old_rule, contract_rule, condition_rule, return_rule, jump_rule, declaration_rule, initial_fits, is_new, is_simple, parameter_rule, super_constructor_rule, implied_rule, kind_of, kind_rule, throwable, throw_rule, caught_rule, then_rule}
 use Rattle.kr_types_meaning.specs.Typing.{Judged, judge, on_one, on_two, on_list, on_maybe, leaf, joined, field_of, method_of, operand, judged, type_in}
 use Rattle.kr_types_meaning.specs.Running.{locals_only, local_type, elsewhere, running}
 use Rattle.kr_laws_types.specs.Running.{AreSame, IsSameRunning}
@@ -87,6 +87,16 @@ contract_bare s t = ask_bare (Rattle.kr_types_meaning.specs.Rules.is_boolean t) 
 
 parameter_bare : (s : Scope) (n : List ℕ) → Bare (parameter_rule s n)
 parameter_bare s n = ask_bare (is_new s n (meant s n)) 4 fine refl
+
+throw_bare : (s : Scope) (t : JavaType) → Bare (throw_rule s t)
+throw_bare s t = ask_bare (is_assignable s.table t (throwable s)) 41 fine refl
+
+caught_bare : (s : Scope) (r : ℕ) (t : JavaType) → Bare (caught_rule s r t)
+caught_bare s r t = ask_bare (not (is_known t) || is_assignable s.table t (throwable s)) r fine refl
+
+then_bare : (v w : Judgement) → Bare w → Bare (then_rule v w)
+then_bare (Breaks r) w h = refl
+then_bare (Fits t) w h = h
 
 -- two judgements of rules that give no type
 both_bare : (p q : Place) (v w : Judgement) (x y : List Fault) → Bare v → Bare w → (judge p v x).typed ≡ (judge q w y).typed
@@ -322,6 +332,9 @@ typed_same b s (trees.For p i c u a) =
     one_pair p condition_rule condition_rule (judged (after (elsewhere b s) i) c).typed (judged (after s i) c).typed
     ((judged (after (elsewhere b s) i) c).faults ++ ((judged (elsewhere b s) i).faults ++ (judged (statement (after (elsewhere b s) i)) u).faults ++ (judged (in_loop (after (elsewhere b s) i)) a).faults))
     ((judged (after s i) c).faults ++ ((judged s i).faults ++ (judged (statement (after s i)) u).faults ++ (judged (in_loop (after s i)) a).faults)) condition_bare condition_bare
+typed_same b s (trees.Throw p e) = one_pair p (throw_rule (elsewhere b s)) (throw_rule s) (judged (elsewhere b s) e).typed (judged s e).typed (judged (elsewhere b s) e).faults (judged s e).faults (throw_bare (elsewhere b s)) (throw_bare s)
+typed_same b s (trees.Try p x cs) = refl
+typed_same b s (trees.Catch p d x) = both_bare p p (caught_rule (elsewhere b s) 42 (caught_type (elsewhere b s) d)) (caught_rule s 42 (caught_type s d)) _ _ (caught_bare (elsewhere b s) 42 (caught_type (elsewhere b s) d)) (caught_bare s 42 (caught_type s d))
 typed_same b s (trees.ConstructorCall p es) = list_pair p (super_constructor_rule (elsewhere b s)) (super_constructor_rule s) (judged (elsewhere b s) es).typed (judged s es).typed (judged (elsewhere b s) es).faults (judged s es).faults (super_bare (elsewhere b s)) (super_bare s)
 typed_same b s (trees.Class p n e ms) = refl
 typed_same b s (trees.Field p st fi t ds) = refl
@@ -333,6 +346,11 @@ typed_same b s (trees.Constructor p ps call x) =
     ((judged (elsewhere b s) ps).faults ++ (judged (after (elsewhere b s) ps) call).faults ++ (judged (after (elsewhere b s) ps) x).faults) ((judged s ps).faults ++ (judged (after s ps) call).faults ++ (judged (after s ps) x).faults) (λ t. implied_bare (elsewhere b s)) (λ t. implied_bare s)
 typed_same b s (trees.Requires p e) = one_pair p (contract_rule (elsewhere b s)) (contract_rule s) (judged (in_contract Requiring (elsewhere b s)) e).typed (judged (in_contract Requiring s) e).typed (judged (in_contract Requiring (elsewhere b s)) e).faults (judged (in_contract Requiring s) e).faults (contract_bare (elsewhere b s)) (contract_bare s)
 typed_same b s (trees.Ensures p e) = one_pair p (contract_rule (elsewhere b s)) (contract_rule s) (judged (in_contract Ensuring (elsewhere b s)) e).typed (judged (in_contract Ensuring s) e).typed (judged (in_contract Ensuring (elsewhere b s)) e).faults (judged (in_contract Ensuring s) e).faults (contract_bare (elsewhere b s)) (contract_bare s)
+typed_same b s (trees.Signals p d e) =
+    one_pair p (λ t. then_rule (contract_rule (elsewhere b s) t) (caught_rule (elsewhere b s) 43 (caught_type (elsewhere b s) d))) (λ t. then_rule (contract_rule s t) (caught_rule s 43 (caught_type s d)))
+    (judged (in_signals d (elsewhere b s)) e).typed (judged (in_signals d s) e).typed ((judged (elsewhere b s) d).faults ++ (judged (in_signals d (elsewhere b s)) e).faults) ((judged s d).faults ++ (judged (in_signals d s) e).faults)
+    (λ t. then_bare (contract_rule (elsewhere b s) t) (caught_rule (elsewhere b s) 43 (caught_type (elsewhere b s) d)) (caught_bare (elsewhere b s) 43 (caught_type (elsewhere b s) d)))
+    (λ t. then_bare (contract_rule s t) (caught_rule s 43 (caught_type s d)) (caught_bare s 43 (caught_type s d)))
 
 bind_running : (s : Scope) (n : List ℕ) → bind_as (locals_only s.declaring) n (running s) ≡ running (bind_as s.declaring n s)
 bind_running s n = go s.declaring refl

@@ -401,7 +401,7 @@ typed false s (trees.Assignment p a b) k h f =
 typed false s (trees.CompoundAssignment p o a b) k h f =
     two_type p (compound_rule s o (judged (value s) a).typed) (judged (value s) a) (judged (value s) b) (λ t u. gives_ask (not (is_broken (operator_rule s o t u))) 17 _ (written_gives s k.table (judged (value s) a).typed t)) (λ g. typed false (value s) a (known_part s k) h.1 g) (λ g. typed false (value s) b (known_part s k) h.2 g) f
 typed false s (trees.Result p) k h f = judge_type p (result_value_rule s) [] (gives_ask (Rattle.kr_types_meaning.specs.Rules.is_ensuring s.part && not (is_void s.result) && not s.is_in_old) 38 (gives s.result) (gives_known s.result k.result)) f
-typed false s (trees.Old p e) k h f = one_type p (old_rule s) (judged (in_old s) e) (λ t. gives_ask (Rattle.kr_types_meaning.specs.Rules.is_ensuring s.part && not s.is_in_old) 38 (Fits (Value t)) (gives_value t)) (λ g. typed false (in_old s) e (known_old s k) h g) f
+typed false s (trees.Old p e) k h f = one_type p (old_rule s) (judged (in_old s) e) (λ t. gives_ask (Rattle.kr_types_meaning.specs.Rules.is_after_body s.part && not s.is_in_old) 38 (Fits (Value t)) (gives_value t)) (λ g. typed false (in_old s) e (known_old s k) h g) f
 typed false s _ k h f = absurd h
 
 pub has_type : (s : Scope) (e : Tree) → AreTypesKnown s.table → AreKnown s.locals → is_known s.result ≡ true → Shaped false e → (judged s e).faults ≡ [] → HasType (judged s e).typed

@@ -6,12 +6,13 @@ use Rattle.kr_ast.specs.Tree.{Tree}
 use Rattle.kr_classes_table.specs.Types.{JavaType, ArrayType}
 use Rattle.kr_classes_table.specs.Arrays.{array_number}
 use Rattle.kr_types_meaning.specs.Scopes.{Scope, Locals, written, in_old, bind_local, declaring, after}
-use Rattle.kr_types_meaning.specs.Rules.{is_ensuring}
+use Rattle.kr_types_meaning.specs.Rules.{is_after_body}
 use Rattle.kr_types_meaning.specs.Typing.{judged, type_in}
 use Rattle.kr_laws_shapes.specs.Expressions.{IsWritten, IsCreated, is_compound}
+use Rattle.kr_laws_shapes.specs.Shapes.{IsBlock, IsCaught}
 
 -- an expression, which may be absent or not; expressions; a statement, which may be a declaration of locals or not; statements;
--- declarators; one
+-- declarators; one; the clauses of a `try`; one
 pub data Sort : Type 0 where
   Expression : Bool → Sort
   Expressions : Sort
@@ -19,6 +20,8 @@ pub data Sort : Type 0 where
   Statements : Sort
   Declarators : Sort
   Declarator : Sort
+  Catches : Sort
+  Catch : Sort
 
 -- the array type of what is created has a number
 abbrev pub HasNumber : List JavaType → JavaType → Type 0
@@ -50,7 +53,7 @@ IsCode arrays olds (Expression absent) s (trees.Cast p t e) = IsWritten t × IsC
 IsCode arrays olds (Expression absent) s (trees.Assignment p a b) = IsCode arrays olds (Expression false) s a × IsCode arrays olds (Expression false) s b
 IsCode arrays olds (Expression absent) s (trees.CompoundAssignment p o a b) = (is_compound o ≡ true) × IsCode arrays olds (Expression false) s a × IsCode arrays olds (Expression false) s b
 IsCode arrays olds (Expression absent) s (trees.Result p) = Unit {0}
-IsCode arrays olds (Expression absent) s (trees.Old p e) = (is_ensuring s.part ≡ true → olds p ≡ type_in (judged (in_old s) e).typed) × IsCode arrays olds (Expression false) (in_old s) e
+IsCode arrays olds (Expression absent) s (trees.Old p e) = (is_after_body s.part ≡ true → olds p ≡ type_in (judged (in_old s) e).typed) × IsCode arrays olds (Expression false) (in_old s) e
 IsCode arrays olds (Expression absent) s _ = ⊥
 IsCode arrays olds Expressions s trees.Nil = Unit {0}
 IsCode arrays olds Expressions s (trees.Cons a b) = IsCode arrays olds (Expression false) s a × IsCode arrays olds Expressions s b
@@ -68,6 +71,8 @@ IsCode arrays olds (Statement declares) s (trees.While p c a) = IsCode arrays ol
 IsCode arrays olds (Statement declares) s (trees.Do p a c) = IsCode arrays olds (Statement false) s a × IsCode arrays olds (Expression false) s c
 IsCode arrays olds (Statement declares) s (trees.For p i c u a) =
     IsCode arrays olds Statements s i × IsCode arrays olds (Expression true) (after s i) c × IsCode arrays olds Expressions (after s i) u × IsCode arrays olds (Statement false) (after s i) a
+IsCode arrays olds (Statement declares) s (trees.Throw p e) = IsCode arrays olds (Expression false) s e
+IsCode arrays olds (Statement declares) s (trees.Try p b cs) = IsBlock b × IsCode arrays olds (Statement false) s b × IsCode arrays olds Catches s cs
 IsCode arrays olds (Statement declares) s _ = ⊥
 IsCode arrays olds Statements s trees.Nil = Unit {0}
 IsCode arrays olds Statements s (trees.Cons a b) = IsCode arrays olds (Statement true) s a × IsCode arrays olds Statements (after s a) b
@@ -77,3 +82,8 @@ IsCode arrays olds Declarators s (trees.Cons a b) = IsCode arrays olds Declarato
 IsCode arrays olds Declarators s _ = ⊥
 IsCode arrays olds Declarator s (trees.Declarator p n e) = IsCode arrays olds (Expression true) (bind_local n s.declared s) e
 IsCode arrays olds Declarator s _ = ⊥
+IsCode arrays olds Catches s trees.Nil = Unit {0}
+IsCode arrays olds Catches s (trees.Cons a b) = IsCode arrays olds Catch s a × IsCode arrays olds Catches s b
+IsCode arrays olds Catches s _ = ⊥
+IsCode arrays olds Catch s (trees.Catch p d b) = IsCaught d × IsCode arrays olds (Statement false) (after s d) b
+IsCode arrays olds Catch s _ = ⊥

@@ -7,7 +7,7 @@ use Rattle.std.proofs.lemmas.Bool.{both_ways, and_from}
 use Rattle.std.proofs.lemmas.Bool.Decides.{nat_tests}
 use Rattle.kr_lex.specs.declared.kind.Kind.{Kind}
 use Rattle.kr_lex.specs.declared.kind.Kind.TheVariants as kinds
-use Rattle.kr_lex.specs.ContractLines.{contract_spelling, BeginsContract, is_blank, head_of, IsContract, IsContractToken}
+use Rattle.kr_lex.specs.ContractLines.{contract_spelling, BeginsContract, is_blank, head_of, IsContractWord, IsContract, IsContractToken}
 use Rattle.kr_lex.specs.Gaps.{BeginsComment}
 use Rattle.kr_lex.proofs.Listing.{all_ascii}
 use Rattle.kr_lex.proofs.Shapes.{ascii_at}
@@ -28,31 +28,42 @@ begins_comment (a ∷ []) h = absurd h
 begins_comment (a ∷ b ∷ []) h = absurd h
 begins_comment (a ∷ b ∷ c ∷ more) h = (h.0, inl h.1)
 
--- the word
-abbrev IsWord : Kind → Type 0
-IsWord kind = (kind ≡ kinds.Requires) ⊎ (kind ≡ kinds.Ensures)
+-- the word, by its first letter
+first_letter : Kind → ℕ
+first_letter kinds.Requires = 114
+first_letter kinds.Ensures = 101
+first_letter _ = 115
 
-requires_first : (rest : List ℕ) → slice_index (contract_spelling kinds.Requires ++ rest) 0 ≡ 114
-unfolding contract_spelling
-requires_first rest = refl
+letter_there : (kind : Kind) (rest : List ℕ) → IsContractWord kind → slice_index (contract_spelling kind ++ rest) 0 ≡ first_letter kind
+unfolding contract_spelling first_letter
+letter_there kind rest (inl e) = rw e refl
+letter_there kind rest (inr (inl e)) = rw e refl
+letter_there kind rest (inr (inr e)) = rw e refl
 
-ensures_first : (rest : List ℕ) → slice_index (contract_spelling kinds.Ensures ++ rest) 0 ≡ 101
-unfolding contract_spelling
-ensures_first rest = refl
+letter_solid : (kind : Kind) → IsContractWord kind → is_blank (first_letter kind) ≡ false
+unfolding first_letter
+letter_solid kind (inl e) = rw e refl
+letter_solid kind (inr (inl e)) = rw e refl
+letter_solid kind (inr (inr e)) = rw e refl
 
-pub word_no_blank : (kind : Kind) (rest : List ℕ) → IsWord kind → is_blank (slice_index (contract_spelling kind ++ rest) 0) ≡ false
-word_no_blank kind rest (inl e) = rw e (ap is_blank (requires_first rest) ∙ refl)
-word_no_blank kind rest (inr e) = rw e (ap is_blank (ensures_first rest) ∙ refl)
+-- they differ
+same_letter : (k j : Kind) → IsContractWord k → IsContractWord j → first_letter k ≡ first_letter j → k ≡ j
+unfolding first_letter
+same_letter k j (inl e) (inl f) z = e ∙ sym f
+same_letter k j (inl e) (inr (inl f)) z = let y : first_letter kinds.Requires ≡ first_letter kinds.Ensures = rw (e, f) at z in absurd (omega (arith, y))
+same_letter k j (inl e) (inr (inr f)) z = let y : first_letter kinds.Requires ≡ first_letter kinds.Signals = rw (e, f) at z in absurd (omega (arith, y))
+same_letter k j (inr (inl e)) (inl f) z = let y : first_letter kinds.Ensures ≡ first_letter kinds.Requires = rw (e, f) at z in absurd (omega (arith, y))
+same_letter k j (inr (inl e)) (inr (inl f)) z = e ∙ sym f
+same_letter k j (inr (inl e)) (inr (inr f)) z = let y : first_letter kinds.Ensures ≡ first_letter kinds.Signals = rw (e, f) at z in absurd (omega (arith, y))
+same_letter k j (inr (inr e)) (inl f) z = let y : first_letter kinds.Signals ≡ first_letter kinds.Requires = rw (e, f) at z in absurd (omega (arith, y))
+same_letter k j (inr (inr e)) (inr (inl f)) z = let y : first_letter kinds.Signals ≡ first_letter kinds.Ensures = rw (e, f) at z in absurd (omega (arith, y))
+same_letter k j (inr (inr e)) (inr (inr f)) z = e ∙ sym f
 
-pub same_word : (k j : Kind) (r s : List ℕ) → IsWord k → IsWord j → contract_spelling k ++ r ≡ contract_spelling j ++ s → k ≡ j
-same_word k j r s (inl e) (inl f) z = e ∙ sym f
-same_word k j r s (inr e) (inr f) z = e ∙ sym f
-same_word k j r s (inl e) (inr f) z =
-    let y : contract_spelling kinds.Requires ++ r ≡ contract_spelling kinds.Ensures ++ s = rw (e, f) at z in
-    absurd (omega (arith, requires_first r, ensures_first s, ap (λ t. slice_index t 0) y))
-same_word k j r s (inr e) (inl f) z =
-    let y : contract_spelling kinds.Ensures ++ r ≡ contract_spelling kinds.Requires ++ s = rw (e, f) at z in
-    absurd (omega (arith, ensures_first r, requires_first s, ap (λ t. slice_index t 0) y))
+pub word_no_blank : (kind : Kind) (rest : List ℕ) → IsContractWord kind → is_blank (slice_index (contract_spelling kind ++ rest) 0) ≡ false
+word_no_blank kind rest w = ap is_blank (letter_there kind rest w) ∙ letter_solid kind w
+
+pub same_word : (k j : Kind) (r s : List ℕ) → IsContractWord k → IsContractWord j → contract_spelling k ++ r ≡ contract_spelling j ++ s → k ≡ j
+same_word k j r s v w z = same_letter k j v w (sym (letter_there k r v) ∙ ap (λ t. slice_index t 0) z ∙ letter_there j s w)
 
 -- two runs of blanks that end where no blank follows
 pub blank_same : (b c r q : List ℕ) → AllByRecursion (λ x. is_blank x ≡ true) b → AllByRecursion (λ x. is_blank x ≡ true) c → is_blank (slice_index r 0) ≡ false
@@ -76,12 +87,13 @@ blanks_ascii (x ∷ b) h = and_from (nat_lt x 128) (all_ascii b) (blank_low x h.
     blank_low : (x : ℕ) → is_blank x ≡ true → nat_lt x 128 ≡ true
     blank_low x t = grind (arith, nat_tests)
 
-word_ascii : (kind : Kind) → IsWord kind → all_ascii (contract_spelling kind) ≡ true
+word_ascii : (kind : Kind) → IsContractWord kind → all_ascii (contract_spelling kind) ≡ true
 unfolding contract_spelling
 word_ascii kind (inl e) = rw e refl
-word_ascii kind (inr e) = rw e refl
+word_ascii kind (inr (inl e)) = rw e refl
+word_ascii kind (inr (inr e)) = rw e refl
 
-pub head_utf8 : (kind : Kind) (blank : List ℕ) → IsWord kind → AllByRecursion (λ x. is_blank x ≡ true) blank → IsUtf8 (head_of kind blank)
+pub head_utf8 : (kind : Kind) (blank : List ℕ) → IsContractWord kind → AllByRecursion (λ x. is_blank x ≡ true) blank → IsUtf8 (head_of kind blank)
 head_utf8 kind blank w h =
     let front : IsUtf8 (47 ∷ 47 ∷ 64 ∷ blank) = IsUtf8-from_ascii (47 ∷ 47 ∷ 64 ∷ blank) (ascii_at (47 ∷ 47 ∷ 64 ∷ blank) (blanks_ascii blank h)) in
     IsUtf8-append (47 ∷ 47 ∷ 64 ∷ blank) (contract_spelling kind) front (IsUtf8-from_ascii (contract_spelling kind) (ascii_at (contract_spelling kind) (word_ascii kind w)))

@@ -26,9 +26,10 @@ word_of text kind rest e w =
     let z : drop (length (contract_spelling kind)) text ≡ rest = ap (drop (length (contract_spelling kind))) e ∙ drop_at (contract_spelling kind) rest (length (contract_spelling kind)) refl in
     record { spelled = e ∙ ap (λ t. contract_spelling kind ++ t) (sym z); whole = rw z w }
 
-pub no_word : (text : List ℕ) → (IsWordOf text kinds.Requires → ⊥) → (IsWordOf text kinds.Ensures → ⊥) → BeginsNoWord text
-no_word text f g kind rest (inl k) e w = f (word_of text kinds.Requires rest (rw k at e) w)
-no_word text f g kind rest (inr k) e w = g (word_of text kinds.Ensures rest (rw k at e) w)
+pub no_word : (text : List ℕ) → (IsWordOf text kinds.Requires → ⊥) → (IsWordOf text kinds.Ensures → ⊥) → (IsWordOf text kinds.Signals → ⊥) → BeginsNoWord text
+no_word text f g h kind rest (inl k) e w = f (word_of text kinds.Requires rest (rw k at e) w)
+no_word text f g h kind rest (inr (inl k)) e w = g (word_of text kinds.Ensures rest (rw k at e) w)
+no_word text f g h kind rest (inr (inr k)) e w = h (word_of text kinds.Signals rest (rw k at e) w)
 
 -- a part of a name at the front, or none
 pub no_part : (text : List ℕ) (n : ℕ) → IsPartLength text n → EndsWord text → n ≡ 0

@@ -54,6 +54,7 @@ listed kinds.LongNumber h = absurd (omega (arith, h))
 listed kinds.Contract h = absurd (omega (arith, h))
 listed kinds.Requires h = absurd (omega (arith, h))
 listed kinds.Ensures h = absurd (omega (arith, h))
+listed kinds.Signals h = absurd (omega (arith, h))
 listed kinds.Result h = absurd (omega (arith, h))
 listed kinds.Old h = absurd (omega (arith, h))
 listed kinds.True h = record { index = 4; within = omega arith; there = refl; found = refl; ascii = refl; shape = inl refl }

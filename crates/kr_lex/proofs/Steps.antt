@@ -23,7 +23,7 @@ use Rattle.kr_lex.specs.Entries.{lexeme_of, text_of, shown, IsEntry, AreEntries}
 use Rattle.kr_lex.specs.Words.{IsNumber, IsLongNumber, IsToken, name, number, long_number, fixed}
 use Rattle.kr_lex.specs.Gaps.{IsGap}
 use Rattle.kr_lex.specs.Places.{place_after, column_after}
-use Rattle.kr_lex.specs.ContractLines.{contract_spelling, head_of}
+use Rattle.kr_lex.specs.ContractLines.{contract_spelling, head_of, IsContractWord}
 use Rattle.kr_lex.specs.Spells.{Reaches, here, IsTokenHere, anywhere, within, stays, token_behind, AreTokens}
 use Rattle.kr_lex.specs.Broken.{BreaksHere, IsFirstBroken, IsCause}
 use Rattle.kr_lex.specs.Cursors.{Stands}
@@ -233,16 +233,18 @@ module _ (file : ℕ) (bytes : List ℕ) (valid : ℕ) (items after : List Token
   word_no_number : head.kind ≡ kinds.Number → ⊥
   word_no_number k = go h.contract.word
     where
-      go : (head.kind ≡ kinds.Requires) ⊎ (head.kind ≡ kinds.Ensures) → ⊥
+      go : IsContractWord head.kind → ⊥
       go (inl e) = let z : kinds.Requires ≡ kinds.Number = sym e ∙ k in cc
-      go (inr e) = let z : kinds.Ensures ≡ kinds.Number = sym e ∙ k in cc
+      go (inr (inl e)) = let z : kinds.Ensures ≡ kinds.Number = sym e ∙ k in cc
+      go (inr (inr e)) = let z : kinds.Signals ≡ kinds.Number = sym e ∙ k in cc
 
   word_no_long : head.kind ≡ kinds.LongNumber → ⊥
   word_no_long k = go h.contract.word
     where
-      go : (head.kind ≡ kinds.Requires) ⊎ (head.kind ≡ kinds.Ensures) → ⊥
+      go : IsContractWord head.kind → ⊥
       go (inl e) = let z : kinds.Requires ≡ kinds.LongNumber = sym e ∙ k in cc
-      go (inr e) = let z : kinds.Ensures ≡ kinds.LongNumber = sym e ∙ k in cc
+      go (inr (inl e)) = let z : kinds.Ensures ≡ kinds.LongNumber = sym e ∙ k in cc
+      go (inr (inr e)) = let z : kinds.Signals ≡ kinds.LongNumber = sym e ∙ k in cc
 
   head_entries : AreEntries bytes after
   head_entries =

@@ -11,6 +11,7 @@ unfoldable pub contract_spelling : Kind → List ℕ
 contract_spelling kinds.Contract = codes "//@"
 contract_spelling kinds.Requires = codes "requires"
 contract_spelling kinds.Ensures = codes "ensures"
+contract_spelling kinds.Signals = codes "signals"
 contract_spelling kinds.Result = codes "\\result"
 contract_spelling kinds.Old = codes "\\old"
 contract_spelling _ = []
@@ -43,9 +44,13 @@ has_block (b ∷ bs) = not (is_line_end b) && ((b == 47 && slice_index bs 0 == 4
 abbrev pub head_of : Kind → List ℕ → List ℕ
 head_of kind blank = 47 ∷ 47 ∷ 64 ∷ blank ++ contract_spelling kind
 
+-- the words of contract lines
+abbrev pub IsContractWord : Kind → Type 0
+IsContractWord kind = (kind ≡ kinds.Requires) ⊎ (kind ≡ kinds.Ensures) ⊎ (kind ≡ kinds.Signals)
+
 -- The text begins with a contract line that has this word, after this white space.
 pub record IsContract (text : List ℕ) (kind : Kind) (blank rest : List ℕ) : Type 0 where
-  pub word : (kind ≡ kinds.Requires) ⊎ (kind ≡ kinds.Ensures)
+  pub word : IsContractWord kind
   pub white : AllByRecursion (λ b. is_blank b ≡ true) blank
   pub spelled : text ≡ head_of kind blank ++ rest
   pub whole : EndsWord rest

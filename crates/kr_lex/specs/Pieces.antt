@@ -12,7 +12,7 @@ use Rattle.kr_lex.specs.declared.piece.Piece.TheVariants as pieces
 use Rattle.kr_lex.specs.Characters.{is_line_end, is_white, is_start, is_part, AllParts, EndsWord}
 use Rattle.kr_lex.specs.Gaps.{EndsLine, IsGap, BeginsComment}
 use Rattle.kr_lex.specs.Spelling.{spelling}
-use Rattle.kr_lex.specs.ContractLines.{contract_spelling, is_blank, has_block, IsContract}
+use Rattle.kr_lex.specs.ContractLines.{contract_spelling, is_blank, has_block, IsContractWord, IsContract}
 use Rattle.kr_lex.specs.Spells.{IsTokenHere}
 use Rattle.kr_lex.specs.Broken.{BreaksHere}
 
@@ -112,11 +112,11 @@ pub record IsWordOf (text : List ℕ) (kind : Kind) : Type 0 where
 
 -- a contract's word does
 pub record IsWordAt (text : List ℕ) (kind : Kind) : Type 0 where
-  pub word : (kind ≡ kinds.Requires) ⊎ (kind ≡ kinds.Ensures)
+  pub word : IsContractWord kind
   pub stands : IsWordOf text kind
 
 abbrev pub BeginsNoWord : List ℕ → Type 0
-BeginsNoWord text = (kind : Kind) (rest : List ℕ) → (kind ≡ kinds.Requires) ⊎ (kind ≡ kinds.Ensures) → text ≡ contract_spelling kind ++ rest → EndsWord rest → ⊥
+BeginsNoWord text = (kind : Kind) (rest : List ℕ) → IsContractWord kind → text ≡ contract_spelling kind ++ rest → EndsWord rest → ⊥
 
 -- no `/*` within a line from here, nor from any index up to that length
 abbrev pub IsClear : List ℕ → ℕ → Type 0

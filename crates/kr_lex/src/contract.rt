@@ -32,6 +32,7 @@ pub(crate) fn contract_spelling(kind: Kind) -> &'static [u8]
         Kind::Contract => b"//@",
         Kind::Requires => b"requires",
         Kind::Ensures => b"ensures",
+        Kind::Signals => b"signals",
         Kind::Result => b"\\result",
         Kind::Old => b"\\old",
         _ => b"",
@@ -82,6 +83,8 @@ fn contract_word(text: &[u8]) -> Option<Kind>
         Some(Kind::Requires)
     } else if is_word(text, Kind::Ensures) {
         Some(Kind::Ensures)
+    } else if is_word(text, Kind::Signals) {
+        Some(Kind::Signals)
     } else {
         None
     }

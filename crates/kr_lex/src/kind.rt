@@ -16,6 +16,7 @@ pub enum Kind {
     // keywords that the language uses
     Boolean,
     Break,
+    Catch,
     Class,
     Continue,
     Do,
@@ -37,6 +38,8 @@ pub enum Kind {
     Static,
     Super,
     This,
+    Throw,
+    Try,
     Void,
     While,
 
@@ -45,7 +48,6 @@ pub enum Kind {
     Assert,
     Byte,
     Case,
-    Catch,
     Char,
     Const,
     Default,
@@ -61,10 +63,8 @@ pub enum Kind {
     Strictfp,
     Switch,
     Synchronized,
-    Throw,
     Throws,
     Transient,
-    Try,
     Volatile,
 
     // separators
@@ -122,6 +122,7 @@ pub enum Kind {
     Contract,
     Requires,
     Ensures,
+    Signals,
     Result,
     Old,
 }
@@ -137,7 +138,6 @@ impl Kind {
             | Kind::Assert
             | Kind::Byte
             | Kind::Case
-            | Kind::Catch
             | Kind::Char
             | Kind::Const
             | Kind::Default
@@ -153,10 +153,8 @@ impl Kind {
             | Kind::Strictfp
             | Kind::Switch
             | Kind::Synchronized
-            | Kind::Throw
             | Kind::Throws
             | Kind::Transient
-            | Kind::Try
             | Kind::Volatile => true,
             _ => false,
         }

@@ -17,6 +17,7 @@ pub fn spelling(kind: Kind) -> &'static [u8]
         Kind::Null => b"null",
         Kind::Boolean => b"boolean",
         Kind::Break => b"break",
+        Kind::Catch => b"catch",
         Kind::Class => b"class",
         Kind::Continue => b"continue",
         Kind::Do => b"do",
@@ -37,13 +38,14 @@ pub fn spelling(kind: Kind) -> &'static [u8]
         Kind::Static => b"static",
         Kind::Super => b"super",
         Kind::This => b"this",
+        Kind::Throw => b"throw",
+        Kind::Try => b"try",
         Kind::Void => b"void",
         Kind::While => b"while",
         Kind::Abstract => b"abstract",
         Kind::Assert => b"assert",
         Kind::Byte => b"byte",
         Kind::Case => b"case",
-        Kind::Catch => b"catch",
         Kind::Char => b"char",
         Kind::Const => b"const",
         Kind::Default => b"default",
@@ -60,10 +62,8 @@ pub fn spelling(kind: Kind) -> &'static [u8]
         Kind::Strictfp => b"strictfp",
         Kind::Switch => b"switch",
         Kind::Synchronized => b"synchronized",
-        Kind::Throw => b"throw",
         Kind::Throws => b"throws",
         Kind::Transient => b"transient",
-        Kind::Try => b"try",
         Kind::Volatile => b"volatile",
         Kind::LeftParenthesis => b"(",
         Kind::RightParenthesis => b")",
@@ -112,7 +112,12 @@ pub fn spelling(kind: Kind) -> &'static [u8]
         Kind::LessLessEqual => b"<<=",
         Kind::GreaterGreaterEqual => b">>=",
         Kind::GreaterGreaterGreaterEqual => b">>>=",
-        Kind::Contract | Kind::Requires | Kind::Ensures | Kind::Result | Kind::Old => b"",
+        Kind::Contract
+        | Kind::Requires
+        | Kind::Ensures
+        | Kind::Signals
+        | Kind::Result
+        | Kind::Old => b"",
     }
 }
 

@@ -56,6 +56,9 @@ code s (trees.IfElse p e a b) = here s (trees.IfElse p e a b) (code s e ++ code 
 code s (trees.While p e a) = here s (trees.While p e a) (code s e ++ code s a)
 code s (trees.Do p a e) = here s (trees.Do p a e) (code s a ++ code s e)
 code s (trees.For p i e u a) = here s (trees.For p i e u a) (code s i ++ code (after s i) e ++ code (after s i) u ++ code (after s i) a)
+code s (trees.Throw p e) = here s (trees.Throw p e) (code s e)
+code s (trees.Try p b cs) = here s (trees.Try p b cs) (code s b ++ code s cs)
+code s (trees.Catch p d b) = here s (trees.Catch p d b) (code (after s d) b)
 code s (trees.ConstructorCall p es) = here s (trees.ConstructorCall p es) (code s es)
 code s t = []
 

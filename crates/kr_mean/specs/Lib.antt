@@ -2,6 +2,7 @@ pub mod Program
 pub mod Places
 pub mod Collections
 pub mod Steps
+pub mod Thrown
 pub mod Operators
 pub mod Meaning
 pub mod Code

@@ -18,14 +18,16 @@ use Rattle.kr_classes_table.specs.Arrays.{array_number}
 use Rattle.kr_classes_table.specs.Constants.{constant_of, known_value as constant_value}
 use Rattle.kr_classes_table.specs.Numbers.{Width, Bits32, Bits64, wrap}
 use Rattle.kr_classes_table.specs.Operators.{operator_width}
-use Rattle.kr_types_meaning.specs.Scopes.{Scope, Locals, Meant, LocalName, FieldName, NoName, written, declaring, bind_local as with_local, after, meant, class_before, static_only, method_meant, super_class}
+use Rattle.kr_types_meaning.specs.Scopes.{Scope, Locals, Meant, LocalName, FieldName, NoName, written, caught_type, declaring, bind_local as with_local, after, meant, class_before, static_only, method_meant, super_class}
 use Rattle.kr_types_meaning.specs.Typing.{judged, operand, type_in, type_of}
 use Rattle.kr_mean.specs.declared.flow.Flow.{Flow}
 use Rattle.kr_mean.specs.declared.flow.Flow.TheVariants.{Next, Broke, Continued, Left, Gave}
+use Rattle.kr_mean.specs.declared.kind.Kind.{Kind}
 use Rattle.kr_mean.specs.declared.kind.Kind.TheVariants.{NegativeArraySizeException, ClassCastException, NoReturn, ArrayTooLong}
 use Rattle.kr_mean.specs.declared.kind.Stop.TheVariants.{Trapped, OutOfFuel, Stuck}
 use Rattle.kr_mean.specs.Program.{Program, default_of, is_of_type, overriding, class_scope, method_scope, constructor_scope, constructor_of, declared_fields}
 use Rattle.kr_mean.specs.Steps.{Run, say, give, stop, given, ◌>>=◌, ◌>>◌, tick, get_this, read_local, declare, assign, get_result, get_old, within, scoped, load_field, element, class_or_null, class_of, store, store_new, store_element, make, collect}
+use Rattle.kr_mean.specs.Thrown.{class_of_kind, is_caught, object_of, attempted, throw}
 use Rattle.kr_mean.specs.declared.operations.BinaryOperation.{BinaryOperation}
 use Rattle.kr_mean.specs.declared.operations.StepOperation.{StepOperation}
 use Rattle.kr_mean.specs.Operators.{operated, operated_alone, binary_operation, compound_operation, unary_operation, step_operation, step_binary, gives_old}
@@ -462,6 +464,20 @@ abbrev pub all_declared : Parts → Scope → List Tree → Run Flow
 all_declared parts s [] = give Next
 all_declared parts s (t ∷ ts) = declared parts s t >> all_declared parts (after s t) ts
 
+-- a `catch` after its unit: the object is its local, in the frame in which the `try` began (14.20.1)
+abbrev pub catch_run : Program → Parts → Scope → Tree → Tree → Kind → Run Flow
+catch_run program parts s d b k = scoped (do
+  tick
+  o ← object_of program k
+  declare o
+  parts.exec (after s d) b)
+
+-- what the first clause does whose class fits, if one does
+abbrev pub caught : Program → Parts → Scope → List Tree → Kind → Option (Run Flow)
+caught program parts s [] k = None
+caught program parts s (trees.Catch p d b ∷ cs) k = if is_caught program (caught_type s d) (class_of_kind program k) then Some (catch_run program parts s d b k) else caught program parts s cs k
+caught program parts s (t ∷ cs) k = None
+
 -- a loop's updates come after each round that goes on
 abbrev pub then_update : Flow → Run Flow → Run Flow
 then_update Next m = m
@@ -494,6 +510,10 @@ flow_of program parts s (trees.Return p trees.Nil) = give Left
 flow_of program parts s (trees.Return p e) = do
   v ← parts.value s e
   give (Gave v)
+flow_of program parts s (trees.Throw p e) = do
+  v ← parts.value s e
+  throw program v
+flow_of program parts s (trees.Try p b cs) = attempted (parts.exec s b) (caught program parts s (items cs))
 flow_of program parts s t = stop Stuck
 
 -- ---- whole trees

@@ -9,12 +9,12 @@ use Rattle.kr_value.specs.declared.object.Class.TheVariants.{Object}
 use Rattle.kr_classes_table.specs.Types.{JavaType, ClassType}
 use Rattle.kr_classes_table.specs.Table.{Method, method_named, is_below}
 use Rattle.kr_classes_table.specs.Rules.{is_earlier}
-use Rattle.kr_types_meaning.specs.Scopes.{Scope, written}
-use Rattle.kr_mean.specs.Program.{Program, is_array_of}
+use Rattle.kr_types_meaning.specs.Scopes.{Scope, Ensuring, in_contract, in_signals, written}
+use Rattle.kr_mean.specs.Program.{Program, is_array_of, method_scope}
 use Rattle.kr_mean.specs.Problem.{Problem, ClassDomain}
 use Rattle.kr_mean.specs.Meaning.{Target, OwnField, FieldOf, ElementOf, NoTarget, target_of}
 use Rattle.kr_mean.specs.Code.{Node, code, code_run, code_of_method}
-use Rattle.kr_mean.specs.Runs.{root_class, tested_method, requires_of, ensures_of}
+use Rattle.kr_mean.specs.Runs.{root_class, tested_method, requires_of}
 
 -- ---- the touch of a node
 
@@ -54,9 +54,18 @@ rep_ok_method problem = option_to_list (method_named problem.program.table (root
 abbrev pub tested : Problem → List Method
 tested problem = option_to_list (tested_method problem problem.mode)
 
+-- the conditions of `ensures` and `signals`, in source order
+abbrev pub condition_after : Scope → Tree → List Node
+condition_after s (trees.Ensures p e) = record { scope = in_contract Ensuring s; tree = e } ∷ []
+condition_after s (trees.Signals p d e) = record { scope = in_signals d s; tree = e } ∷ []
+condition_after s t = []
+
+abbrev pub conditions_after : Program → Method → List Node
+conditions_after program m = flat_map (condition_after (method_scope program m)) m.contracts
+
 -- the conditions of the method under test
 abbrev pub contract_of : Problem → List Node
-contract_of problem = flat_map (requires_of problem.program) (tested problem) ++ flat_map (ensures_of problem.program) (tested problem)
+contract_of problem = flat_map (requires_of problem.program) (tested problem) ++ flat_map (conditions_after problem.program) (tested problem)
 
 -- the root's `repOk`, and the conditions
 abbrev pub roots : Problem → List Node

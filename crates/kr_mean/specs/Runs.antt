@@ -102,6 +102,7 @@ start problem vector = record {
   locals = parameters_from 0 (parameter_values problem vector);
   result = None;
   olds = [];
+  thrown = None;
   heap = heap_of problem vector;
   candidates = length (all_objects problem);
   fuel = problem.fuel;

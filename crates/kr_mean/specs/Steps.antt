@@ -30,12 +30,13 @@ abbrev pub Old : Type 0
 Old = Known
 
 -- The state of a run. The locals go by their numbers, the oldest first; the first objects of the heap are the candidates.
--- Result and olds are those of the method under test, once it has run.
+-- Result and olds are those of the method under test, once it has run. An object that is thrown is kept until it is caught.
 pub record State : Type 0 where
   pub this_value : Value
   pub locals : List Local
   pub result : Option Value
   pub olds : List Old
+  pub thrown : Option Value
   pub heap : List HeapObject
   pub candidates : ℕ
   pub fuel : ℕ

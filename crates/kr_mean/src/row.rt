@@ -1,9 +1,10 @@
 // The row of a valid candidate.
-ghost use Rattle.std.specs.Prelude.{◌≡◌};
+ghost use Rattle.std.specs.Prelude.{◌≡◌, ◌++◌, ◌∷◌, [], OnOk};
 
 use crate::Verdict;
-use kr_base::Cut;
+use kr_base::{Cut, NoMemory};
 use kr_value::Value;
+use std::alloc::Global;
 use std::marker::Model;
 
 /// The reachable slots, by their numbers, with their values, in the order of the walk. Contracts see the list.
@@ -22,11 +23,30 @@ impl Model for Structure {
 }
 
 impl Structure {
-    /// The structure of these slots and values. It takes no memory.
-    pub fn new(slots: Vec<(u32, Value)>) -> Self
-        ensures { result ≡ slots.items }
+    /// No slots. It takes no memory.
+    pub fn empty(alloc: Global) -> Self
+        ensures { result ≡ [] }
     {
-        Structure { slots }
+        Structure {
+            slots: Vec::new(alloc),
+        }
+    }
+
+    /// Takes all slots out, and makes room for so many.
+    pub fn clear_for(&mut self, count: usize) -> Result<(), NoMemory>
+        ensures { OnOk result (self.new ≡ []) }
+    {
+        self.slots.clear();
+        self.slots.reserve(count)?;
+        Ok(())
+    }
+
+    /// Adds a slot with its value.
+    pub fn push(&mut self, slot: u32, value: Value) -> Result<(), NoMemory>
+        ensures { OnOk result (self.new ≡ self.old ++ (slot, value) ∷ []) }
+    {
+        self.slots.push((slot, value))?;
+        Ok(())
     }
 
     pub fn as_slice(&self) -> &[(u32, Value)]
@@ -42,4 +62,15 @@ pub struct Row {
     pub key: Cut,
     pub structure: Structure,
     pub verdict: Option<Verdict>,
+}
+
+impl Row {
+    /// A row whose memory others are made in. It takes none.
+    pub fn blank(alloc: Global) -> Row {
+        Row {
+            key: Cut::empty(alloc),
+            structure: Structure::empty(alloc),
+            verdict: None,
+        }
+    }
 }

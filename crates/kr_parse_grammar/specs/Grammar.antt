@@ -40,6 +40,8 @@ pub data Class : Type 0 where
   BlockStatement : Class
   Statement : Class
   ForInitial : Class
+  Caught : Class
+  Catch : Class
   -- declarations; members know their class's name, and whether it is nested
   Parameter : Class
   ResultType : Class
@@ -198,6 +200,15 @@ pub data Der : Class → List Lexeme → Tree → List Lexeme → Type 0 where
   for : {i j m n r : List Lexeme} {k c u s : Tree} (a b d e g : Lexeme) → a.kind ≡ kinds.For → b.kind ≡ kinds.LeftParenthesis → Der (Maybe ForInitial) i k (d ∷ j) → d.kind ≡ kinds.Semicolon
       → Der (Maybe Expression) j c (e ∷ m) → e.kind ≡ kinds.Semicolon → Der (Maybe (Several StatementExpression)) m u (g ∷ n) → g.kind ≡ kinds.RightParenthesis → Der Statement n s r
       → Der Statement (a ∷ b ∷ i) (For a.place k c u s) r
+  throw : {i r : List Lexeme} {t : Tree} (a b : Lexeme) → a.kind ≡ kinds.Throw → Der Expression i t (b ∷ r) → b.kind ≡ kinds.Semicolon → Der Statement (a ∷ i) (trees.Throw a.place t) r
+  try : {i m k r : List Lexeme} {t c u : Tree} (a b d : Lexeme) → a.kind ≡ kinds.Try → b.kind ≡ kinds.LeftBrace → Der (Many BlockStatement) i t (d ∷ m) → d.kind ≡ kinds.RightBrace
+      → Der Catch m c k → Der (Many Catch) k u r
+      → Der Statement (a ∷ b ∷ i) (trees.Try a.place (trees.Block b.place t) (Cons c u)) r
+  caught : {i r : List Lexeme} {t : Tree} (n : Lexeme) → Der ClassName i t (n ∷ r) → n.kind ≡ kinds.Identifier → Der Caught i (trees.Parameter n.place t n.text) r
+  final_caught : {i r : List Lexeme} {t : Tree} (a n : Lexeme) → a.kind ≡ kinds.Final → Der ClassName i t (n ∷ r) → n.kind ≡ kinds.Identifier → Der Caught (a ∷ i) (trees.Parameter n.place t n.text) r
+  catch : {i m r : List Lexeme} {t u : Tree} (a b d e g : Lexeme) → a.kind ≡ kinds.Catch → b.kind ≡ kinds.LeftParenthesis → Der Caught i t (d ∷ e ∷ m) → d.kind ≡ kinds.RightParenthesis
+      → e.kind ≡ kinds.LeftBrace → Der (Many BlockStatement) m u (g ∷ r) → g.kind ≡ kinds.RightBrace
+      → Der Catch (a ∷ b ∷ i) (trees.Catch a.place t (trees.Block e.place u)) r
   for_local : {i r : List Lexeme} {t : Tree} → Der Local i t r → Der ForInitial i (Cons t Nil) r
   for_expressions : {i r : List Lexeme} {t : Tree} → Der (Several Evaluated) i t r → Der ForInitial i t r
   -- members
@@ -215,6 +226,13 @@ pub data Der : Class → List Lexeme → Tree → List Lexeme → Type 0 where
       → Der Contract (a ∷ b ∷ i) (trees.Requires a.place t) r
   postcondition : {i r : List Lexeme} {t : Tree} (a b c : Lexeme) → a.kind ≡ kinds.Contract → b.kind ≡ kinds.Ensures → Der Expression i t (c ∷ r) → c.kind ≡ kinds.Semicolon
       → Der Contract (a ∷ b ∷ i) (trees.Ensures a.place t) r
+  -- an exception that the method may throw
+  exception : {i m r : List Lexeme} {t u : Tree} (a b c d e : Lexeme) → a.kind ≡ kinds.Contract → b.kind ≡ kinds.Signals → c.kind ≡ kinds.LeftParenthesis → Der ClassName i t (d ∷ m) → d.kind ≡ kinds.RightParenthesis
+      → Der Expression m u (e ∷ r) → e.kind ≡ kinds.Semicolon
+      → Der Contract (a ∷ b ∷ c ∷ i) (trees.Signals a.place t u) r
+  named_exception : {i m r : List Lexeme} {t u : Tree} (a b c n d e : Lexeme) → a.kind ≡ kinds.Contract → b.kind ≡ kinds.Signals → c.kind ≡ kinds.LeftParenthesis → Der ClassName i t (n ∷ d ∷ m) → n.kind ≡ kinds.Identifier
+      → d.kind ≡ kinds.RightParenthesis → Der Expression m u (e ∷ r) → e.kind ≡ kinds.Semicolon
+      → Der Contract (a ∷ b ∷ c ∷ i) (trees.Signals a.place (trees.Parameter n.place t n.text) u) r
   method : {o : List ℕ} {n : Bool} {h i j m k r : List Lexeme} {f : Modifiers} {v t u s : Tree} (a b c d e : Lexeme) → Der (Many Contract) h v i → Modified i f j → Der ResultType j t (a ∷ b ∷ m) → a.kind ≡ kinds.Identifier → b.kind ≡ kinds.LeftParenthesis
       → Der (Maybe (Several Parameter)) m u (c ∷ d ∷ k) → c.kind ≡ kinds.RightParenthesis → d.kind ≡ kinds.LeftBrace → Der (Many BlockStatement) k s (e ∷ r) → e.kind ≡ kinds.RightBrace
       → Der (Member o n) h (trees.Method a.place f.is_static a.text (trees.Signature a.place t u v) s) r

@@ -3,7 +3,7 @@
 use Rattle.std.specs.Prelude.{◌≡◌, ℕ, zero, suc, ◌+◌, Bool, true, false, if◌then◌else◌, nat_lt, List, [], ◌∷◌, ◌++◌, Option, Some, None}
 use Rattle.kr_lex.specs.Lexemes.{Lexeme}
 use Rattle.kr_parse_grammar.specs.declared.terminal.Terminal.{Terminal}
-use Rattle.kr_parse_grammar.specs.declared.terminal.Terminal.TheVariants.{End, Identifier, Literal, Primitive, Access, Static, Final, Package, Import, Class, Extends, Void, New, Super, Instanceof, Return, Break, Continue, If, Else, While, Do, For, LeftParenthesis, RightParenthesis, LeftBrace, RightBrace, LeftBracket, RightBracket, Semicolon, Comma, Dot, At, Question, Colon, Equal, Compound, Less, Greater, Star, Sign, Step, Complement, Or, And, BitOr, BitXor, BitAnd, Equality, Relation, Shift, Division, Contract, Requires, Ensures, Old}
+use Rattle.kr_parse_grammar.specs.declared.terminal.Terminal.TheVariants.{End, Identifier, Literal, Primitive, Access, Static, Final, Package, Import, Class, Extends, Void, New, Super, Instanceof, Return, Break, Continue, If, Else, While, Do, For, Throw, Try, Catch, LeftParenthesis, RightParenthesis, LeftBrace, RightBrace, LeftBracket, RightBracket, Semicolon, Comma, Dot, At, Question, Colon, Equal, Compound, Less, Greater, Star, Sign, Step, Complement, Or, And, BitOr, BitXor, BitAnd, Equality, Relation, Shift, Division, Contract, Requires, Ensures, Signals, Old}
 use Rattle.kr_parse_grammar.specs.declared.value.Tag.{Tag}
 use Rattle.kr_parse_grammar.specs.declared.value.Tag.TheVariants as tags
 use Rattle.kr_parse_grammar.specs.declared.value.Form.TheVariants as forms
@@ -119,7 +119,10 @@ rule goals.Contracts Contract q = Some (Keep Contract ∷ Want goals.Contract �
 rule goals.Contracts k q = Some (Build makes.Nil ∷ [])
 rule goals.Contract Requires q = Some (Take Requires ∷ Want goals.Expression ∷ Take Semicolon ∷ Build makes.Requires ∷ [])
 rule goals.Contract Ensures q = Some (Take Ensures ∷ Want goals.Expression ∷ Take Semicolon ∷ Build makes.Ensures ∷ [])
+rule goals.Contract Signals q = Some (Take Signals ∷ Take LeftParenthesis ∷ Word ∷ Want goals.ClassTail ∷ Want goals.ThrownName ∷ Take RightParenthesis ∷ Want goals.Expression ∷ Take Semicolon ∷ Build makes.Signals ∷ [])
 rule goals.Contract k q = None
+rule goals.ThrownName Identifier q = Some (Word ∷ Build makes.Parameter ∷ [])
+rule goals.ThrownName k q = Some []
 rule goals.MethodAhead Access q = Some (Take Access ∷ Want goals.MethodAhead ∷ [])
 rule goals.MethodAhead Static q = Some (Take Static ∷ Build makes.SetStatic ∷ Want goals.MethodAhead ∷ [])
 rule goals.MethodAhead Final q = Some (Take Final ∷ Build makes.SetFinal ∷ Want goals.MethodAhead ∷ [])
@@ -194,11 +197,19 @@ rule goals.Statement If q = Some (Keep If ∷ Take LeftParenthesis ∷ Want goal
 rule goals.Statement While q = Some (Keep While ∷ Take LeftParenthesis ∷ Want goals.Expression ∷ Take RightParenthesis ∷ Want goals.Statement ∷ Build makes.While ∷ [])
 rule goals.Statement Do q = Some (Keep Do ∷ Want goals.Statement ∷ Take While ∷ Take LeftParenthesis ∷ Want goals.Expression ∷ Take RightParenthesis ∷ Take Semicolon ∷ Build makes.Do ∷ [])
 rule goals.Statement For q = Some (Keep For ∷ Take LeftParenthesis ∷ Want goals.ForInitial ∷ Take Semicolon ∷ Want goals.OptionalExpression ∷ Take Semicolon ∷ Want goals.ForUpdates ∷ Take RightParenthesis ∷ Want goals.Statement ∷ Build makes.For ∷ [])
+rule goals.Statement Throw q = Some (Keep Throw ∷ Want goals.Expression ∷ Take Semicolon ∷ Build makes.Throw ∷ [])
+rule goals.Statement Try q = Some (Keep Try ∷ Keep LeftBrace ∷ Want goals.Statements ∷ Take RightBrace ∷ Build makes.Block ∷ Want goals.Catch ∷ Want goals.Catches ∷ Build makes.Cons ∷ Build makes.Try ∷ [])
 rule goals.Statement k q = Some (Want goals.StatementExpression ∷ Build makes.ExpressionStatement ∷ Take Semicolon ∷ [])
 rule goals.OptionalExpression Semicolon q = Some (Build makes.Nil ∷ [])
 rule goals.OptionalExpression k q = Some (Want goals.Expression ∷ [])
 rule goals.ElsePart Else q = Some (Take Else ∷ Want goals.Statement ∷ Build makes.IfElse ∷ [])
 rule goals.ElsePart k q = Some (Build makes.IfThen ∷ [])
+rule goals.Catch Catch q = Some (Keep Catch ∷ Take LeftParenthesis ∷ Want goals.CaughtParameter ∷ Take RightParenthesis ∷ Keep LeftBrace ∷ Want goals.Statements ∷ Take RightBrace ∷ Build makes.Block ∷ Build makes.Catch ∷ [])
+rule goals.Catch k q = None
+rule goals.Catches Catch q = Some (Want goals.Catch ∷ Want goals.Catches ∷ Build makes.Cons ∷ [])
+rule goals.Catches k q = Some (Build makes.Nil ∷ [])
+rule goals.CaughtParameter Final q = Some (Take Final ∷ Word ∷ Want goals.ClassTail ∷ Word ∷ Build makes.Parameter ∷ [])
+rule goals.CaughtParameter k q = Some (Word ∷ Want goals.ClassTail ∷ Word ∷ Build makes.Parameter ∷ [])
 rule goals.ForInitial Semicolon q = Some (Build makes.Nil ∷ [])
 rule goals.ForInitial k q = Some (Want goals.Item ∷ Want goals.MoreInitial ∷ [])
 rule goals.MoreInitial Comma tags.Local = None

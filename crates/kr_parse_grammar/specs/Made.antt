@@ -158,6 +158,9 @@ made makes.IfElse (part d e u ∷ part r h s ∷ part q g c ∷ mark k p ∷ vs)
 made makes.While (part r h s ∷ part q g c ∷ mark k p ∷ vs) = part p forms.Other (trees.While p c s) ∷ vs
 made makes.Do (part r h c ∷ part q g s ∷ mark k p ∷ vs) = part p forms.Other (trees.Do p s c) ∷ vs
 made makes.For (part a b s ∷ part d e u ∷ part r h c ∷ part q g i ∷ mark k p ∷ vs) = part p forms.Other (trees.For p i c u s) ∷ vs
+made makes.Throw (part q g t ∷ mark k p ∷ vs) = part p forms.Other (trees.Throw p t) ∷ vs
+made makes.Try (part r h c ∷ part q g b ∷ mark k p ∷ vs) = part p forms.Other (trees.Try p b c) ∷ vs
+made makes.Catch (part r h b ∷ part q g d ∷ mark k p ∷ vs) = part p forms.Other (trees.Catch p d b) ∷ vs
 made makes.MemberAhead (owner b p n ∷ vs) = member b no_modifiers ∷ owner b p n ∷ vs
 made makes.SetStatic (member b m ∷ vs) = member b (record m { is_static = true }) ∷ vs
 made makes.SetFinal (member b m ∷ vs) = member b (record m { is_final = true }) ∷ vs
@@ -167,6 +170,7 @@ made makes.Field (part q g u ∷ part p f t ∷ member b m ∷ vs) = part p form
 made makes.Method (part a c s ∷ part q g u ∷ word p n ∷ part r f t ∷ member b m ∷ vs) = part p forms.Other (trees.Method p m.is_static n (trees.Signature p t u trees.Nil) s) ∷ vs
 made makes.Requires (part q g t ∷ mark k p ∷ vs) = part p forms.Other (trees.Requires p t) ∷ vs
 made makes.Ensures (part q g t ∷ mark k p ∷ vs) = part p forms.Other (trees.Ensures p t) ∷ vs
+made makes.Signals (part r h e ∷ part q g d ∷ mark k p ∷ vs) = part p forms.Other (trees.Signals p d e) ∷ vs
 made makes.ContractedMethod (part a c s ∷ part q g u ∷ word p n ∷ part r f t ∷ member b m ∷ part d e k ∷ vs) = part p forms.Other (trees.Method p m.is_static n (trees.Signature p t u k) s) ∷ vs
 made makes.ConstructorCall (part q g t ∷ mark k p ∷ vs) = part p forms.Other (trees.ConstructorCall p t) ∷ vs
 made makes.Constructor (part a c t ∷ part q g s ∷ part r f u ∷ word p n ∷ member b m ∷ vs) = part p forms.Other (trees.Constructor p u s t) ∷ vs

@@ -2,7 +2,7 @@
 use Rattle.std.specs.Prelude.{◌≡◌, ℕ, ◌+◌, ◌≤◌, Bool, true, false, List, [], ◌∷◌, ◌++◌, Option, Some, None, length, take, drop}
 use Rattle.kr_lex.specs.Lexemes.{Lexeme}
 use Rattle.kr_parse_grammar.specs.declared.terminal.Terminal.{Terminal}
-use Rattle.kr_parse_grammar.specs.declared.terminal.Terminal.TheVariants.{End, Identifier, Literal, Primitive, Class, Void, Else, LeftParenthesis, RightParenthesis, LeftBrace, RightBrace, LeftBracket, RightBracket, Semicolon, Comma, Colon, Greater, Step, Requires, Outside}
+use Rattle.kr_parse_grammar.specs.declared.terminal.Terminal.TheVariants.{End, Identifier, Literal, Primitive, Class, Void, Else, Catch, LeftParenthesis, RightParenthesis, LeftBrace, RightBrace, LeftBracket, RightBracket, Semicolon, Comma, Colon, Greater, Step, Requires, Outside}
 use Rattle.kr_parse_grammar.specs.declared.goal.Goal.{Goal}
 use Rattle.kr_parse_grammar.specs.declared.goal.Goal.TheVariants as goals
 use Rattle.kr_parse_grammar.specs.declared.goal.Symbol.{Symbol}
@@ -59,8 +59,15 @@ ends_type k = closes k
 
 abbrev pub ends_statement : Terminal → Bool
 ends_statement Else = false
+ends_statement Catch = false
 ends_statement Outside = false
 ends_statement _ = true
+
+abbrev pub ends_class_name : Terminal → Bool
+ends_class_name LeftBrace = true
+ends_class_name Identifier = true
+ends_class_name RightParenthesis = true
+ends_class_name _ = false
 
 -- the tokens that may follow a goal, if it takes the short way
 abbrev pub follows : Goal → Terminal → Bool
@@ -71,12 +78,13 @@ follows goals.Imported k = is_semicolon k
 follows goals.Classes k = is_end k
 follows goals.ClassAhead k = is_inside k
 follows goals.Extended k = is_left_brace k
-follows goals.ClassTail k = is_left_brace k
+follows goals.ClassTail k = ends_class_name k
 follows goals.Members k = is_right_brace k
 follows goals.Member k = is_inside k
 follows goals.MemberName k = is_inside k
 follows goals.Contracts k = is_void k
 follows goals.Contract k = is_inside k
+follows goals.ThrownName k = is_right_parenthesis k
 follows goals.MethodAhead k = is_inside k
 follows goals.ContractedMethod k = is_inside k
 follows goals.Method k = is_inside k
@@ -101,6 +109,9 @@ follows goals.ItemBracket k = is_semicolon k
 follows goals.Statement k = ends_statement k
 follows goals.OptionalExpression k = is_semicolon k
 follows goals.ElsePart k = ends_statement k
+follows goals.Catch k = is_inside k
+follows goals.Catches k = ends_statement k
+follows goals.CaughtParameter k = is_inside k
 follows goals.ForInitial k = is_semicolon k
 follows goals.MoreInitial k = is_semicolon k
 follows goals.ForUpdates k = is_right_parenthesis k
@@ -137,6 +148,8 @@ first_of goals.Item f = Primitive
 first_of goals.ItemName f = Identifier
 first_of goals.ItemBracket f = RightBracket
 first_of goals.Statement f = Semicolon
+first_of goals.Catch f = Catch
+first_of goals.CaughtParameter f = Identifier
 first_of goals.StatementExpression f = Step
 first_of goals.AfterStatementPrimary f = Step
 first_of goals.Primary f = Literal
@@ -193,6 +206,7 @@ weight_of goals.ItemBracket = 15
 weight_of goals.Statement = 6
 weight_of goals.OptionalExpression = 2
 weight_of goals.ElsePart = 2
+weight_of goals.Catches = 2
 weight_of goals.ForInitial = 2
 weight_of goals.MoreInitial = 3
 weight_of goals.ForUpdates = 2
@@ -235,6 +249,7 @@ debt_of goals.Type = 40
 debt_of goals.BlockStatement = 40
 debt_of goals.Item = 40
 debt_of goals.Statement = 40
+debt_of goals.Catch = 40
 debt_of goals.StatementExpression = 40
 debt_of goals.Primary = 40
 debt_of goals.Creator = 40

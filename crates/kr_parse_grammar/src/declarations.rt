@@ -299,7 +299,27 @@ pub(crate) fn contract(next: Terminal) -> Option<&'static [Symbol]>
             Symbol::Take(Terminal::Semicolon),
             Symbol::Build(Make::Ensures),
         ]),
+        Terminal::Signals => Some(&[
+            Symbol::Take(Terminal::Signals),
+            Symbol::Take(Terminal::LeftParenthesis),
+            Symbol::Word,
+            Symbol::Want(Goal::ClassTail),
+            Symbol::Want(Goal::ThrownName),
+            Symbol::Take(Terminal::RightParenthesis),
+            Symbol::Want(Goal::Expression),
+            Symbol::Take(Terminal::Semicolon),
+            Symbol::Build(Make::Signals),
+        ]),
         _ => None,
+    }
+}
+
+pub(crate) fn thrown_name(next: Terminal) -> Option<&'static [Symbol]>
+    ensures { (tag : Tag) → IsRule result (rule Goal.ThrownName next tag) }
+{
+    match next {
+        Terminal::Identifier => Some(&[Symbol::Word, Symbol::Build(Make::Parameter)]),
+        _ => Some(&[]),
     }
 }
 

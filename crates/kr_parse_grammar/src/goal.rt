@@ -27,6 +27,7 @@ pub enum Goal {
     MemberName,
     Contracts,
     Contract,
+    ThrownName,
     MethodAhead,
     ContractedMethod,
     Method,
@@ -55,6 +56,9 @@ pub enum Goal {
     Statement,
     OptionalExpression,
     ElsePart,
+    Catch,
+    Catches,
+    CaughtParameter,
     ForInitial,
     MoreInitial,
     ForUpdates,
@@ -165,6 +169,9 @@ pub enum Make {
     While,
     Do,
     For,
+    Throw,
+    Try,
+    Catch,
 
     // declarations
     MemberAhead,
@@ -176,6 +183,7 @@ pub enum Make {
     Method,
     Requires,
     Ensures,
+    Signals,
     /// a method with contracts
     ContractedMethod,
     ConstructorCall,

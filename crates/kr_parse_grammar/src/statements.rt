@@ -301,6 +301,23 @@ pub(crate) fn statement(next: Terminal) -> Option<&'static [Symbol]>
             Symbol::Want(Goal::Statement),
             Symbol::Build(Make::For),
         ]),
+        Terminal::Throw => Some(&[
+            Symbol::Keep(Terminal::Throw),
+            Symbol::Want(Goal::Expression),
+            Symbol::Take(Terminal::Semicolon),
+            Symbol::Build(Make::Throw),
+        ]),
+        Terminal::Try => Some(&[
+            Symbol::Keep(Terminal::Try),
+            Symbol::Keep(Terminal::LeftBrace),
+            Symbol::Want(Goal::Statements),
+            Symbol::Take(Terminal::RightBrace),
+            Symbol::Build(Make::Block),
+            Symbol::Want(Goal::Catch),
+            Symbol::Want(Goal::Catches),
+            Symbol::Build(Make::Cons),
+            Symbol::Build(Make::Try),
+        ]),
         _ => Some(&[
             Symbol::Want(Goal::StatementExpression),
             Symbol::Build(Make::ExpressionStatement),
@@ -328,6 +345,58 @@ pub(crate) fn else_part(next: Terminal) -> Option<&'static [Symbol]>
             Symbol::Build(Make::IfElse),
         ]),
         _ => Some(&[Symbol::Build(Make::IfThen)]),
+    }
+}
+
+pub(crate) fn catch(next: Terminal) -> Option<&'static [Symbol]>
+    ensures { (tag : Tag) → IsRule result (rule Goal.Catch next tag) }
+{
+    match next {
+        Terminal::Catch => Some(&[
+            Symbol::Keep(Terminal::Catch),
+            Symbol::Take(Terminal::LeftParenthesis),
+            Symbol::Want(Goal::CaughtParameter),
+            Symbol::Take(Terminal::RightParenthesis),
+            Symbol::Keep(Terminal::LeftBrace),
+            Symbol::Want(Goal::Statements),
+            Symbol::Take(Terminal::RightBrace),
+            Symbol::Build(Make::Block),
+            Symbol::Build(Make::Catch),
+        ]),
+        _ => None,
+    }
+}
+
+pub(crate) fn catches(next: Terminal) -> Option<&'static [Symbol]>
+    ensures { (tag : Tag) → IsRule result (rule Goal.Catches next tag) }
+{
+    match next {
+        Terminal::Catch => Some(&[
+            Symbol::Want(Goal::Catch),
+            Symbol::Want(Goal::Catches),
+            Symbol::Build(Make::Cons),
+        ]),
+        _ => Some(&[Symbol::Build(Make::Nil)]),
+    }
+}
+
+pub(crate) fn caught_parameter(next: Terminal) -> Option<&'static [Symbol]>
+    ensures { (tag : Tag) → IsRule result (rule Goal.CaughtParameter next tag) }
+{
+    match next {
+        Terminal::Final => Some(&[
+            Symbol::Take(Terminal::Final),
+            Symbol::Word,
+            Symbol::Want(Goal::ClassTail),
+            Symbol::Word,
+            Symbol::Build(Make::Parameter),
+        ]),
+        _ => Some(&[
+            Symbol::Word,
+            Symbol::Want(Goal::ClassTail),
+            Symbol::Word,
+            Symbol::Build(Make::Parameter),
+        ]),
     }
 }
 

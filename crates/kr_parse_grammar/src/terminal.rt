@@ -33,6 +33,9 @@ pub enum Terminal {
     While,
     Do,
     For,
+    Throw,
+    Try,
+    Catch,
     LeftParenthesis,
     RightParenthesis,
     LeftBrace,
@@ -70,10 +73,11 @@ pub enum Terminal {
     Shift,
     /// `/` and `%`
     Division,
-    /// `//@`, before `requires` or `ensures`
+    /// `//@`, before `requires`, `ensures` or `signals`
     Contract,
     Requires,
     Ensures,
+    Signals,
     /// `\old`
     Old,
     /// keywords that the language doesn't use
@@ -95,6 +99,7 @@ pub fn terminal_of(kind: Kind) -> Terminal
         | Kind::Result => Terminal::Literal,
         Kind::Boolean | Kind::Int | Kind::Long => Terminal::Primitive,
         Kind::Break => Terminal::Break,
+        Kind::Catch => Terminal::Catch,
         Kind::Class => Terminal::Class,
         Kind::Continue => Terminal::Continue,
         Kind::Do => Terminal::Do,
@@ -111,13 +116,14 @@ pub fn terminal_of(kind: Kind) -> Terminal
         Kind::Return => Terminal::Return,
         Kind::Static => Terminal::Static,
         Kind::Super => Terminal::Super,
+        Kind::Throw => Terminal::Throw,
+        Kind::Try => Terminal::Try,
         Kind::Void => Terminal::Void,
         Kind::While => Terminal::While,
         Kind::Abstract
         | Kind::Assert
         | Kind::Byte
         | Kind::Case
-        | Kind::Catch
         | Kind::Char
         | Kind::Const
         | Kind::Default
@@ -133,14 +139,13 @@ pub fn terminal_of(kind: Kind) -> Terminal
         | Kind::Strictfp
         | Kind::Switch
         | Kind::Synchronized
-        | Kind::Throw
         | Kind::Throws
         | Kind::Transient
-        | Kind::Try
         | Kind::Volatile => Terminal::Outside,
         Kind::Contract => Terminal::Contract,
         Kind::Requires => Terminal::Requires,
         Kind::Ensures => Terminal::Ensures,
+        Kind::Signals => Terminal::Signals,
         Kind::Old => Terminal::Old,
         Kind::LeftParenthesis => Terminal::LeftParenthesis,
         Kind::RightParenthesis => Terminal::RightParenthesis,

@@ -2,7 +2,7 @@
 use Rattle.std.proofs.Common.{◌≡◌, ◌≢◌, true, refl}
 use Rattle.kr_parse_grammar.specs.declared.terminal.Terminal.{Terminal}
 use Rattle.kr_parse_grammar.specs.declared.terminal.Terminal.TheVariants.{End, Identifier, Void, RightParenthesis, LeftBrace, RightBrace, RightBracket, Semicolon, Comma, Colon, Greater, Step, Outside}
-use Rattle.kr_parse_grammar.specs.State.{is_end, is_semicolon, is_void, is_left_brace, is_right_brace, is_right_parenthesis, is_inside, closes, ends_primary, ends_type, ends_statement}
+use Rattle.kr_parse_grammar.specs.State.{is_end, is_semicolon, is_void, is_left_brace, is_right_brace, is_right_parenthesis, is_inside, closes, ends_primary, ends_type, ends_class_name, ends_statement}
 
 pub of_end : (P : Terminal → Type 0) → P End → (f : Terminal) → is_end f ≡ true → P f
 of_end P a End e = a
@@ -36,6 +36,15 @@ pub of_type : (P : Terminal → Type 0) → P Identifier → P Greater → ((f :
 of_type P a b c Identifier e = a
 of_type P a b c Greater e = b
 of_type P a b c f e = c f e
+
+pub of_class_name : (P : Terminal → Type 0) → P LeftBrace → P Identifier → P RightParenthesis → (f : Terminal) → ends_class_name f ≡ true → P f
+of_class_name P a b c LeftBrace e = a
+of_class_name P a b c Identifier e = b
+of_class_name P a b c RightParenthesis e = c
+of_class_name P a b c _ e = cc
+
+pub class_name_inside : (f : Terminal) → ends_class_name f ≡ true → is_inside f ≡ true
+class_name_inside = of_class_name (λ f. is_inside f ≡ true) refl refl refl
 
 pub end_inside : (f : Terminal) → is_end f ≡ true → is_inside f ≡ true
 end_inside = of_end (λ f. is_inside f ≡ true) refl
@@ -95,6 +104,10 @@ void_is _ e = cc
 pub left_brace_is : (f : Terminal) → is_left_brace f ≡ true → f ≡ LeftBrace
 left_brace_is LeftBrace e = refl
 left_brace_is _ e = cc
+
+pub left_brace_class_name : (f : Terminal) → is_left_brace f ≡ true → ends_class_name f ≡ true
+left_brace_class_name LeftBrace e = refl
+left_brace_class_name _ e = cc
 
 pub right_brace_is : (f : Terminal) → is_right_brace f ≡ true → f ≡ RightBrace
 right_brace_is = of_right_brace (λ f. f ≡ RightBrace) refl

@@ -17,7 +17,7 @@ use Rattle.kr_parse_grammar.specs.Grammar.{at, Class, Der}
 use Rattle.kr_parse_grammar.specs.Machine.{Runs, done, start}
 use Rattle.kr_parse_laws.specs.Laws.{Completeness, OneTree}
 use Rattle.kr_parse_laws.proofs.CompleteSteps.{same}
-use Rattle.kr_parse_laws.proofs.CompleteClaims.{Optional, absent, present, Listed, end, next, Parted, last, comma, ends_operand, ends_suffixes, is_assigning, NameClaim, ReferenceClaim, AnyTypeClaim, PrimaryClaim, OperandClaim, OperationClaim, ConditionalClaim, AssignmentClaim, ExpressionClaim, DeclaratorClaim, LocalClaim, StatementExpressionClaim, EvaluatedClaim, StatementClaim, BlockStatementClaim, ForInitialClaim, ParameterClaim, ResultClaim, ContractClaim, ConstructorCallClaim, ExtendedClaim, ClassClaim, MemberClaim, MembersClaim, ClassesClaim}
+use Rattle.kr_parse_laws.proofs.CompleteClaims.{Optional, absent, present, Listed, end, next, Parted, last, comma, ends_operand, ends_suffixes, is_assigning, NameClaim, ReferenceClaim, AnyTypeClaim, PrimaryClaim, OperandClaim, OperationClaim, ConditionalClaim, AssignmentClaim, ExpressionClaim, DeclaratorClaim, LocalClaim, StatementExpressionClaim, EvaluatedClaim, StatementClaim, BlockStatementClaim, ForInitialClaim, ParameterClaim, ResultClaim, ContractClaim, ConstructorCallClaim, ExtendedClaim, ClassClaim, MemberClaim, MembersClaim, ClassesClaim, CaughtClaim, CatchClaim}
 use Rattle.kr_parse_laws.proofs.CompleteTypes as types
 use Rattle.kr_parse_laws.proofs.CompleteTypes.{simple_name_claim, qualified_name_claim, primitive_claim}
 use Rattle.kr_parse_laws.proofs.CompleteGenerics.{generic_claim, array_claim, reference_claim}
@@ -28,9 +28,9 @@ use Rattle.kr_parse_laws.proofs.CompleteOperands.{postfix_of_primary, step_postf
 use Rattle.kr_parse_laws.proofs.CompleteChains.{operand_claim, binary_claim, test_claim}
 use Rattle.kr_parse_laws.proofs.CompleteExpressions.{operation_claim, choice_claim, assignment_by, conditional_claim, assignment_claim}
 use Rattle.kr_parse_laws.proofs.CompleteItems.{declarator_claim, initialised_claim, local_claim, final_local_claim, assigns_claim, steps_claim, is_stepped_claim, invokes_claim, evaluated_claim}
-use Rattle.kr_parse_laws.proofs.CompleteStatements.{local_statement_claim, statement_claim, block_claim, empty_claim, evaluate_claim, return_claim, break_claim, continue_claim, if_then_claim, if_else_claim, while_claim, do_claim, for_claim, for_local_claim, for_expressions_claim}
+use Rattle.kr_parse_laws.proofs.CompleteStatements.{local_statement_claim, statement_claim, block_claim, empty_claim, evaluate_claim, return_claim, throw_claim, caught_claim, final_caught_claim, catch_claim, try_claim, break_claim, continue_claim, if_then_claim, if_else_claim, while_claim, do_claim, for_claim, for_local_claim, for_expressions_claim}
 use Rattle.kr_parse_laws.proofs.CompleteMembers as members
-use Rattle.kr_parse_laws.proofs.CompleteMembers.{parameter_claim, final_parameter_claim, void_claim, result_claim, calls_super_claim, plain_claim, precondition_claim, postcondition_claim, nested_claim, constructor_claim}
+use Rattle.kr_parse_laws.proofs.CompleteMembers.{parameter_claim, final_parameter_claim, void_claim, result_claim, calls_super_claim, plain_claim, precondition_claim, postcondition_claim, exception_claim, named_exception_claim, nested_claim, constructor_claim}
 use Rattle.kr_parse_laws.proofs.CompleteClasses as classes
 use Rattle.kr_parse_laws.proofs.CompleteClasses.{no_member_claim, skip_member_claim, members_claim, not_extended_claim, extended_claim, no_class_claim, skip_class_claim, classes_claim, heading}
 
@@ -53,6 +53,8 @@ Claim grammar.Evaluated = EvaluatedClaim
 Claim grammar.BlockStatement = BlockStatementClaim
 Claim grammar.Statement = StatementClaim
 Claim grammar.ForInitial = ForInitialClaim
+Claim grammar.Caught = CaughtClaim
+Claim grammar.Catch = CatchClaim
 Claim grammar.Parameter = ParameterClaim
 Claim grammar.ResultType = ResultClaim
 Claim grammar.ConstructorCall = ConstructorCallClaim
@@ -140,6 +142,11 @@ complete (grammar.if_else {i = i} {m = m} {n = n} {r = r} {c = c} {s = s} {u = u
 complete (grammar.while {i = i} {m = m} {r = r} {c = c} {s = s} a b d p q e g h) = while_claim i m r c s a b d (ap terminal_of p) (ap terminal_of q) (complete e) (ap terminal_of g) (complete h)
 complete (grammar.do_while {i = i} {m = m} {r = r} {c = c} {s = s} a b d e g p x q h y w z) = do_claim i m r c s a b d e g (ap terminal_of p) (complete x) (ap terminal_of q) (ap terminal_of h) (complete y) (ap terminal_of w) (ap terminal_of z)
 complete (grammar.for {i = i} {j = j} {m = m} {n = n} {r = r} {k = k} {c = c} {u = u} {s = s} a b d e g p q x h y w z l v) = for_claim i j m n r k c u s a b d e g (ap terminal_of p) (ap terminal_of q) (complete x) (ap terminal_of h) (complete y) (ap terminal_of w) (complete z) (ap terminal_of l) (complete v)
+complete (grammar.throw {i = i} {r = r} {t = t} a b p d q) = throw_claim i r t a b (ap terminal_of p) (complete d) (ap terminal_of q)
+complete (grammar.try {i = i} {m = m} {k = k} {r = r} {t = t} {c = c} {u = u} a b d p q x h y z) = try_claim i m k r t c u a b d (ap terminal_of p) (ap terminal_of q) (complete x) (ap terminal_of h) (complete y) (complete z)
+complete (grammar.caught {i = i} {r = r} {t = t} n d p) = caught_claim i r t n (complete d) (ap terminal_of p)
+complete (grammar.final_caught {i = i} {r = r} {t = t} a n p d q) = final_caught_claim i r t a n (ap terminal_of p) (complete d) (ap terminal_of q)
+complete (grammar.catch {i = i} {m = m} {r = r} {t = t} {u = u} a b d e g p q x h l y w) = catch_claim i m r t u a b d e g (ap terminal_of p) (ap terminal_of q) (complete x) (ap terminal_of h) (ap terminal_of l) (complete y) (ap terminal_of w)
 complete (grammar.for_local {i = i} {r = r} {t = t} d) = for_local_claim i r t (complete d)
 complete (grammar.for_expressions d) = for_expressions_claim (complete d)
 complete (grammar.parameter {i = i} {r = r} {t = t} n d p) = parameter_claim i r t n (complete d) (ap terminal_of p)
@@ -151,6 +158,8 @@ complete (grammar.nested {o = o} {i = i} {j = j} {r = r} {f = f} {t = t} m h g d
 complete (grammar.field {o = o} {n = n} {i = i} {j = j} {m = m} {r = r} {f = f} {t = t} {u = u} a d h e g p) = plain_claim o n i r (trees.Field (at j) f.is_static f.is_final t u) (members.field_claim o n i j m r f t u a d h (complete e) (complete g) (ap terminal_of p))
 complete (grammar.precondition {i = i} {r = r} {t = t} a b c p q d w) = precondition_claim i r t a b c (ap terminal_of p) (ap terminal_of q) (complete d) (ap terminal_of w)
 complete (grammar.postcondition {i = i} {r = r} {t = t} a b c p q d w) = postcondition_claim i r t a b c (ap terminal_of p) (ap terminal_of q) (complete d) (ap terminal_of w)
+complete (grammar.exception {i = i} {m = m} {r = r} {t = t} {u = u} a b c d e p q s x h y w) = exception_claim i m r t u a b c d e (ap terminal_of p) (ap terminal_of q) (ap terminal_of s) (complete x) (ap terminal_of h) (complete y) (ap terminal_of w)
+complete (grammar.named_exception {i = i} {m = m} {r = r} {t = t} {u = u} a b c n d e p q s x l h y w) = named_exception_claim i m r t u a b c n d e (ap terminal_of p) (ap terminal_of q) (ap terminal_of s) (complete x) (ap terminal_of l) (ap terminal_of h) (complete y) (ap terminal_of w)
 complete (grammar.method {o = o} {n = n} {h = y0} {i = i} {j = j} {m = m} {k = k} {r = r} {f = f} {v = v} {t = t} {u = u} {s = s} a b c d e ks x y p q z g h w l) = members.method_claim o n y0 i j m k r f v t u s a b c d e (complete ks) x (complete y) (ap terminal_of p) (ap terminal_of q) (complete z) (ap terminal_of g) (ap terminal_of h) (complete w) (ap terminal_of l)
 complete (grammar.constructor {o = o} {n = n} {i = i} {m = m} {j = j} {k = k} {r = r} {u = u} {s = s} {t = t} a b c d e x p y q z g h w v l) = plain_claim o n i r (trees.Constructor a.place u s t) (constructor_claim o n i m j k r u s t a b c d e x (ap terminal_of p) y (ap terminal_of q) (complete z) (ap terminal_of g) (ap terminal_of h) (complete w) (complete v) (ap terminal_of l))
 complete (grammar.no_member {o = o} {n = n} {i = i}) = no_member_claim o n i

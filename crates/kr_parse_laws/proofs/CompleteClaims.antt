@@ -20,7 +20,7 @@ use Rattle.kr_parse_grammar.specs.declared.goal.Symbol.TheVariants.{Take, Keep, 
 use Rattle.kr_parse_grammar.specs.Terminals.{terminal_of}
 use Rattle.kr_parse_grammar.specs.Values.{StackItem, mark, word, pair, part, member, owner, tag, is_name, no_modifiers}
 use Rattle.kr_parse_grammar.specs.Made.{compared}
-pub use Rattle.kr_parse_grammar.specs.State.{closes}
+pub use Rattle.kr_parse_grammar.specs.State.{closes, ends_class_name}
 use Rattle.kr_parse_grammar.specs.Grammar.{at, EndsOpen}
 use Rattle.kr_parse_grammar.specs.Machine.{ahead, rule, starts_unary, ends_expression, level_of, Runs}
 
@@ -218,7 +218,7 @@ pub record NameClaim (i : List Lexeme) (t : Tree) (r : List Lexeme) : Type 0 whe
   pub loop : (g : Goal) (ss : List Symbol) (vs ws : List StackItem) → Loops g → Plain vs → Runs (Want g ∷ ss) (value ∷ vs) r ws → Runs (Word ∷ Want g ∷ ss) vs i ws
   pub typed : (ss : List Symbol) (vs ws : List StackItem) → ahead r ≢ terminals.Dot → Runs (Want goals.TypeTail ∷ ss) (value ∷ vs) r ws → Runs (Word ∷ Want goals.TypeName ∷ ss) vs i ws
   pub member : (ss : List Symbol) (vs ws : List StackItem) → is_tail (ahead r) ≡ true → Runs (Want goals.TypeTail ∷ Word ∷ Want goals.FieldOrMethod ∷ ss) (value ∷ vs) r ws → Runs (Word ∷ Want goals.MemberName ∷ ss) vs i ws
-  pub extends : (ss : List Symbol) (vs ws : List StackItem) → ahead r ≡ terminals.LeftBrace → Runs ss (part (at i) forms.Type t ∷ vs) r ws → Runs (Word ∷ Want goals.ClassTail ∷ ss) vs i ws
+  pub extends : (ss : List Symbol) (vs ws : List StackItem) → ends_class_name (ahead r) ≡ true → Runs ss (part (at i) forms.Type t ∷ vs) r ws → Runs (Word ∷ Want goals.ClassTail ∷ ss) vs i ws
 
 -- no operand begins after a `>`
 abbrev pub Quiet : List Lexeme → Type 0
@@ -258,9 +258,9 @@ pub record EvaluatedClaim (i : List Lexeme) (t : Tree) (r : List Lexeme) : Type 
   pub simple : (ss : List Symbol) (vs ws : List StackItem) → closes (ahead r) ≡ true → Runs ss (part (at i) forms.Other t ∷ vs) r ws → Runs (Want goals.StatementExpression ∷ Build makes.ExpressionStatement ∷ ss) vs i ws
   pub item : (ss : List Symbol) (vs ws : List StackItem) → closes (ahead r) ≡ true → Plain vs → Runs ss (part (at i) forms.Other t ∷ vs) r ws → Runs (Want goals.Item ∷ ss) vs i ws
 
--- no `else` follows a statement that could take it
+-- no `else` follows a statement that could take it, and no `catch` follows a statement
 abbrev pub NoElse : Tree → List Lexeme → Type 0
-NoElse t r = EndsOpen t → ahead r ≡ terminals.Else → ⊥
+NoElse t r = (EndsOpen t → ahead r ≡ terminals.Else → ⊥) × (ahead r ≡ terminals.Catch → ⊥)
 
 pub record StatementClaim (i : List Lexeme) (t : Tree) (r : List Lexeme) : Type 0 where
   pub simple : (ss : List Symbol) (vs ws : List StackItem) → NoElse t r → Runs ss (part (at i) forms.Other t ∷ vs) r ws → Runs (Want goals.Statement ∷ ss) vs i ws
@@ -268,6 +268,13 @@ pub record StatementClaim (i : List Lexeme) (t : Tree) (r : List Lexeme) : Type 
 
 abbrev pub BlockStatementClaim : List Lexeme → Tree → List Lexeme → Type 0
 BlockStatementClaim i t r = (ss : List Symbol) (vs ws : List StackItem) → NoElse t r → Plain vs → Any ss vs t r ws → Runs (Want goals.BlockStatement ∷ ss) vs i ws
+
+abbrev pub CaughtClaim : List Lexeme → Tree → List Lexeme → Type 0
+CaughtClaim i t r = (ss : List Symbol) (vs ws : List StackItem) → Any ss vs t r ws → Runs (Want goals.CaughtParameter ∷ ss) vs i ws
+
+pub record CatchClaim (i : List Lexeme) (t : Tree) (r : List Lexeme) : Type 0 where
+  pub starts : ahead i ≡ terminals.Catch
+  pub taken : (ss : List Symbol) (vs ws : List StackItem) → Any ss vs t r ws → Runs (Want goals.Catch ∷ ss) vs i ws
 
 abbrev pub ForInitialClaim : List Lexeme → Tree → List Lexeme → Type 0
 ForInitialClaim i t r = (ss : List Symbol) (vs ws : List StackItem) → ahead r ≡ terminals.Semicolon → Plain vs → Any ss vs t r ws → Runs (Want goals.Item ∷ Want goals.MoreInitial ∷ ss) vs i ws

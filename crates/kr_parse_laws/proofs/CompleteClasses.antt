@@ -45,7 +45,7 @@ pub not_extended_claim : (i : List Lexeme) → ExtendedClaim i trees.Nil i
 not_extended_claim i = λ ss vs ws e k. step goals.Extended terminals.LeftBrace ss vs ws i e (build (k nowhere forms.Other))
 
 pub extended_claim : (i r : List Lexeme) (t : Tree) (a : Lexeme) → terminal_of a.kind ≡ terminals.Extends → NameClaim i t r → ExtendedClaim (a ∷ i) t r
-extended_claim i r t a ka n = λ ss vs ws e k. step goals.Extended terminals.Extends ss vs ws (a ∷ i) ka (take a ka (n.extends ss vs ws e (k (at i) forms.Type)))
+extended_claim i r t a ka n = λ ss vs ws e k. step goals.Extended terminals.Extends ss vs ws (a ∷ i) ka (take a ka (n.extends ss vs ws (rw e refl) (k (at i) forms.Type)))
 
 pub class_claim : (n : Bool) (i m r : List Lexeme) (t u : Tree) (a b c d : Lexeme) → terminal_of a.kind ≡ terminals.Class → terminal_of b.kind ≡ terminals.Identifier → ExtendedClaim i t (c ∷ m) → terminal_of c.kind ≡ terminals.LeftBrace
     → MembersClaim b.text n m u (d ∷ r) → terminal_of d.kind ≡ terminals.RightBrace → ClassClaim n (a ∷ b ∷ i) (trees.Class b.place b.text t u) r

@@ -27,7 +27,7 @@ use Rattle.kr_parse_grammar.specs.Grammar as grammar
 use Rattle.kr_parse_grammar.specs.Grammar.{at, Modified}
 use Rattle.kr_parse_grammar.specs.Machine.{ahead, Runs, take, keep, name, spell, build}
 use Rattle.kr_parse_laws.proofs.CompleteSteps.{open_at, step, step_with, name_inv, take_kind, build_inv}
-use Rattle.kr_parse_laws.proofs.CompleteClaims.{Any, Optional, absent, present, Listed, end, next, Parted, last, comma, ExpressionClaim, AnyTypeClaim, starts_type, DeclaratorClaim, BlockStatementClaim, ParameterClaim, ResultClaim, Begun, ContractClaim, ConstructorCallClaim, ClassClaim, PlainClaim, others, MemberClaim}
+use Rattle.kr_parse_laws.proofs.CompleteClaims.{Any, Optional, absent, present, Listed, end, next, Parted, last, comma, ExpressionClaim, NameClaim, AnyTypeClaim, starts_type, DeclaratorClaim, BlockStatementClaim, ParameterClaim, ResultClaim, Begun, ContractClaim, ConstructorCallClaim, ClassClaim, PlainClaim, others, MemberClaim}
 use Rattle.std.specs.Str.{bytes_eq}
 use Rattle.std.proofs.lemmas.Slice.Eq.{bytes_eq-Decides}
 use Rattle.kr_parse_laws.proofs.CompleteSteps.{keep_inv}
@@ -213,6 +213,37 @@ postcondition_claim i r t a b c ka kb d kc = record {
   taken = λ ss vs ws k. keep a ka
       (step goals.Contract terminals.Ensures ss (mark a.kind a.place ∷ vs) ws (b ∷ i) kb
       (take b kb (d.simple (Take terminals.Semicolon ∷ Build makes.Ensures ∷ ss) (mark a.kind a.place ∷ vs) ws (rw kc refl) (λ f. take c kc (build (k a.place forms.Other))))));
+}
+
+pub exception_claim : (i m r : List Lexeme) (t u : Tree) (a b c d e : Lexeme) → terminal_of a.kind ≡ terminals.Contract → terminal_of b.kind ≡ terminals.Signals → terminal_of c.kind ≡ terminals.LeftParenthesis
+    → NameClaim i t (d ∷ m) → terminal_of d.kind ≡ terminals.RightParenthesis → ExpressionClaim m u (e ∷ r) → terminal_of e.kind ≡ terminals.Semicolon → ContractClaim (a ∷ b ∷ c ∷ i) (trees.Signals a.place t u) r
+exception_claim i m r t u a b c d e ka kb kc n kd x ke = record {
+  starts = ka;
+  taken = λ ss vs ws k. keep a ka
+      (step goals.Contract terminals.Signals ss (mark a.kind a.place ∷ vs) ws (b ∷ c ∷ i) kb
+      (take b kb
+      (take c kc
+      (n.extends (Want goals.ThrownName ∷ Take terminals.RightParenthesis ∷ Want goals.Expression ∷ Take terminals.Semicolon ∷ Build makes.Signals ∷ ss) (mark a.kind a.place ∷ vs) ws (rw kd refl)
+      (step goals.ThrownName terminals.RightParenthesis (Take terminals.RightParenthesis ∷ Want goals.Expression ∷ Take terminals.Semicolon ∷ Build makes.Signals ∷ ss) (part (at i) forms.Type t ∷ mark a.kind a.place ∷ vs) ws (d ∷ m) kd
+      (take d kd
+      (x.simple (Take terminals.Semicolon ∷ Build makes.Signals ∷ ss) (part (at i) forms.Type t ∷ mark a.kind a.place ∷ vs) ws (rw ke refl) (λ f. take e ke (build (k a.place forms.Other))))))))));
+}
+
+pub named_exception_claim : (i m r : List Lexeme) (t u : Tree) (a b c n d e : Lexeme) → terminal_of a.kind ≡ terminals.Contract → terminal_of b.kind ≡ terminals.Signals → terminal_of c.kind ≡ terminals.LeftParenthesis
+    → NameClaim i t (n ∷ d ∷ m) → terminal_of n.kind ≡ terminals.Identifier → terminal_of d.kind ≡ terminals.RightParenthesis → ExpressionClaim m u (e ∷ r) → terminal_of e.kind ≡ terminals.Semicolon
+    → ContractClaim (a ∷ b ∷ c ∷ i) (trees.Signals a.place (trees.Parameter n.place t n.text) u) r
+named_exception_claim i m r t u a b c n d e ka kb kc x kn kd y ke = record {
+  starts = ka;
+  taken = λ ss vs ws k. keep a ka
+      (step goals.Contract terminals.Signals ss (mark a.kind a.place ∷ vs) ws (b ∷ c ∷ i) kb
+      (take b kb
+      (take c kc
+      (x.extends (Want goals.ThrownName ∷ Take terminals.RightParenthesis ∷ Want goals.Expression ∷ Take terminals.Semicolon ∷ Build makes.Signals ∷ ss) (mark a.kind a.place ∷ vs) ws (rw kn refl)
+      (step goals.ThrownName terminals.Identifier (Take terminals.RightParenthesis ∷ Want goals.Expression ∷ Take terminals.Semicolon ∷ Build makes.Signals ∷ ss) (part (at i) forms.Type t ∷ mark a.kind a.place ∷ vs) ws (n ∷ d ∷ m) kn
+      (name n kn
+      (build
+      (take d kd
+      (y.simple (Take terminals.Semicolon ∷ Build makes.Signals ∷ ss) (part n.place forms.Other (trees.Parameter n.place t n.text) ∷ mark a.kind a.place ∷ vs) ws (rw ke refl) (λ f. take e ke (build (k a.place forms.Other))))))))))));
 }
 
 contracts : {i r : List Lexeme} {t : Tree} → Listed ContractClaim i t r → ahead r ≢ terminals.Contract → (ss : List Symbol) (vs ws : List StackItem) → Any ss vs t r ws → Runs (Want goals.Contracts ∷ ss) vs i ws

@@ -9,15 +9,15 @@ use Rattle.kr_parse_grammar.specs.declared.value.Form.TheVariants as forms
 use Rattle.kr_parse_grammar.specs.declared.goal.Goal.TheVariants as goals
 use Rattle.kr_parse_grammar.specs.declared.goal.Make.TheVariants as makes
 use Rattle.kr_parse_grammar.specs.declared.goal.Symbol.{Symbol}
-use Rattle.kr_parse_grammar.specs.declared.goal.Symbol.TheVariants.{Take, Want, Build}
+use Rattle.kr_parse_grammar.specs.declared.goal.Symbol.TheVariants.{Take, Keep, Word, Want, Build}
 use Rattle.kr_parse_grammar.specs.Terminals.{terminal_of}
 use Rattle.kr_parse_grammar.specs.Values.{StackItem, mark, part}
 use Rattle.kr_parse_grammar.specs.Made.{jump}
 use Rattle.kr_parse_grammar.specs.Grammar.{at, EndsOpen}
-use Rattle.kr_parse_grammar.specs.Machine.{ahead, starts_unary, Runs, take, keep, build}
+use Rattle.kr_parse_grammar.specs.Machine.{ahead, starts_unary, Runs, take, keep, name, build}
 use Rattle.kr_parse_laws.proofs.CompleteSteps.{open_at, step}
 use Rattle.kr_parse_laws.proofs.CompleteOperators.{expression_starts}
-use Rattle.kr_parse_laws.proofs.CompleteClaims.{Any, Optional, absent, present, Listed, end, next, Parted, last, comma, Plain, ExpressionClaim, starts_local, LocalClaim, StatementExpressionClaim, EvaluatedClaim, NoElse, StatementClaim, BlockStatementClaim, ForInitialClaim}
+use Rattle.kr_parse_laws.proofs.CompleteClaims.{Any, Optional, absent, present, Listed, end, next, Parted, last, comma, Plain, ExpressionClaim, starts_local, LocalClaim, StatementExpressionClaim, EvaluatedClaim, NoElse, NameClaim, CaughtClaim, CatchClaim, StatementClaim, BlockStatementClaim, ForInitialClaim}
 use Rattle.kr_parse_laws.proofs.CompleteOperands.{differ}
 use Rattle.kr_parse_laws.proofs.CompleteItems.{statement_starts}
 use Rattle.kr_base.specs.Places.{nowhere}
@@ -37,6 +37,8 @@ begins_statement terminals.If = true
 begins_statement terminals.While = true
 begins_statement terminals.Do = true
 begins_statement terminals.For = true
+begins_statement terminals.Throw = true
+begins_statement terminals.Try = true
 begins_statement _ = false
 
 statement_by : (k : Terminal) (i r : List Lexeme) (t : Tree) → ahead i ≡ k → begins_statement k ≡ true
@@ -65,11 +67,15 @@ statements_else : (ss : List Symbol) (vs ws : List StackItem) (i : List Lexeme) 
 statements_else ss vs ws i d e = no_expression terminals.Else refl (Build makes.ExpressionStatement ∷ Take terminals.Semicolon ∷ Want goals.Statements ∷ Build makes.Cons ∷ ss) vs ws i e
     (open_at goals.Statement terminals.Else e (open_at goals.BlockStatement terminals.Else e (open_at goals.Statements terminals.Else e d)))
 
+statements_catch : (ss : List Symbol) (vs ws : List StackItem) (i : List Lexeme) → Runs (Want goals.Statements ∷ ss) vs i ws → ahead i ≡ terminals.Catch → ⊥
+statements_catch ss vs ws i d e = no_expression terminals.Catch refl (Build makes.ExpressionStatement ∷ Take terminals.Semicolon ∷ Want goals.Statements ∷ Build makes.Cons ∷ ss) vs ws i e
+    (open_at goals.Statement terminals.Catch e (open_at goals.BlockStatement terminals.Catch e (open_at goals.Statements terminals.Catch e d)))
+
 pub statements : {i r : List Lexeme} {t : Tree} → Listed BlockStatementClaim i t r → ahead r ≡ terminals.RightBrace → (ss : List Symbol) (vs ws : List StackItem) → Plain vs → Any ss vs t r ws → Runs (Want goals.Statements ∷ ss) vs i ws
 statements (end {i = i}) e = λ ss vs ws plain k. step goals.Statements terminals.RightBrace ss vs ws i e (build (k nowhere forms.Other))
 statements (next {i = i} {m = m} {t = t} d rest) e = λ ss vs ws plain k.
     let further : Any (Want goals.Statements ∷ Build makes.Cons ∷ ss) vs t m ws = λ p f. statements rest e (Build makes.Cons ∷ ss) (part p f t ∷ vs) ws (λ q n. refl) (λ q g. build (k p forms.Other)) in
-    statements_enter ss vs ws i (d (Want goals.Statements ∷ Build makes.Cons ∷ ss) vs ws (λ h z. statements_else (Build makes.Cons ∷ ss) (part nowhere forms.Other t ∷ vs) ws m (further nowhere forms.Other) z) plain further)
+    statements_enter ss vs ws i (d (Want goals.Statements ∷ Build makes.Cons ∷ ss) vs ws (λ h z. statements_else (Build makes.Cons ∷ ss) (part nowhere forms.Other t ∷ vs) ws m (further nowhere forms.Other) z, λ z. statements_catch (Build makes.Cons ∷ ss) (part nowhere forms.Other t ∷ vs) ws m (further nowhere forms.Other) z) plain further)
 
 pub local_statement_claim : (i r : List Lexeme) (t : Tree) (a : Lexeme) → LocalClaim i t (a ∷ r) → terminal_of a.kind ≡ terminals.Semicolon → BlockStatementClaim i t r
 local_statement_claim i r t a d ka = λ ss vs ws far plain k. go (ahead i) refl d.starts ss vs ws (d.item (Take terminals.Semicolon ∷ ss) vs ws ka plain (λ p f. take a ka (k p f)))
@@ -116,6 +122,8 @@ evaluate_claim i r t a d ka = record {
         go terminals.While e z = cc
         go terminals.Do e z = cc
         go terminals.For e z = cc
+        go terminals.Throw e z = cc
+        go terminals.Try e z = cc
         go h e z = step goals.Statement h ss vs ws i e (run ss vs ws k)
 
     block : (ss : List Symbol) (vs ws : List StackItem) → Plain vs → Runs ss (part (at i) forms.Other t ∷ vs) r ws → Runs (Want goals.BlockStatement ∷ ss) vs i ws
@@ -165,8 +173,8 @@ if_then_claim i m r c s a b d ka kb e kd f = statement_by terminals.If (a ∷ b 
     (take b kb
     (e.simple (Take terminals.RightParenthesis ∷ Want goals.Statement ∷ Want goals.ElsePart ∷ ss) (mark a.kind a.place ∷ vs) ws (rw kd refl)
     (λ g. take d kd
-    (f.simple (Want goals.ElsePart ∷ ss) (part (at i) g c ∷ mark a.kind a.place ∷ vs) ws (λ h z. far tt z)
-    (no_else ss (part (at m) forms.Other s ∷ part (at i) g c ∷ mark a.kind a.place ∷ vs) ws r (far tt) (build k))))))))
+    (f.simple (Want goals.ElsePart ∷ ss) (part (at i) g c ∷ mark a.kind a.place ∷ vs) ws (λ h z. far.0 tt z, far.1)
+    (no_else ss (part (at m) forms.Other s ∷ part (at i) g c ∷ mark a.kind a.place ∷ vs) ws r (far.0 tt) (build k))))))))
 
 pub if_else_claim : (i m n r : List Lexeme) (c s u : Tree) (a b d e : Lexeme) → terminal_of a.kind ≡ terminals.If → terminal_of b.kind ≡ terminals.LeftParenthesis → ExpressionClaim i c (d ∷ m) → terminal_of d.kind ≡ terminals.RightParenthesis
     → StatementClaim m s (e ∷ n) → terminal_of e.kind ≡ terminals.Else → (EndsOpen s → ⊥) → StatementClaim n u r → StatementClaim (a ∷ b ∷ i) (trees.IfElse a.place c s u) r
@@ -176,7 +184,7 @@ if_else_claim i m n r c s u a b d e ka kb x kd f ke shut w = statement_by termin
     (take b kb
     (x.simple (Take terminals.RightParenthesis ∷ Want goals.Statement ∷ Want goals.ElsePart ∷ ss) (mark a.kind a.place ∷ vs) ws (rw kd refl)
     (λ g. take d kd
-    (f.simple (Want goals.ElsePart ∷ ss) (part (at i) g c ∷ mark a.kind a.place ∷ vs) ws (λ h z. shut h)
+    (f.simple (Want goals.ElsePart ∷ ss) (part (at i) g c ∷ mark a.kind a.place ∷ vs) ws (λ h z. shut h, λ z. let y : terminals.Else ≡ terminals.Catch = differ (terminal_of e.kind) terminals.Else terminals.Catch ke z in cc)
     (step goals.ElsePart terminals.Else ss (part (at m) forms.Other s ∷ part (at i) g c ∷ mark a.kind a.place ∷ vs) ws (e ∷ n) ke
     (take e ke (w.simple (Build makes.IfElse ∷ ss) (part (at m) forms.Other s ∷ part (at i) g c ∷ mark a.kind a.place ∷ vs) ws far (build k))))))))))
 
@@ -195,11 +203,65 @@ do_claim i m r c s a b d e g ka f kb kd x ke kg = statement_by terminals.Do (a �
     (λ ss vs ws far k. step goals.Statement terminals.Do ss vs ws (a ∷ i) ka
     (keep a ka
     (f.simple (Take terminals.While ∷ Take terminals.LeftParenthesis ∷ Want goals.Expression ∷ Take terminals.RightParenthesis ∷ Take terminals.Semicolon ∷ Build makes.Do ∷ ss) (mark a.kind a.place ∷ vs) ws
-    (λ h z. let y : terminals.While ≡ terminals.Else = differ (terminal_of b.kind) terminals.While terminals.Else kb z in cc)
+    (λ h z. let y : terminals.While ≡ terminals.Else = differ (terminal_of b.kind) terminals.While terminals.Else kb z in cc, λ z. let y : terminals.While ≡ terminals.Catch = differ (terminal_of b.kind) terminals.While terminals.Catch kb z in cc)
     (take b kb
     (take d kd
     (x.simple (Take terminals.RightParenthesis ∷ Take terminals.Semicolon ∷ Build makes.Do ∷ ss) (part (at i) forms.Other s ∷ mark a.kind a.place ∷ vs) ws (rw ke refl)
     (λ h. take e ke (take g kg (build k)))))))))
+
+pub throw_claim : (i r : List Lexeme) (t : Tree) (a b : Lexeme) → terminal_of a.kind ≡ terminals.Throw → ExpressionClaim i t (b ∷ r) → terminal_of b.kind ≡ terminals.Semicolon → StatementClaim (a ∷ i) (trees.Throw a.place t) r
+throw_claim i r t a b ka d kb = statement_by terminals.Throw (a ∷ i) r (trees.Throw a.place t) ka refl
+    (λ ss vs ws far k. step goals.Statement terminals.Throw ss vs ws (a ∷ i) ka
+    (keep a ka (d.simple (Take terminals.Semicolon ∷ Build makes.Throw ∷ ss) (mark a.kind a.place ∷ vs) ws (rw kb refl) (λ f. take b kb (build k)))))
+
+-- `try`
+pub caught_claim : (i r : List Lexeme) (t : Tree) (n : Lexeme) → NameClaim i t (n ∷ r) → terminal_of n.kind ≡ terminals.Identifier → CaughtClaim i (trees.Parameter n.place t n.text) r
+caught_claim i r t n d kn = λ ss vs ws k. step goals.CaughtParameter terminals.Identifier ss vs ws i d.identifier
+    (d.extends (Word ∷ Build makes.Parameter ∷ ss) vs ws (rw kn refl) (name n kn (build (k n.place forms.Other))))
+
+pub final_caught_claim : (i r : List Lexeme) (t : Tree) (a n : Lexeme) → terminal_of a.kind ≡ terminals.Final → NameClaim i t (n ∷ r) → terminal_of n.kind ≡ terminals.Identifier → CaughtClaim (a ∷ i) (trees.Parameter n.place t n.text) r
+final_caught_claim i r t a n ka d kn = λ ss vs ws k. step goals.CaughtParameter terminals.Final ss vs ws (a ∷ i) ka
+    (take a ka (d.extends (Word ∷ Build makes.Parameter ∷ ss) vs ws (rw kn refl) (name n kn (build (k n.place forms.Other)))))
+
+pub catch_claim : (i m r : List Lexeme) (t u : Tree) (a b d e g : Lexeme) → terminal_of a.kind ≡ terminals.Catch → terminal_of b.kind ≡ terminals.LeftParenthesis → CaughtClaim i t (d ∷ e ∷ m) → terminal_of d.kind ≡ terminals.RightParenthesis
+    → terminal_of e.kind ≡ terminals.LeftBrace → Listed BlockStatementClaim m u (g ∷ r) → terminal_of g.kind ≡ terminals.RightBrace → CatchClaim (a ∷ b ∷ i) (trees.Catch a.place t (trees.Block e.place u)) r
+catch_claim i m r t u a b d e g ka kb x kd ke body kg = record {
+  starts = ka;
+  taken = λ ss vs ws k. step goals.Catch terminals.Catch ss vs ws (a ∷ b ∷ i) ka
+      (keep a ka
+      (take b kb
+      (x (Take terminals.RightParenthesis ∷ Keep terminals.LeftBrace ∷ Want goals.Statements ∷ Take terminals.RightBrace ∷ Build makes.Block ∷ Build makes.Catch ∷ ss) (mark a.kind a.place ∷ vs) ws
+      (λ p f. take d kd
+      (keep e ke
+      (statements body kg (Take terminals.RightBrace ∷ Build makes.Block ∷ Build makes.Catch ∷ ss) (mark e.kind e.place ∷ part p f t ∷ mark a.kind a.place ∷ vs) ws (λ q n. refl)
+      (λ q h. take g kg (build (build (k a.place forms.Other))))))))));
+}
+
+catches : {i r : List Lexeme} {t : Tree} → Listed CatchClaim i t r → (ahead r ≡ terminals.Catch → ⊥) → (ss : List Symbol) (vs ws : List StackItem) → Any ss vs t r ws → Runs (Want goals.Catches ∷ ss) vs i ws
+catches (end {i = i}) h = λ ss vs ws k. none ss vs ws i h (build (k nowhere forms.Other))
+  where
+    none : (ss : List Symbol) (vs ws : List StackItem) (i : List Lexeme) → (ahead i ≡ terminals.Catch → ⊥) → Runs (Build makes.Nil ∷ ss) vs i ws → Runs (Want goals.Catches ∷ ss) vs i ws
+    none ss vs ws i h d = go (ahead i) refl
+      where
+        go : (k : Terminal) → ahead i ≡ k → Runs (Want goals.Catches ∷ ss) vs i ws
+        go terminals.Catch e = absurd (h e)
+        go k e = step goals.Catches k ss vs ws i e d
+catches (next {i = i} {t = t} c rest) h = λ ss vs ws k. step goals.Catches terminals.Catch ss vs ws i c.starts
+    (c.taken (Want goals.Catches ∷ Build makes.Cons ∷ ss) vs ws
+    (λ p f. catches rest h (Build makes.Cons ∷ ss) (part p f t ∷ vs) ws (λ q g. build (k p forms.Other))))
+
+pub try_claim : (i m l r : List Lexeme) (t c u : Tree) (a b d : Lexeme) → terminal_of a.kind ≡ terminals.Try → terminal_of b.kind ≡ terminals.LeftBrace → Listed BlockStatementClaim i t (d ∷ m) → terminal_of d.kind ≡ terminals.RightBrace
+    → CatchClaim m c l → Listed CatchClaim l u r → StatementClaim (a ∷ b ∷ i) (trees.Try a.place (trees.Block b.place t) (trees.Cons c u)) r
+try_claim i m l r t c u a b d ka kb body kd x rest = statement_by terminals.Try (a ∷ b ∷ i) r (trees.Try a.place (trees.Block b.place t) (trees.Cons c u)) ka refl
+    (λ ss vs ws far k. step goals.Statement terminals.Try ss vs ws (a ∷ b ∷ i) ka
+    (keep a ka
+    (keep b kb
+    (statements body kd (Take terminals.RightBrace ∷ Build makes.Block ∷ Want goals.Catch ∷ Want goals.Catches ∷ Build makes.Cons ∷ Build makes.Try ∷ ss) (mark b.kind b.place ∷ mark a.kind a.place ∷ vs) ws (λ p n. refl)
+    (λ p f. take d kd
+    (build
+    (x.taken (Want goals.Catches ∷ Build makes.Cons ∷ Build makes.Try ∷ ss) (part b.place forms.Other (trees.Block b.place t) ∷ mark a.kind a.place ∷ vs) ws
+    (λ q g. catches rest far.1 (Build makes.Cons ∷ Build makes.Try ∷ ss) (part q g c ∷ part b.place forms.Other (trees.Block b.place t) ∷ mark a.kind a.place ∷ vs) ws
+    (λ o h. build (build k))))))))))
 
 -- The heads of loops.
 more_initial : {i r : List Lexeme} {t : Tree} → Parted EvaluatedClaim i t r → ahead r ≡ terminals.Semicolon → (ss : List Symbol) (vs ws : List StackItem) → Any ss vs t r ws

@@ -19,6 +19,7 @@ use Rattle.kr_parse_grammar.specs.Terminals.{terminal_of}
 use Rattle.kr_parse_grammar.specs.TokenMeanings.{primitive_of}
 use Rattle.kr_parse_grammar.specs.Values.{StackItem, mark, word, pair, part, tag, is_name}
 use Rattle.kr_parse_grammar.specs.Grammar.{at}
+use Rattle.kr_parse_grammar.specs.State.{ends_class_name}
 use Rattle.kr_parse_grammar.specs.Machine.{ahead, rule, starts_unary, starts_unsigned, Runs, take, keep, name, want, build}
 use Rattle.kr_parse_laws.proofs.CompleteSteps.{open_at, open_with, step, take_inv, take_kind}
 use Rattle.kr_parse_laws.proofs.CompleteOperators.{unsigned_starts, type_of, plain_name}
@@ -34,7 +35,7 @@ simple_name_claim i a ka = record {
   loop = λ g ss vs ws h plain d. name a ka d;
   typed = λ ss vs ws h d. name a ka (typed ss vs ws h d);
   member = λ ss vs ws h d. name a ka (member ss vs ws h d);
-  extends = λ ss vs ws h d. name a ka (step goals.ClassTail terminals.LeftBrace ss (word a.place a.text ∷ vs) ws i h (build d));
+  extends = λ ss vs ws h d. name a ka (ended ss vs ws h d);
 }
   where
     typed : (ss : List Symbol) (vs ws : List StackItem) → ahead i ≢ terminals.Dot → Runs (Want goals.TypeTail ∷ ss) (word a.place a.text ∷ vs) i ws → Runs (Want goals.TypeName ∷ ss) (word a.place a.text ∷ vs) i ws
@@ -51,6 +52,15 @@ simple_name_claim i a ka = record {
         go terminals.Less e z = step goals.MemberName terminals.Less ss (word a.place a.text ∷ vs) ws i e d
         go terminals.LeftBracket e z = step goals.MemberName terminals.LeftBracket ss (word a.place a.text ∷ vs) ws i e d
         go terminals.Identifier e z = step goals.MemberName terminals.Identifier ss (word a.place a.text ∷ vs) ws i e d
+        go k e z = cc
+
+    ended : (ss : List Symbol) (vs ws : List StackItem) → ends_class_name (ahead i) ≡ true → Runs ss (part a.place forms.Type (trees.NamedType a.place a.text) ∷ vs) i ws → Runs (Want goals.ClassTail ∷ ss) (word a.place a.text ∷ vs) i ws
+    ended ss vs ws h d = go (ahead i) refl h
+      where
+        go : (k : Terminal) → ahead i ≡ k → ends_class_name k ≡ true → Runs (Want goals.ClassTail ∷ ss) (word a.place a.text ∷ vs) i ws
+        go terminals.LeftBrace e z = step goals.ClassTail terminals.LeftBrace ss (word a.place a.text ∷ vs) ws i e (build d)
+        go terminals.Identifier e z = step goals.ClassTail terminals.Identifier ss (word a.place a.text ∷ vs) ws i e (build d)
+        go terminals.RightParenthesis e z = step goals.ClassTail terminals.RightParenthesis ss (word a.place a.text ∷ vs) ws i e (build d)
         go k e z = cc
 
 pub qualified_name_claim : (i : List Lexeme) (a d b : Lexeme) → terminal_of a.kind ≡ terminals.Identifier → terminal_of d.kind ≡ terminals.Dot → terminal_of b.kind ≡ terminals.Identifier → NameClaim (a ∷ d ∷ b ∷ i) (trees.QualifiedType a.place a.text b.text) i

@@ -2,7 +2,7 @@
 use Rattle.std.proofs.Common.{◌≡◌, ℕ, zero, suc, ◌+◌, ◌<◌, ◌≤◌, Bool, true, false, if◌then◌else◌, ltb, List, [], ◌∷◌, ◌++◌, Option, Some, None, refl, arith}
 use Rattle.std.proofs.lemmas.Bool.{ltb-true}
 use Rattle.kr_parse_grammar.specs.declared.terminal.Terminal.{Terminal}
-use Rattle.kr_parse_grammar.specs.declared.terminal.Terminal.TheVariants.{Access, Class, Comma, Complement, Compound, Dot, Else, End, Equal, Extends, Final, Greater, Identifier, Import, LeftBrace, LeftBracket, LeftParenthesis, Less, Literal, Package, Primitive, Question, RightBrace, RightBracket, RightParenthesis, Semicolon, Sign, Step, Super, Instanceof, Contract, Requires, Ensures}
+use Rattle.kr_parse_grammar.specs.declared.terminal.Terminal.TheVariants.{Access, Catch, Class, Comma, Complement, Compound, Dot, Else, End, Equal, Extends, Final, Greater, Identifier, Import, LeftBrace, LeftBracket, LeftParenthesis, Less, Literal, Package, Primitive, Question, RightBrace, RightBracket, RightParenthesis, Semicolon, Sign, Step, Super, Instanceof, Contract, Requires, Ensures, Signals, Try}
 use Rattle.kr_parse_grammar.specs.declared.value.Tag.{Tag}
 use Rattle.kr_parse_grammar.specs.declared.value.Tag.TheVariants as tags
 use Rattle.kr_parse_grammar.specs.declared.goal.Goal.{Goal}
@@ -70,7 +70,10 @@ lighter goals.Contracts Contract _ = refl
 lighter goals.Contracts _ _ = refl
 lighter goals.Contract Requires _ = refl
 lighter goals.Contract Ensures _ = refl
+lighter goals.Contract Signals _ = refl
 lighter goals.Contract _ _ = refl
+lighter goals.ThrownName Identifier _ = refl
+lighter goals.ThrownName _ _ = refl
 lighter goals.MethodAhead Access _ = refl
 lighter goals.MethodAhead _ _ = refl
 lighter goals.ContractedMethod _ _ = refl
@@ -116,11 +119,18 @@ lighter goals.ItemName _ _ = refl
 lighter goals.ItemBracket RightBracket _ = refl
 lighter goals.ItemBracket _ _ = refl
 lighter goals.Statement LeftBrace _ = refl
+lighter goals.Statement Try _ = refl
 lighter goals.Statement _ _ = refl
 lighter goals.OptionalExpression Semicolon _ = refl
 lighter goals.OptionalExpression _ _ = refl
 lighter goals.ElsePart Else _ = refl
 lighter goals.ElsePart _ _ = refl
+lighter goals.Catch Catch _ = refl
+lighter goals.Catch _ _ = refl
+lighter goals.Catches Catch _ = refl
+lighter goals.Catches _ _ = refl
+lighter goals.CaughtParameter Final _ = refl
+lighter goals.CaughtParameter _ _ = refl
 lighter goals.ForInitial Semicolon _ = refl
 lighter goals.ForInitial _ _ = refl
 lighter goals.MoreInitial Comma tags.Local = refl

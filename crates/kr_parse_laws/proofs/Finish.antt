@@ -8,7 +8,7 @@ use Rattle.kr_lex.specs.declared.kind.Kind.TheVariants as kinds
 use Rattle.kr_ast.specs.Tree as trees
 use Rattle.kr_ast.specs.Tree.{Tree}
 use Rattle.kr_parse_grammar.specs.declared.terminal.Terminal.{Terminal}
-use Rattle.kr_parse_grammar.specs.declared.terminal.Terminal.TheVariants.{End, Identifier, Literal, Primitive, Access, Static, Final, Package, Import, Class, Extends, Void, New, Super, Instanceof, Return, Break, Continue, If, Else, While, Do, For, LeftParenthesis, RightParenthesis, LeftBrace, RightBrace, LeftBracket, RightBracket, Semicolon, Comma, Dot, At, Question, Colon, Equal, Compound, Less, Greater, Star, Sign, Step, Complement, Or, And, BitOr, BitXor, BitAnd, Equality, Relation, Shift, Division, Contract, Requires, Ensures, Old, Outside}
+use Rattle.kr_parse_grammar.specs.declared.terminal.Terminal.TheVariants.{End, Identifier, Literal, Primitive, Access, Static, Final, Package, Import, Class, Extends, Void, New, Super, Instanceof, Return, Break, Continue, If, Else, While, Do, For, LeftParenthesis, RightParenthesis, LeftBrace, RightBrace, LeftBracket, RightBracket, Semicolon, Comma, Dot, At, Question, Colon, Equal, Compound, Less, Greater, Star, Sign, Step, Complement, Or, And, BitOr, BitXor, BitAnd, Equality, Relation, Shift, Division, Contract, Requires, Ensures, Old, Outside, Throw, Try, Catch, Signals}
 use Rattle.kr_parse_grammar.specs.declared.value.Form.{Form}
 use Rattle.kr_parse_grammar.specs.declared.value.Form.TheVariants as forms
 use Rattle.kr_parse_grammar.specs.declared.value.Modifiers.{Modifiers}
@@ -27,7 +27,7 @@ use Rattle.kr_parse_grammar.specs.Made.{made}
 use Rattle.kr_parse_grammar.specs.Machine.{ahead, rule, spelling, Runs, done, take, keep, name, leaf, spell, want, build}
 use Rattle.kr_parse_grammar.specs.State.{is_inside, closes, ends_primary, ends_type, ends_statement, follows, first_of, first, IsTaken, Good}
 use Rattle.kr_parse_laws.specs.Laws.{Productivity}
-use Rattle.kr_parse_laws.proofs.Behind.{void_is, of_closes, of_primary, of_type, end_is, semicolon_is, left_brace_is, right_brace_is, right_parenthesis_is, closes_primary, closes_type, closes_inside, primary_inside, type_inside, statement_inside, inside_apart}
+use Rattle.kr_parse_laws.proofs.Behind.{void_is, of_class_name, class_name_inside, of_closes, of_primary, of_type, end_is, semicolon_is, left_brace_is, right_brace_is, right_parenthesis_is, closes_primary, closes_type, closes_inside, primary_inside, type_inside, statement_inside, inside_apart}
 
 -- tokens that take the symbols; what they begin with is known, but for a chain of names that closes
 record Finish (ss : List Symbol) (vs : List StackItem) : Type 0 where
@@ -91,6 +91,10 @@ kind_of Equality = kinds.EqualEqual
 kind_of Relation = kinds.LessEqual
 kind_of Shift = kinds.LessLess
 kind_of Division = kinds.Slash
+kind_of Throw = kinds.Throw
+kind_of Try = kinds.Try
+kind_of Catch = kinds.Catch
+kind_of Signals = kinds.Signals
 kind_of Contract = kinds.Contract
 kind_of Requires = kinds.Requires
 kind_of Ensures = kinds.Ensures
@@ -258,7 +262,8 @@ finish_extended ss h d vs = by_equal goals.Extended (Build makes.Nil ∷ []) ss 
     (finish_build makes.Nil _ d vs)
 
 finish_class_tail : (ss : List Symbol) → follows goals.ClassTail (first ss) ≡ true → Finishes ss → Finishes (Want goals.ClassTail ∷ ss)
-finish_class_tail ss h d vs = by_equal goals.ClassTail (Build makes.TypeOfName ∷ []) ss vs LeftBrace (left_brace_is (first ss) h) refl refl refl refl
+finish_class_tail ss h d vs = by_equal goals.ClassTail (Build makes.TypeOfName ∷ []) ss vs (first ss) refl
+    (of_class_name (λ k. rule goals.ClassTail k (tag vs) ≡ Some (Build makes.TypeOfName ∷ [])) refl refl refl (first ss) h) refl refl (class_name_inside (first ss) h)
     (finish_build makes.TypeOfName _ d vs)
 
 finish_members : (ss : List Symbol) → follows goals.Members (first ss) ≡ true → Finishes ss → Finishes (Want goals.Members ∷ ss)
@@ -292,6 +297,22 @@ finish_statements ss h d vs = by_equal goals.Statements (Build makes.Nil ∷ [])
 finish_statement : (ss : List Symbol) → follows goals.Statement (first ss) ≡ true → Finishes ss → Finishes (Want goals.Statement ∷ ss)
 finish_statement ss h d vs = by_rule goals.Statement (Keep Semicolon ∷ Build makes.Empty ∷ []) ss vs refl refl refl
     (finish_keep Semicolon _ tt (finish_build makes.Empty _ d) vs)
+
+no_catch : (k : Terminal) (q : Tag) → ends_statement k ≡ true → rule goals.Catches k q ≡ Some (Build makes.Nil ∷ [])
+no_catch Catch q h = cc
+no_catch _ q h = refl
+
+finish_catches : (ss : List Symbol) → follows goals.Catches (first ss) ≡ true → Finishes ss → Finishes (Want goals.Catches ∷ ss)
+finish_catches ss h d vs = by_rule goals.Catches (Build makes.Nil ∷ []) ss vs (no_catch (first ss) (tag vs) h) refl (statement_inside (first ss) h)
+    (finish_build makes.Nil _ d vs)
+
+finish_caught_parameter : (ss : List Symbol) → follows goals.CaughtParameter (first ss) ≡ true → Finishes ss → Finishes (Want goals.CaughtParameter ∷ ss)
+finish_caught_parameter ss h d vs = by_rule goals.CaughtParameter (Word ∷ Want goals.ClassTail ∷ Word ∷ Build makes.Parameter ∷ []) ss vs refl refl refl
+    (finish_word _ (finish_class_tail _ refl (finish_word _ (finish_build makes.Parameter _ d))) vs)
+
+finish_catch : (ss : List Symbol) → follows goals.Catch (first ss) ≡ true → Finishes ss → Finishes (Want goals.Catch ∷ ss)
+finish_catch ss h d vs = by_rule goals.Catch (Keep Catch ∷ Take LeftParenthesis ∷ Want goals.CaughtParameter ∷ Take RightParenthesis ∷ Keep LeftBrace ∷ Want goals.Statements ∷ Take RightBrace ∷ Build makes.Block ∷ Build makes.Catch ∷ []) ss vs refl refl refl
+    (finish_keep Catch _ tt (finish_take LeftParenthesis _ tt (finish_caught_parameter _ refl (finish_take RightParenthesis _ tt (finish_keep LeftBrace _ tt (finish_statements _ refl (finish_take RightBrace _ tt (finish_build makes.Block _ (finish_build makes.Catch _ d)))))))) vs)
 
 finish_optional_expression : (ss : List Symbol) → follows goals.OptionalExpression (first ss) ≡ true → Finishes ss → Finishes (Want goals.OptionalExpression ∷ ss)
 finish_optional_expression ss h d vs = by_equal goals.OptionalExpression (Build makes.Nil ∷ []) ss vs Semicolon (semicolon_is (first ss) h) refl refl refl refl
@@ -356,6 +377,10 @@ finish_class_ahead ss h d vs = by_rule goals.ClassAhead (Take Class ∷ Word ∷
 finish_method : (ss : List Symbol) → follows goals.Method (first ss) ≡ true → Finishes ss → Finishes (Want goals.Method ∷ ss)
 finish_method ss h d vs = by_rule goals.Method (Take LeftParenthesis ∷ Want goals.Parameters ∷ Take RightParenthesis ∷ Take LeftBrace ∷ Want goals.Statements ∷ Take RightBrace ∷ Build makes.Method ∷ []) ss vs refl refl refl
     (finish_take LeftParenthesis _ tt (finish_parameters _ refl (finish_take RightParenthesis _ tt (finish_take LeftBrace _ tt (finish_statements _ refl (finish_take RightBrace _ tt (finish_build makes.Method _ d)))))) vs)
+
+finish_thrown_name : (ss : List Symbol) → follows goals.ThrownName (first ss) ≡ true → Finishes ss → Finishes (Want goals.ThrownName ∷ ss)
+finish_thrown_name ss h d vs = by_equal goals.ThrownName [] ss vs RightParenthesis (right_parenthesis_is (first ss) h) refl refl refl refl
+    (d vs)
 
 finish_contracts : (ss : List Symbol) → follows goals.Contracts (first ss) ≡ true → Finishes ss → Finishes (Want goals.Contracts ∷ ss)
 finish_contracts ss h d vs = by_equal goals.Contracts (Build makes.Nil ∷ []) ss vs Void (void_is (first ss) h) refl refl refl refl
@@ -564,6 +589,7 @@ finish_goal goals.Member ss h d = finish_member ss h d
 finish_goal goals.MemberName ss h d = finish_member_name ss h d
 finish_goal goals.Contracts ss h d = finish_contracts ss h d
 finish_goal goals.Contract ss h d = finish_contract ss h d
+finish_goal goals.ThrownName ss h d = finish_thrown_name ss h d
 finish_goal goals.MethodAhead ss h d = finish_method_ahead ss h d
 finish_goal goals.ContractedMethod ss h d = finish_contracted_method ss h d
 finish_goal goals.Method ss h d = finish_method ss h d
@@ -588,6 +614,9 @@ finish_goal goals.ItemBracket ss h d = finish_item_bracket ss h d
 finish_goal goals.Statement ss h d = finish_statement ss h d
 finish_goal goals.OptionalExpression ss h d = finish_optional_expression ss h d
 finish_goal goals.ElsePart ss h d = finish_else_part ss h d
+finish_goal goals.Catch ss h d = finish_catch ss h d
+finish_goal goals.Catches ss h d = finish_catches ss h d
+finish_goal goals.CaughtParameter ss h d = finish_caught_parameter ss h d
 finish_goal goals.ForInitial ss h d = finish_for_initial ss h d
 finish_goal goals.MoreInitial ss h d = finish_more_initial ss h d
 finish_goal goals.ForUpdates ss h d = finish_for_updates ss h d

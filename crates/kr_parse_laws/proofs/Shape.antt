@@ -1,7 +1,7 @@
 -- A rule keeps a good stack good.
 use Rattle.std.proofs.Common.{◌≡◌, ℕ, zero, suc, Bool, true, false, if◌then◌else◌, ltb, List, [], ◌∷◌, ◌++◌, Option, Some, None, refl, arith}
 use Rattle.kr_parse_grammar.specs.declared.terminal.Terminal.{Terminal}
-use Rattle.kr_parse_grammar.specs.declared.terminal.Terminal.TheVariants.{Access, At, Break, Class, Comma, Complement, Compound, Continue, Do, Dot, Else, End, Equal, Extends, Final, For, Greater, Identifier, If, Import, LeftBrace, LeftBracket, LeftParenthesis, Less, Literal, New, Package, Primitive, Question, Return, RightBrace, RightBracket, RightParenthesis, Semicolon, Sign, Star, Static, Step, Super, Void, While, Instanceof, Outside, Contract, Requires, Ensures, Old}
+use Rattle.kr_parse_grammar.specs.declared.terminal.Terminal.TheVariants.{Access, At, Break, Catch, Class, Comma, Complement, Compound, Continue, Do, Dot, Else, End, Equal, Extends, Final, For, Greater, Identifier, If, Import, LeftBrace, LeftBracket, LeftParenthesis, Less, Literal, New, Package, Primitive, Question, Return, RightBrace, RightBracket, RightParenthesis, Semicolon, Sign, Star, Static, Step, Super, Throw, Try, Void, While, Instanceof, Outside, Contract, Requires, Ensures, Signals, Old}
 use Rattle.kr_parse_grammar.specs.declared.value.Tag.{Tag}
 use Rattle.kr_parse_grammar.specs.declared.value.Tag.TheVariants as tags
 use Rattle.kr_parse_grammar.specs.declared.goal.Goal.{Goal}
@@ -11,7 +11,7 @@ use Rattle.kr_parse_grammar.specs.declared.goal.Symbol.TheVariants.{Want}
 use Rattle.kr_parse_grammar.specs.Machine.{ends_expression, level_of, infix_body, operators_rule, rule}
 use Rattle.kr_parse_grammar.specs.State.{first, IsTaken, Good}
 use Rattle.kr_parse_laws.specs.Laws.{Preservation}
-use Rattle.kr_parse_laws.proofs.Behind.{void_inside, end_inside, right_brace_inside, right_brace_statement, right_parenthesis_inside, right_parenthesis_closes, semicolon_closes, closes_primary, closes_type, primary_inside}
+use Rattle.kr_parse_laws.proofs.Behind.{void_inside, end_inside, right_brace_inside, right_brace_statement, right_parenthesis_inside, right_parenthesis_closes, semicolon_closes, closes_primary, closes_type, primary_inside, statement_inside, left_brace_class_name}
 
 abbrev GoodOf : Option (List Symbol) → List Symbol → Type 0
 GoodOf None ss = Unit {0}
@@ -58,7 +58,7 @@ good goals.ClassAhead Static _ ss h = (tt, h)
 good goals.ClassAhead Final _ ss h = (tt, h)
 good goals.ClassAhead Class _ ss h = (tt, (refl, (tt, (refl, (tt, h.1)))))
 good goals.ClassAhead _ _ _ _ = tt
-good goals.Extended Extends _ ss h = (tt, h)
+good goals.Extended Extends _ ss h = (tt, (left_brace_class_name (first ss) h.0, h.1))
 good goals.Extended _ _ ss h = h.1
 good goals.ClassTail Dot _ ss h = (tt, h.1)
 good goals.ClassTail _ _ ss h = h.1
@@ -81,7 +81,10 @@ good goals.Contracts Contract _ ss h = (tt, (void_inside (first ss) h.0, h))
 good goals.Contracts _ _ ss h = h.1
 good goals.Contract Requires _ ss h = (tt, (refl, (tt, h.1)))
 good goals.Contract Ensures _ ss h = (tt, (refl, (tt, h.1)))
+good goals.Contract Signals _ ss h = (tt, (tt, (refl, (refl, (tt, (refl, (tt, h.1)))))))
 good goals.Contract _ _ _ _ = tt
+good goals.ThrownName Identifier _ ss h = h.1
+good goals.ThrownName _ _ ss h = h.1
 good goals.MethodAhead Access _ ss h = (tt, h)
 good goals.MethodAhead Static _ ss h = (tt, h)
 good goals.MethodAhead Final _ ss h = (tt, h)
@@ -156,11 +159,19 @@ good goals.Statement If _ ss h = (tt, (tt, (refl, (tt, (h.0, h)))))
 good goals.Statement While _ ss h = (tt, (tt, (refl, (tt, h))))
 good goals.Statement Do _ ss h = (tt, (refl, (tt, (tt, (refl, (tt, (tt, h.1)))))))
 good goals.Statement For _ ss h = (tt, (tt, (refl, (tt, (refl, (tt, (refl, (tt, h))))))))
+good goals.Statement Throw _ ss h = (tt, (refl, (tt, h.1)))
+good goals.Statement Try _ ss h = (tt, (tt, (refl, (tt, (statement_inside (first ss) h.0, h)))))
 good goals.Statement _ _ ss h = (refl, (tt, h.1))
 good goals.OptionalExpression Semicolon _ ss h = h.1
 good goals.OptionalExpression _ _ ss h = (semicolon_closes (first ss) h.0, h.1)
 good goals.ElsePart Else _ ss h = (tt, h)
 good goals.ElsePart _ _ ss h = h.1
+good goals.Catch Catch _ ss h = (tt, (tt, (refl, (tt, (tt, (refl, (tt, h.1)))))))
+good goals.Catch _ _ _ _ = tt
+good goals.Catches Catch _ ss h = (statement_inside (first ss) h.0, h)
+good goals.Catches _ _ ss h = h.1
+good goals.CaughtParameter Final _ ss h = (tt, (refl, h.1))
+good goals.CaughtParameter _ _ ss h = (refl, h.1)
 good goals.ForInitial Semicolon _ ss h = h.1
 good goals.ForInitial _ _ ss h = (h.0, h)
 good goals.MoreInitial Comma tags.Local _ _ = tt

@@ -3,7 +3,7 @@ use Rattle.std.proofs.Common.{◌≡◌, ℕ, ◌+◌, ◌*◌, ◌≤◌, List,
 use Rattle.kr_lex.specs.Lexemes.{Lexeme}
 use Rattle.kr_ast.specs.Tree.{Tree, size}
 use Rattle.kr_parse_grammar.specs.declared.value.Modifiers.{Modifiers}
-use Rattle.kr_parse_grammar.specs.Grammar.{Class, Declarator, Evaluated, Local, ForInitial, Extended, Members, Classes, Maybe, Many, Several, Modified, nothing, access, static, final, overriding, Der, absent, present, end, next, last, comma, simple_name, qualified_name, class_type, generic_type, array_type, primitive_type, reference_type, number, long_number, truth, falsity, null, this, result_value, old_value, parentheses, variable, call, super_call, creation, generic_creation, diamond_creation, primitive_array, class_array, field_access, method_call, array_access, primary, stepped_behind, postfix, complement, primitive_cast, reference_cast, unsigned, sign, stepped_before, operand, binary, instance_of, operation, choice, assign, compound, conditional, assignment, declarator, initialised, local, final_local, assigns, steps, is_stepped, invokes, evaluated, local_statement, statement, block, empty, evaluate, return, break, continue, if_then, if_else, while, do_while, for, for_local, for_expressions, parameter, final_parameter, void, result, calls_super, nested, field, precondition, postcondition, method, constructor, no_member, skip_member, member, not_extended, extended, class, no_class, skip_class, another, Dotted, no_more, dot, Imports, no_import, import, Heading, unpackaged, packaged}
+use Rattle.kr_parse_grammar.specs.Grammar.{Class, Declarator, Evaluated, Local, ForInitial, Extended, Members, Classes, Maybe, Many, Several, Modified, nothing, access, static, final, overriding, Der, absent, present, end, next, last, comma, simple_name, qualified_name, class_type, generic_type, array_type, primitive_type, reference_type, number, long_number, truth, falsity, null, this, result_value, old_value, parentheses, variable, call, super_call, creation, generic_creation, diamond_creation, primitive_array, class_array, field_access, method_call, array_access, primary, stepped_behind, postfix, complement, primitive_cast, reference_cast, unsigned, sign, stepped_before, operand, binary, instance_of, operation, choice, assign, compound, conditional, assignment, declarator, initialised, local, final_local, assigns, steps, is_stepped, invokes, evaluated, local_statement, statement, block, empty, evaluate, return, break, continue, if_then, if_else, while, do_while, for, for_local, for_expressions, parameter, final_parameter, void, result, calls_super, nested, field, precondition, postcondition, method, constructor, no_member, skip_member, member, not_extended, extended, class, no_class, skip_class, another, Dotted, no_more, dot, Imports, no_import, import, Heading, unpackaged, packaged, throw, try, caught, final_caught, catch, exception, named_exception}
 use Rattle.kr_parse_laws.specs.Laws.{SmallTrees}
 
 -- how many nodes more than three for each token, less two
@@ -126,6 +126,11 @@ small _ (if_else _ _ _ _ _ _ d _ e _ _ f) = omega (arith, small tt d, small tt e
 small _ (while _ _ _ _ _ d _ e) = omega (arith, small tt d, small tt e)
 small _ (do_while _ _ _ _ _ _ d _ _ e _ _) = omega (arith, small tt d, small tt e)
 small _ (for _ _ _ _ _ _ _ d _ e _ f _ g) = omega (arith, small tt d, small tt e, small few f, small tt g)
+small _ (throw _ _ _ d _) = omega (arith, small tt d)
+small _ (try _ _ _ _ _ d _ e f) = omega (arith, small (refl, tt) d, small tt e, small (refl, tt) f)
+small _ (caught _ d _) = omega (arith, small tt d)
+small _ (final_caught _ _ _ d _) = omega (arith, small tt d)
+small _ (catch _ _ _ _ _ _ _ d _ _ e _) = omega (arith, small tt d, small (refl, tt) e)
 small _ (for_local d) = omega (arith, small tt d)
 small _ (for_expressions d) = omega (arith, small fewer d)
 -- members
@@ -138,6 +143,8 @@ small _ (nested m _ _ d) = omega (arith, modified m, small tt d)
 small _ (field _ m _ d e _) = omega (arith, modified m, small tt d, small fewer e)
 small _ (precondition _ _ _ _ _ d _) = omega (arith, small tt d)
 small _ (postcondition _ _ _ _ _ d _) = omega (arith, small tt d)
+small _ (exception _ _ _ _ _ _ _ _ d _ e _) = omega (arith, small tt d, small tt e)
+small _ (named_exception _ _ _ _ _ _ _ _ _ d _ _ e _) = omega (arith, small tt d, small tt e)
 small _ (method _ _ _ _ _ c m d _ _ e _ _ f _) = omega (arith, small (refl, tt) c, modified m, small tt d, small few e, small (refl, tt) f)
 -- a constructor has its class's name, and no modifiers but access
 small _ (constructor _ _ _ _ _ m _ _ _ d _ _ e f _) = omega (arith, modified m, small few d, small tt e, small (refl, tt) f)

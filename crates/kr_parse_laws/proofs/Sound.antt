@@ -27,8 +27,8 @@ use Rattle.kr_parse_laws.proofs.SoundExpressions.{means_arguments, means_more_ar
 use Rattle.kr_parse_laws.proofs.SoundTypes.{means_type, means_type_name, means_type_tail, means_dimensions, means_extended, means_class_tail}
 use Rattle.kr_parse_laws.proofs.SoundEnclosed.{means_closing, means_in_parentheses, means_primitive_cast, means_enclosed_name, means_enclosed_bracket, means_enclosed_primary, means_after_enclosed_name, means_after_chain}
 use Rattle.kr_parse_laws.proofs.SoundTested.{means_chain_argument, means_chain_name, means_chain_bracket, means_chain_primary, means_chain_greater, means_chain_closing, means_tested, means_tested_name, means_after_tested}
-use Rattle.kr_parse_laws.proofs.SoundStatements.{means_initialiser, means_more_declarators, means_after_local_name, means_item, means_item_name, means_item_bracket, means_statement_expression, means_after_statement_primary, means_block_statement, means_statements, means_statement, means_optional_expression, means_else_part, means_for_initial, means_more_initial, means_for_updates, means_more_updates}
-use Rattle.kr_parse_laws.proofs.SoundMembers.{means_parameters, means_parameter, means_more_parameters, means_constructor_body, means_after_super, means_contracted_method, means_contract, means_contracts, means_method_ahead, means_method, means_field_or_method, means_member_name, means_member, means_members, means_class_ahead, means_classes, means_dotted, means_imported, means_imports, means_file}
+use Rattle.kr_parse_laws.proofs.SoundStatements.{means_initialiser, means_more_declarators, means_after_local_name, means_item, means_item_name, means_item_bracket, means_statement_expression, means_after_statement_primary, means_block_statement, means_statements, means_statement, means_optional_expression, means_else_part, means_catch, means_catches, means_caught_parameter, means_for_initial, means_more_initial, means_for_updates, means_more_updates}
+use Rattle.kr_parse_laws.proofs.SoundMembers.{means_parameters, means_parameter, means_more_parameters, means_constructor_body, means_after_super, means_contracted_method, means_contract, means_thrown_name, means_contracts, means_method_ahead, means_method, means_field_or_method, means_member_name, means_member, means_members, means_class_ahead, means_classes, means_dotted, means_imported, means_imports, means_file}
 
 means : (g : Goal) (vs : List StackItem) (ss : List Symbol) (i : List Lexeme) (ws : List StackItem) → DenOf (rule g (ahead i) (tag vs)) ss vs i ws → Den (Want g ∷ ss) vs i ws
 means goals.File vs ss i ws d = means_file (ahead i) (tag vs) vs ss i ws d
@@ -44,6 +44,7 @@ means goals.Member vs ss i ws d = means_member (ahead i) (tag vs) vs refl ss i w
 means goals.MemberName vs ss i ws d = means_member_name (ahead i) (tag vs) vs refl ss i ws d
 means goals.Contracts vs ss i ws d = means_contracts (ahead i) (tag vs) vs ss i ws d
 means goals.Contract vs ss i ws d = means_contract (ahead i) (tag vs) vs ss i ws d
+means goals.ThrownName vs ss i ws d = means_thrown_name (ahead i) (tag vs) vs ss i ws d
 means goals.MethodAhead vs ss i ws d = means_method_ahead (ahead i) (tag vs) vs ss i ws d
 means goals.ContractedMethod vs ss i ws d = means_contracted_method (ahead i) (tag vs) vs ss i ws d
 means goals.Method vs ss i ws d = means_method (ahead i) (tag vs) vs ss i ws d
@@ -68,6 +69,9 @@ means goals.ItemBracket vs ss i ws d = means_item_bracket (ahead i) (tag vs) vs 
 means goals.Statement vs ss i ws d = means_statement (ahead i) (tag vs) vs ss i ws d
 means goals.OptionalExpression vs ss i ws d = means_optional_expression (ahead i) (tag vs) vs ss i ws d
 means goals.ElsePart vs ss i ws d = means_else_part (ahead i) (tag vs) vs ss i ws refl d
+means goals.Catch vs ss i ws d = means_catch (ahead i) (tag vs) vs ss i ws d
+means goals.Catches vs ss i ws d = means_catches (ahead i) (tag vs) vs ss i ws d
+means goals.CaughtParameter vs ss i ws d = means_caught_parameter (ahead i) (tag vs) vs ss i ws d
 means goals.ForInitial vs ss i ws d = means_for_initial (ahead i) (tag vs) vs ss i ws d
 means goals.MoreInitial vs ss i ws d = means_more_initial (ahead i) (tag vs) vs refl ss i ws d
 means goals.ForUpdates vs ss i ws d = means_for_updates (ahead i) (tag vs) vs ss i ws d

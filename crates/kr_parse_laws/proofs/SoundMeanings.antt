@@ -95,6 +95,10 @@ Bracketed i u r = (b : Lexeme) × (c : Lexeme) × (m : List Lexeme) × (i ≡ b 
 abbrev pub Apart : Tree → List Lexeme → Type 0
 Apart t r = EndsOpen t → ahead r ≡ terminals.Else → ⊥
 
+-- a class, and a name of the thrown object, or none
+abbrev pub Thrown : Tree → List Lexeme → Tree → List Lexeme → Type 0
+Thrown t i u r = ((u ≡ t) × (i ≡ r)) ⊎ ((n : Lexeme) × (i ≡ n ∷ r) × (n.kind ≡ kinds.Identifier) × (u ≡ trees.Parameter n.place t n.text))
+
 -- a class with its modifiers
 abbrev pub Declared : List Lexeme → Tree → List Lexeme → Type 0
 Declared h t r = (m : Modifiers) × (j : List Lexeme) × Modified h m j × (m.overrides ≡ false) × Der (grammar.ClassDeclaration false) j t r
@@ -192,6 +196,7 @@ Meaning goals.MemberName (word p n ∷ member b m ∷ owner c q o ∷ vs) i K =
     Gives (λ w f t r. (h j : List Lexeme) → Modified h m j → m.overrides ≡ false → Named (word p n) j i → Der (grammar.Member o b) h t r) (owner c q o ∷ vs) K
 Meaning goals.Contracts vs i K = Gives (λ p f t r. Der (Many grammar.Contract) i t r) vs K
 Meaning goals.Contract (mark x p ∷ vs) i K = Gives (λ q f t r. (j : List Lexeme) → Token kinds.Contract p j i → Der grammar.Contract j t r) vs K
+Meaning goals.ThrownName (part p f t ∷ vs) i K = Gives (λ q g u r. Thrown t i u r) vs K
 Meaning goals.MethodAhead (member b m ∷ part e g v ∷ vs) i K =
     Gives (λ q f t r. (o : List ℕ) (x : Bool) (c h : List Lexeme) → Der (Many grammar.Contract) c v h → Modified h m i → Der (grammar.Member o x) c t r) vs K
 Meaning goals.ContractedMethod (word p n ∷ part q f t ∷ member b m ∷ part d e v ∷ vs) i K =
@@ -228,6 +233,9 @@ Meaning goals.ElsePart (part b g s ∷ part a e c ∷ mark x p ∷ vs) i K =
     (λ q f t r. ((h j m : List Lexeme) (l d : Lexeme) → Token kinds.If p h (l ∷ j) → l.kind ≡ kinds.LeftParenthesis → Der grammar.Expression j c (d ∷ m) → d.kind ≡ kinds.RightParenthesis → Der grammar.Statement m s i → Apart s i → Der grammar.Statement h t r)
     × Apart t r)
     vs K
+Meaning goals.Catch vs i K = Gives (λ p f t r. Der grammar.Catch i t r) vs K
+Meaning goals.Catches vs i K = Gives (λ p f t r. Der (Many grammar.Catch) i t r) vs K
+Meaning goals.CaughtParameter vs i K = Gives (λ p f t r. Der grammar.Caught i t r) vs K
 Meaning goals.ForInitial vs i K = Gives (λ p f t r. Der (Maybe grammar.ForInitial) i t r) vs K
 Meaning goals.MoreInitial (part p f t ∷ vs) i K = Gives (λ q g u r. (j : List Lexeme) → Initials f j t i u r) vs K
 Meaning goals.ForUpdates vs i K = Gives (λ p f t r. Der (Maybe (Several grammar.StatementExpression)) i t r) vs K

@@ -1,5 +1,5 @@
 -- The goals of files, classes and members denote what their rules denote.
-use Rattle.std.proofs.Common.{◌≡◌, ℕ, Bool, true, false, if◌then◌else◌, List, ◌∷◌, refl, sym, ap, ◌∙◌}
+use Rattle.std.proofs.Common.{◌≡◌, inl, inr, ℕ, Bool, true, false, if◌then◌else◌, List, ◌∷◌, refl, sym, ap, ◌∙◌}
 use Rattle.std.proofs.Math.Path.{subst}
 use Rattle.kr_base.specs.declared.place.Place.{Place}
 use Rattle.kr_base.specs.Places.{nowhere}
@@ -23,8 +23,8 @@ use Rattle.kr_parse_grammar.specs.declared.goal.Symbol.TheVariants.{Take, Want, 
 use Rattle.kr_parse_grammar.specs.Values.{StackItem, mark, word, part, member, owner, tag, no_modifiers}
 use Rattle.kr_parse_grammar.specs.Made.{the_primitive}
 use Rattle.kr_parse_grammar.specs.Grammar as grammar
-use Rattle.kr_parse_grammar.specs.Grammar.{Class, Der, Modified, at, AnyType, Maybe, Many, Several}
-use Rattle.kr_parse_laws.proofs.SoundMeanings.{Token, Named, Declared, Built, Den, Holds}
+use Rattle.kr_parse_grammar.specs.Grammar.{Class, Der, Modified, at, AnyType, Maybe, Many, Several, ClassName}
+use Rattle.kr_parse_laws.proofs.SoundMeanings.{Token, Named, Thrown, Declared, Built, Den, Holds}
 use Rattle.kr_parse_laws.proofs.SoundSteps.{from, onto, both, three, four, token_at, named_at, paired}
 use Rattle.std.proofs.Common.{◌&&◌, not}
 use Rattle.std.specs.Str.{bytes_eq}
@@ -114,11 +114,26 @@ postcondition_of : (p : Place) (j i l l1 r : List Lexeme) (t : Tree) (a c : Lexe
     → Der grammar.Expression l t l1 → l1 ≡ c ∷ r → c.kind ≡ kinds.Semicolon → Der grammar.Contract j (trees.Ensures p t) r
 postcondition_of p j i l l1 r t a c (g, e, kg, z) y ka dx y2 kc = rw z (from (both e y) (grammar.postcondition g a c kg ka (onto y2 dx) kc))
 
+exception_of : (p : Place) (j i l l1 l3 l4 l5 l6 r : List Lexeme) (t u v : Tree) (a b e g : Lexeme) → Token kinds.Contract p j i → i ≡ a ∷ l → a.kind ≡ kinds.Signals → l ≡ b ∷ l1 → b.kind ≡ kinds.LeftParenthesis
+    → Der ClassName l1 t l3 → Thrown t l3 u l4 → l4 ≡ e ∷ l5 → e.kind ≡ kinds.RightParenthesis → Der grammar.Expression l5 v l6 → l6 ≡ g ∷ r → g.kind ≡ kinds.Semicolon
+    → Der grammar.Contract j (trees.Signals p u v) r
+exception_of p j i l l1 l3 l4 l5 l6 r t u v a b e g (w, o, kw, z) y ka y1 kb n (inl (q, s)) y4 ke dx y6 kg =
+    rw (z, q) (from (three o y y1) (grammar.exception w a b e g kw ka kb (onto (s ∙ y4) n) ke (onto y6 dx) kg))
+exception_of p j i l l1 l3 l4 l5 l6 r t u v a b e g (w, o, kw, z) y ka y1 kb n (inr (c, s, kc, q)) y4 ke dx y6 kg =
+    rw (z, q) (from (three o y y1) (grammar.named_exception w a b c e g kw ka kb (onto (both s y4) n) kc ke (onto y6 dx) kg))
+
+pub means_thrown_name : (k : Terminal) (q : Tag) (vs : List StackItem) → Holds goals.ThrownName k q vs
+means_thrown_name terminals.Identifier q (part p f t ∷ vs) ss i ws (a, r, e, ka, d) = (a.place, forms.Other, trees.Parameter a.place t a.text, r, inr (a, e, ka, refl), d)
+means_thrown_name k q (part p f t ∷ vs) ss i ws d = (p, f, t, i, inl (refl, refl), d)
+means_thrown_name k q _ ss i ws d = tt
+
 pub means_contract : (k : Terminal) (q : Tag) (vs : List StackItem) → Holds goals.Contract k q vs
 means_contract terminals.Requires q (mark x p ∷ vs) ss i ws (a, l, y, ka, (p1, f1, t, l1, (z, dx), (c, r, y2, kc, d))) =
     (p, forms.Other, trees.Requires p t, r, λ j o. precondition_of p j i l l1 r t a c o y ka dx y2 kc, d)
 means_contract terminals.Ensures q (mark x p ∷ vs) ss i ws (a, l, y, ka, (p1, f1, t, l1, (z, dx), (c, r, y2, kc, d))) =
     (p, forms.Other, trees.Ensures p t, r, λ j o. postcondition_of p j i l l1 r t a c o y ka dx y2 kc, d)
+means_contract terminals.Signals q (mark x p ∷ vs) ss i ws (a, l, y, ka, (b, l1, y1, kb, (c, l2, y2, kc, (p1, f1, t, l3, h, (p2, f2, u, l4, w, (e, l5, y4, ke, (p3, f3, v, l6, (z, dx), (g, r, y6, kg, d)))))))) =
+    (p, forms.Other, trees.Signals p u v, r, λ j o. exception_of p j i l l1 l3 l4 l5 l6 r t u v a b e g o y ka y1 kb (h l1 (c, y2, kc, refl, refl)) w y4 ke dx y6 kg, d)
 means_contract _ q (mark x p ∷ vs) ss i ws d = absurd d
 means_contract k q _ ss i ws d = tt
 

@@ -222,6 +222,10 @@ means_statement terminals.Do q vs ss i ws (a, m, e, ka, (p, f, t, l, (dx, far), 
     (a.place, forms.Other, trees.Do a.place t c, r, (from e (grammar.do_while a b g h n ka (onto (both y y2) dx) kb kg (onto (both y3 y4) x) kh kn), λ h. absurd h), d)
 means_statement terminals.For q vs ss i ws (a, m, e, ka, (b, l, y, kb, (p1, f1, k1, l1, x1, (g, l2, y2, kg, (p2, f2, c, l3, x2, (h, l4, y3, kh, (p3, f3, u, l5, x3, (n, l6, y4, kn, (p4, f4, t, r, (dx, far), d))))))))) =
     (a.place, forms.Other, trees.For a.place k1 c u t, r, (from (both e y) (grammar.for a b g h n ka kb (onto y2 x1) kg (onto y3 x2) kh (onto y4 x3) kn dx), far), d)
+means_statement terminals.Throw q vs ss i ws (a, m, e, ka, (p, f, t, l, (z, x), (b, r, y, kb, d))) =
+    (a.place, forms.Other, trees.Throw a.place t, r, (from e (grammar.throw a b ka (onto y x) kb), λ h. absurd h), d)
+means_statement terminals.Try q vs ss i ws (a, m, e, ka, (b, l, y, kb, (p, f, t, n, x, (g, s, y2, kg, (p2, f2, c, s2, dc, (p3, f3, u, r, du, d)))))) =
+    (a.place, forms.Other, trees.Try a.place (trees.Block b.place t) (trees.Cons c u), r, (from (both e y) (grammar.try a b g ka kb (onto y2 x) kg dc du), λ h. absurd h), d)
 means_statement k q vs ss i ws d =
     (d.0, forms.Other, trees.ExpressionStatement d.0 d.2, d.5.1, (grammar.evaluate d.5.0 (onto d.5.2 (evaluated_of d.0 i d.3 d.2 d.4.0 d.4.1)) d.5.3, λ h. absurd h), d.5.4)
 
@@ -246,6 +250,22 @@ means_else_part terminals.Else q (part b1 g1 s ∷ part a1 h1 c ∷ mark x p ∷
 means_else_part k q (part b1 g1 s ∷ part a1 h1 c ∷ mark x p ∷ vs) ss i ws e d =
     (p, forms.Other, IfThen p c s, i, (λ h j n l g o kl dc kg ds apart. if_then_of p h j n i c s l g o kl dc kg ds, λ z w. (let bad : k ≡ terminals.Else = sym e ∙ w in cc)), d)
 means_else_part k q _ ss i ws e d = tt
+
+-- the parts of `try`
+pub means_catch : (k : Terminal) (q : Tag) (vs : List StackItem) → Holds goals.Catch k q vs
+means_catch terminals.Catch q vs ss i ws (a, m, e, ka, (b, l, y, kb, (p, f, t, n, x, (g, s, y2, kg, (o, s2, y3, ko, (p2, f2, u, s3, dx, (w, r, y4, kw, d))))))) =
+    (a.place, forms.Other, trees.Catch a.place t (trees.Block o.place u), r, from (both e y) (grammar.catch a b g o w ka kb (onto (both y2 y3) x) kg ko (onto y4 dx) kw), d)
+means_catch _ q vs ss i ws d = absurd d
+
+pub means_catches : (k : Terminal) (q : Tag) (vs : List StackItem) → Holds goals.Catches k q vs
+means_catches terminals.Catch q vs ss i ws (p, f, t, m, x, (p1, f1, u, r, y, d)) = (p, forms.Other, trees.Cons t u, r, grammar.next x y, d)
+means_catches k q vs ss i ws d = (nowhere, forms.Other, trees.Nil, i, grammar.end, d)
+
+pub means_caught_parameter : (k : Terminal) (q : Tag) (vs : List StackItem) → Holds goals.CaughtParameter k q vs
+means_caught_parameter terminals.Final q vs ss i ws (a, m, e, ka, (b, l, y, kb, (p, f, t, n, h, (c, r, y2, kc, d)))) =
+    (c.place, forms.Other, trees.Parameter c.place t c.text, r, from e (grammar.final_caught a c ka (onto y2 (h m (b, y, kb, refl, refl))) kc), d)
+means_caught_parameter k q vs ss i ws d =
+    (d.4.5.0.place, forms.Other, trees.Parameter d.4.5.0.place d.4.2 d.4.5.0.text, d.4.5.1, grammar.caught d.4.5.0 (onto d.4.5.2 (d.4.4 i (d.0, d.2, d.3, refl, refl))) d.4.5.3, d.4.5.4)
 
 -- the parts of `for`
 initial_of : (f : Form) (j i r : List Lexeme) (t u : Tree) → Initials f j t i u r → ItemOf f j t i → Der grammar.ForInitial j u r

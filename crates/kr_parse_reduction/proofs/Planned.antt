@@ -182,6 +182,18 @@ of_while a vs e = on_part (sort.Part ∷ sort.Mark ∷ []) (λ (ws : List Kept).
 of_do : (a : Arena) (vs : List Kept) → are (sorts makes.Do) vs ≡ true → Claim makes.Do a vs
 of_do a vs e = on_part (sort.Part ∷ sort.Mark ∷ []) (λ (ws : List Kept). Claim makes.Do a ws) vs e (λ p0 f0 i0 v0 e0. on_part (sort.Mark ∷ []) (λ (ws : List Kept). Claim makes.Do a (Part p0 f0 i0 ∷ ws)) v0 e0 (λ p1 f1 i1 v1 e1. on_mark [] (λ (ws : List Kept). Claim makes.Do a (Part p0 f0 i0 ∷ Part p1 f1 i1 ∷ ws)) v1 e1 (λ k2 p2 v2 e2. λ h. (record { within = omega arith; same = reverse_two i1 i0; named = tt }, refl))))
 
+of_throw : (a : Arena) (vs : List Kept) → are (sorts makes.Throw) vs ≡ true → Claim makes.Throw a vs
+of_throw a vs e = on_part (sort.Mark ∷ []) (λ (ws : List Kept). Claim makes.Throw a ws) vs e (λ p0 f0 i0 v0 e0. on_mark [] (λ (ws : List Kept). Claim makes.Throw a (Part p0 f0 i0 ∷ ws)) v0 e0 (λ k1 p1 v1 e1. λ h. (record { within = omega arith; same = perm_refl (i0 ∷ []); named = tt }, refl)))
+
+of_try : (a : Arena) (vs : List Kept) → are (sorts makes.Try) vs ≡ true → Claim makes.Try a vs
+of_try a vs e = on_part (sort.Part ∷ sort.Mark ∷ []) (λ (ws : List Kept). Claim makes.Try a ws) vs e (λ p0 f0 i0 v0 e0. on_part (sort.Mark ∷ []) (λ (ws : List Kept). Claim makes.Try a (Part p0 f0 i0 ∷ ws)) v0 e0 (λ p1 f1 i1 v1 e1. on_mark [] (λ (ws : List Kept). Claim makes.Try a (Part p0 f0 i0 ∷ Part p1 f1 i1 ∷ ws)) v1 e1 (λ k2 p2 v2 e2. λ h. (record { within = omega arith; same = reverse_two i1 i0; named = tt }, refl))))
+
+of_catch : (a : Arena) (vs : List Kept) → are (sorts makes.Catch) vs ≡ true → Claim makes.Catch a vs
+of_catch a vs e = on_part (sort.Part ∷ sort.Mark ∷ []) (λ (ws : List Kept). Claim makes.Catch a ws) vs e (λ p0 f0 i0 v0 e0. on_part (sort.Mark ∷ []) (λ (ws : List Kept). Claim makes.Catch a (Part p0 f0 i0 ∷ ws)) v0 e0 (λ p1 f1 i1 v1 e1. on_mark [] (λ (ws : List Kept). Claim makes.Catch a (Part p0 f0 i0 ∷ Part p1 f1 i1 ∷ ws)) v1 e1 (λ k2 p2 v2 e2. λ h. (record { within = omega arith; same = reverse_two i1 i0; named = tt }, refl))))
+
+of_signals : (a : Arena) (vs : List Kept) → are (sorts makes.Signals) vs ≡ true → Claim makes.Signals a vs
+of_signals a vs e = on_part (sort.Part ∷ sort.Mark ∷ []) (λ (ws : List Kept). Claim makes.Signals a ws) vs e (λ p0 f0 i0 v0 e0. on_part (sort.Mark ∷ []) (λ (ws : List Kept). Claim makes.Signals a (Part p0 f0 i0 ∷ ws)) v0 e0 (λ p1 f1 i1 v1 e1. on_mark [] (λ (ws : List Kept). Claim makes.Signals a (Part p0 f0 i0 ∷ Part p1 f1 i1 ∷ ws)) v1 e1 (λ k2 p2 v2 e2. λ h. (record { within = omega arith; same = reverse_two i1 i0; named = tt }, refl))))
+
 of_if_else : (a : Arena) (vs : List Kept) → are (sorts makes.IfElse) vs ≡ true → Claim makes.IfElse a vs
 of_if_else a vs e = on_part (sort.Part ∷ sort.Part ∷ sort.Mark ∷ []) (λ (ws : List Kept). Claim makes.IfElse a ws) vs e (λ p0 f0 i0 v0 e0. on_part (sort.Part ∷ sort.Mark ∷ []) (λ (ws : List Kept). Claim makes.IfElse a (Part p0 f0 i0 ∷ ws)) v0 e0 (λ p1 f1 i1 v1 e1. on_part (sort.Mark ∷ []) (λ (ws : List Kept). Claim makes.IfElse a (Part p0 f0 i0 ∷ Part p1 f1 i1 ∷ ws)) v1 e1 (λ p2 f2 i2 v2 e2. on_mark [] (λ (ws : List Kept). Claim makes.IfElse a (Part p0 f0 i0 ∷ Part p1 f1 i1 ∷ Part p2 f2 i2 ∷ ws)) v2 e2 (λ k3 p3 v3 e3. λ h. (record { within = omega arith; same = reverse_three i2 i1 i0; named = tt }, refl)))))
 
@@ -241,6 +253,10 @@ plan_makes makes.Jump a vs w e = of_jump a vs e
 plan_makes makes.IfThen a vs w e = of_if_then a vs e
 plan_makes makes.While a vs w e = of_while a vs e
 plan_makes makes.Do a vs w e = of_do a vs e
+plan_makes makes.Throw a vs w e = of_throw a vs e
+plan_makes makes.Try a vs w e = of_try a vs e
+plan_makes makes.Catch a vs w e = of_catch a vs e
+plan_makes makes.Signals a vs w e = of_signals a vs e
 plan_makes makes.IfElse a vs w e = of_if_else a vs e
 plan_makes makes.For a vs w e = of_for a vs e
 plan_makes makes.Nil a vs w e = of_nil a vs e

@@ -102,6 +102,22 @@ stay_constructor_call : (a : Arena) (vs : List Kept) → are (sorts makes.Constr
 stay_constructor_call a (Part p0 f0 i0 ∷ Mark k1 p1 ∷ vs) e = absurd (false≢true (sym e))
 stay_constructor_call a _ e = refl
 
+stay_throw : (a : Arena) (vs : List Kept) → are (sorts makes.Throw) vs ≡ false → made makes.Throw (shown a vs) ≡ shown a vs
+stay_throw a (Part p0 f0 i0 ∷ Mark k1 p1 ∷ vs) e = absurd (false≢true (sym e))
+stay_throw a _ e = refl
+
+stay_try : (a : Arena) (vs : List Kept) → are (sorts makes.Try) vs ≡ false → made makes.Try (shown a vs) ≡ shown a vs
+stay_try a (Part p0 f0 i0 ∷ Part p1 f1 i1 ∷ Mark k2 p2 ∷ vs) e = absurd (false≢true (sym e))
+stay_try a _ e = refl
+
+stay_catch : (a : Arena) (vs : List Kept) → are (sorts makes.Catch) vs ≡ false → made makes.Catch (shown a vs) ≡ shown a vs
+stay_catch a (Part p0 f0 i0 ∷ Part p1 f1 i1 ∷ Mark k2 p2 ∷ vs) e = absurd (false≢true (sym e))
+stay_catch a _ e = refl
+
+stay_signals : (a : Arena) (vs : List Kept) → are (sorts makes.Signals) vs ≡ false → made makes.Signals (shown a vs) ≡ shown a vs
+stay_signals a (Part p0 f0 i0 ∷ Part p1 f1 i1 ∷ Mark k2 p2 ∷ vs) e = absurd (false≢true (sym e))
+stay_signals a _ e = refl
+
 stay_declarator : (a : Arena) (vs : List Kept) → are (sorts makes.Declarator) vs ≡ false → made makes.Declarator (shown a vs) ≡ shown a vs
 stay_declarator a (Part p0 f0 i0 ∷ Word p1 n1 ∷ vs) e = absurd (false≢true (sym e))
 stay_declarator a _ e = refl
@@ -281,6 +297,10 @@ stays makes.Ensures = stay_ensures
 stays makes.Block = stay_block
 stays makes.Return = stay_return
 stays makes.ConstructorCall = stay_constructor_call
+stays makes.Throw = stay_throw
+stays makes.Try = stay_try
+stays makes.Catch = stay_catch
+stays makes.Signals = stay_signals
 stays makes.Declarator = stay_declarator
 stays makes.StepBehind = stay_step_behind
 stays makes.FieldAccess = stay_field_access

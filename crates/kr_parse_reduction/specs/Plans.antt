@@ -62,6 +62,7 @@ sorts makes.Ensures = sort.Part ∷ sort.Mark ∷ []
 sorts makes.Block = sort.Part ∷ sort.Mark ∷ []
 sorts makes.Return = sort.Part ∷ sort.Mark ∷ []
 sorts makes.ConstructorCall = sort.Part ∷ sort.Mark ∷ []
+sorts makes.Throw = sort.Part ∷ sort.Mark ∷ []
 sorts makes.Declarator = sort.Part ∷ sort.Word ∷ []
 sorts makes.Owner = sort.Part ∷ sort.Word ∷ []
 sorts makes.NestedOwner = sort.Part ∷ sort.Word ∷ []
@@ -76,6 +77,9 @@ sorts makes.Cast = sort.Part ∷ sort.Part ∷ sort.Mark ∷ []
 sorts makes.IfThen = sort.Part ∷ sort.Part ∷ sort.Mark ∷ []
 sorts makes.While = sort.Part ∷ sort.Part ∷ sort.Mark ∷ []
 sorts makes.Do = sort.Part ∷ sort.Part ∷ sort.Mark ∷ []
+sorts makes.Try = sort.Part ∷ sort.Part ∷ sort.Mark ∷ []
+sorts makes.Catch = sort.Part ∷ sort.Part ∷ sort.Mark ∷ []
+sorts makes.Signals = sort.Part ∷ sort.Part ∷ sort.Mark ∷ []
 sorts makes.MethodCall = sort.Part ∷ sort.Word ∷ sort.Part ∷ []
 sorts makes.Binary = sort.Part ∷ sort.Mark ∷ sort.Part ∷ []
 sorts makes.Assign = sort.Part ∷ sort.Mark ∷ sort.Part ∷ []
@@ -183,10 +187,16 @@ locals _ vs = nothing
 abbrev pub statements : Make → List Kept → Plan
 statements makes.Block vs = plain 2 (place_at vs 1) (nodes.Block (node_at vs 0))
 statements makes.Return vs = plain 2 (place_at vs 1) (nodes.Return (node_at vs 0))
+statements makes.Throw vs = plain 2 (place_at vs 1) (nodes.Throw (node_at vs 0))
 statements makes.ConstructorCall vs = plain 2 (place_at vs 1) (nodes.ConstructorCall (node_at vs 0))
 statements makes.Empty vs = plain 1 (place_at vs 0) nodes.Empty
 statements makes.Jump vs = plain 1 (place_at vs 0) (jump_node (kind_at vs 0))
 statements _ vs = nothing
+
+abbrev pub catches : Make → List Kept → Plan
+catches makes.Try vs = plain 3 (place_at vs 2) (nodes.Try (node_at vs 1) (node_at vs 0))
+catches makes.Catch vs = plain 3 (place_at vs 2) (nodes.Catch (node_at vs 1) (node_at vs 0))
+catches _ vs = nothing
 
 abbrev pub branches : Make → List Kept → Plan
 branches makes.IfThen vs = plain 3 (place_at vs 2) (nodes.IfThen (node_at vs 1) (node_at vs 0))
@@ -210,6 +220,7 @@ abbrev pub contracts : Make → List Kept → Plan
 contracts makes.Old vs = plain 2 (place_at vs 1) (nodes.Old (node_at vs 0))
 contracts makes.Requires vs = plain 2 (place_at vs 1) (nodes.Requires (node_at vs 0))
 contracts makes.Ensures vs = plain 2 (place_at vs 1) (nodes.Ensures (node_at vs 0))
+contracts makes.Signals vs = plain 3 (place_at vs 2) (nodes.Signals (node_at vs 1) (node_at vs 0))
 contracts _ vs = nothing
 
 abbrev pub lists : Make → List Kept → Plan
@@ -242,9 +253,12 @@ plan makes.Local vs = locals makes.Local vs
 plan makes.ExpressionStatement vs = locals makes.ExpressionStatement vs
 plan makes.Block vs = statements makes.Block vs
 plan makes.Return vs = statements makes.Return vs
+plan makes.Throw vs = statements makes.Throw vs
 plan makes.ConstructorCall vs = statements makes.ConstructorCall vs
 plan makes.Empty vs = statements makes.Empty vs
 plan makes.Jump vs = statements makes.Jump vs
+plan makes.Try vs = catches makes.Try vs
+plan makes.Catch vs = catches makes.Catch vs
 plan makes.IfThen vs = branches makes.IfThen vs
 plan makes.IfElse vs = branches makes.IfElse vs
 plan makes.While vs = loops makes.While vs
@@ -257,6 +271,7 @@ plan makes.Class vs = declarations makes.Class vs
 plan makes.Old vs = contracts makes.Old vs
 plan makes.Requires vs = contracts makes.Requires vs
 plan makes.Ensures vs = contracts makes.Ensures vs
+plan makes.Signals vs = contracts makes.Signals vs
 plan makes.Cons vs = lists makes.Cons vs
 plan makes.Nil vs = lists makes.Nil vs
 plan _ vs = nothing

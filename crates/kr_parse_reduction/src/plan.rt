@@ -1,6 +1,6 @@
 // The node to be added above some values.
 ghost use Rattle.std.specs.Prelude.{◌≡◌, Some, None};
-ghost use Rattle.kr_parse_reduction.specs.Plans.{tree, plain, nothing, type_node, jump_node, assignment, types, lists, declarations, loops, branches, contracts, statements, locals, comparisons, infixes, prefixes, creations, selections, plan, variable, call, single, lower, upper, below, staying};
+ghost use Rattle.kr_parse_reduction.specs.Plans.{tree, plain, nothing, type_node, jump_node, assignment, types, lists, declarations, loops, branches, catches, contracts, statements, locals, comparisons, infixes, prefixes, creations, selections, plan, variable, call, single, lower, upper, below, staying};
 
 use crate::operators::{
     binary_of, compound_of, primitive_of, step_before_of, step_behind_of, unary_of,
@@ -337,6 +337,13 @@ fn statements(make: Make, values: &ValueStack) -> Plan
                 value: values.node(0),
             },
         ),
+        Make::Throw => plain(
+            2,
+            values.place(1),
+            Node::Throw {
+                thrown: values.node(0),
+            },
+        ),
         Make::ConstructorCall => plain(
             2,
             values.place(1),
@@ -346,6 +353,31 @@ fn statements(make: Make, values: &ValueStack) -> Plan
         ),
         Make::Empty => plain(1, values.place(0), Node::Empty),
         Make::Jump => plain(1, values.place(0), jump_node(values.kind(0))),
+        _ => nothing(),
+    }
+}
+
+/// `try` and `catch`.
+fn catches(make: Make, values: &ValueStack) -> Plan
+    ensures { result ≡ catches make values.now }
+{
+    match make {
+        Make::Try => plain(
+            3,
+            values.place(2),
+            Node::Try {
+                body: values.node(1),
+                catches: values.node(0),
+            },
+        ),
+        Make::Catch => plain(
+            3,
+            values.place(2),
+            Node::Catch {
+                declared: values.node(1),
+                body: values.node(0),
+            },
+        ),
         _ => nothing(),
     }
 }
@@ -482,6 +514,14 @@ fn contracts(make: Make, values: &ValueStack) -> Plan
                 condition: values.node(0),
             },
         ),
+        Make::Signals => plain(
+            3,
+            values.place(2),
+            Node::Signals {
+                declared: values.node(1),
+                condition: values.node(0),
+            },
+        ),
         _ => nothing(),
     }
 }
@@ -516,15 +556,19 @@ pub fn plan_of(make: Make, values: &ValueStack) -> Plan
         Make::Binary | Make::Conditional | Make::Assign => infixes(make, values),
         Make::Less | Make::Greater | Make::InstanceOf => comparisons(make, values),
         Make::Declarator | Make::Local | Make::ExpressionStatement => locals(make, values),
-        Make::Block | Make::Return | Make::ConstructorCall | Make::Empty | Make::Jump => statements(
-            make, values,
-        ),
+        Make::Block
+        | Make::Return
+        | Make::Throw
+        | Make::ConstructorCall
+        | Make::Empty
+        | Make::Jump => statements(make, values),
+        Make::Try | Make::Catch => catches(make, values),
         Make::IfThen | Make::IfElse => branches(make, values),
         Make::While | Make::Do | Make::For => loops(make, values),
         Make::Parameter | Make::Field | Make::Constructor | Make::Class => declarations(
             make, values,
         ),
-        Make::Old | Make::Requires | Make::Ensures => contracts(make, values),
+        Make::Old | Make::Requires | Make::Ensures | Make::Signals => contracts(make, values),
         Make::Cons | Make::Nil => lists(make, values),
         _ => nothing(),
     }

@@ -69,6 +69,7 @@ pub fn sorts_of(make: Make) -> &'static [Sort]
         | Make::Ensures
         | Make::Block
         | Make::Return
+        | Make::Throw
         | Make::ConstructorCall
         | Make::Enclosed => &[Sort::Part, Sort::Mark],
         Make::Declarator | Make::Owner | Make::NestedOwner => &[Sort::Part, Sort::Word],
@@ -80,7 +81,10 @@ pub fn sorts_of(make: Make) -> &'static [Sort]
         | Make::Cast
         | Make::IfThen
         | Make::While
-        | Make::Do => &[Sort::Part, Sort::Part, Sort::Mark],
+        | Make::Do
+        | Make::Try
+        | Make::Catch
+        | Make::Signals => &[Sort::Part, Sort::Part, Sort::Mark],
         Make::MethodCall => &[Sort::Part, Sort::Word, Sort::Part],
         Make::Binary | Make::Assign => &[Sort::Part, Sort::Mark, Sort::Part],
         Make::Conditional => &[Sort::Part, Sort::Part, Sort::Part],

@@ -47,6 +47,9 @@ fn kind_of_statement(node: Node) -> &'static str {
         Node::While { .. } => "While",
         Node::Do { .. } => "Do",
         Node::For { .. } => "For",
+        Node::Throw { .. } => "Throw",
+        Node::Try { .. } => "Try",
+        Node::Catch { .. } => "Catch",
         Node::ConstructorCall { .. } => "ConstructorCall",
         _ => kind_of_declaration(node),
     }
@@ -61,6 +64,7 @@ fn kind_of_declaration(node: Node) -> &'static str {
         Node::Constructor { .. } => "Constructor",
         Node::Requires { .. } => "Requires",
         Node::Ensures { .. } => "Ensures",
+        Node::Signals { .. } => "Signals",
         Node::Method { is_static, .. } => if is_static { "static Method" } else { "Method" },
         Node::Field {
             is_static,

@@ -7,7 +7,7 @@ ghost use Rattle.kr_mean.specs.WellFormed.{IsWellFormed};
 ghost use Rattle.kr_space_layout.specs.Bounds.{bare};
 
 use kr_base::NoMemory;
-use kr_build::{Walk, structure_of};
+use kr_build::{Walk, fill_structure};
 use kr_mean::Structure;
 use kr_space_layout::Layout;
 use kr_step::Candidate;
@@ -71,6 +71,8 @@ impl<'l> Telling for Structures<'l> {
 
     fn tell<C: Candidate>(&self, alloc: Global, candidates: &C) -> Result<Structure, NoMemory> {
         let mut walk = Walk::new(alloc);
-        structure_of(alloc, self.layout, &mut walk, candidates.current())
+        let mut structure = Structure::empty(alloc);
+        fill_structure(self.layout, &mut walk, candidates.current(), &mut structure)?;
+        Ok(structure)
     }
 }

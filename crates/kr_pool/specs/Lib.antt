@@ -1,4 +1,5 @@
-pub mod Handing
-pub mod Sharing
 pub mod Collecting
+pub mod Handing
 pub mod Owning
+pub mod Sharing
+pub mod Vocabulary

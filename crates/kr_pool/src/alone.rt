@@ -1,20 +1,6 @@
 // The caller alone at what the workers left.
 ghost use Rattle.std.specs.Prelude.{◌≡◌, ◌+◌, ◌<◌, ◌≤◌, true, false, length, take, drop, IfOk, IfErr, OnErr, ℕ, Option};
-ghost use Rattle.kr_survey.specs.Listings.{listed_in};
-ghost use Rattle.kr_survey.specs.Scans.{rows_of};
-ghost use Rattle.kr_core.specs.Openings.{opening};
-ghost use Rattle.kr_core.specs.Rows.{drained, drains};
-ghost use Rattle.kr_board.specs.Closing.{all_closed};
-ghost use Rattle.kr_board.specs.Parts.{IsPart};
-ghost use Rattle.kr_survey.specs.Takings.{is_past};
-ghost use Rattle.kr_pool_desk.specs.Draining.{rows_kept};
-ghost use Rattle.kr_pool_desk.specs.Leasing.{IsLeaseOf, Takes};
-ghost use Rattle.kr_pool_desk.specs.Limits.{IsWanted, KeepsWindow, begins_within};
-ghost use Rattle.kr_pool_desk.specs.Listings.{ListsFrom};
-ghost use Rattle.kr_pool_desk.specs.Runs.{IsRun, are_shared};
-ghost use Rattle.kr_pool_desk.specs.Short.{IsShortBound, IsShortRun};
-ghost use Rattle.kr_pool_desk.specs.Stops.{IsStopped};
-ghost use Rattle.kr_pool_desk.specs.Traces.{Finishes};
+ghost use Rattle.kr_pool.specs.Vocabulary.{all_closed, are_shared, begins_within, drained, drains, Finishes, is_past, IsLeaseOf, IsPart, IsRun, IsShortBound, IsShortRun, IsStopped, IsWanted, KeepsWindow, listed_in, ListsFrom, opening, rows_kept, rows_of, Takes};
 
 use kr_base::NoMemory;
 use kr_board::{Board, Event, Lease, Logged, Taken, part_law};

@@ -1,8 +1,6 @@
 // A taker that keeps all rows.
 ghost use Rattle.std.specs.Prelude.{◌≡◌, ◌↔◌, ◌++◌, ℕ, List, Option, [], Some, None, IfOk, length, true};
-ghost use Rattle.kr_survey.specs.Joins.{joined, lists};
-ghost use Rattle.kr_survey.specs.Takings.{Took, is_past};
-ghost use Rattle.kr_survey.specs.declared.taker.Room.TheVariants.{Full, More};
+ghost use Rattle.kr_pool.specs.Vocabulary.{Full, is_past, joined, lists, More, Took};
 ghost use Rattle.kr_pool.specs.Collecting.{Collects};
 ghost use Rattle.kr_pool.specs.declared.collector.Collector.{Collector as CollectorOf};
 
@@ -12,7 +10,6 @@ use std::alloc::Global;
 /// Keeps the rows in pieces, as they came.
 #[derive(Drop)]
 pub struct Collector<R> {
-    alloc: Global,
     pub(crate) pieces: Vec<Vec<R>>,
 }
 
@@ -22,7 +19,6 @@ impl<R> Collector<R> {
         ensures { result.pieces.items ≡ [] }
     {
         Collector {
-            alloc,
             pieces: Vec::new(alloc),
         }
     }
@@ -47,20 +43,6 @@ impl<R: Drop, K> Taker<K> for Collector<R> {
 
     fn limit(&self) -> Option<u32> {
         None
-    }
-
-    #[tactic(auto, using(crate::proofs::Collected::collects_more))]
-    fn take_row(&mut self, row: R, out: &mut K) -> Result<Room, Halt> {
-        let _ = out;
-        let mut piece = Vec::new(self.alloc);
-        match piece.push(row) {
-            Err(why) => return Err(Halt::Memory(why.into())),
-            Ok(()) => {}
-        }
-        match self.pieces.push(piece) {
-            Err(why) => Err(Halt::Memory(why.into())),
-            Ok(()) => Ok(Room::More),
-        }
     }
 
     #[tactic(auto, using(crate::proofs::Collected::collects_more))]

@@ -1,8 +1,6 @@
 // Rows handed over.
 ghost use Rattle.std.specs.Prelude.{◌≡◌, ◌++◌, Some, List, ℕ};
-ghost use Rattle.kr_base.specs.declared.entry.Entry.{Entry as EntryOf};
-ghost use Rattle.kr_survey.specs.declared.taker.Room.TheVariants.{More};
-ghost use Rattle.kr_pool_desk.specs.Listings.{ListsFrom};
+ghost use Rattle.kr_pool.specs.Vocabulary.{EntryOf, ListsFrom, More};
 ghost use Rattle.kr_pool.specs.Handing.{HandsOver, HandsRest};
 
 use kr_survey::{End, Halt, Listing, Room, RowList, Rows, Taker};

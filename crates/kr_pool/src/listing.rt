@@ -1,8 +1,6 @@
 // The listing of a span by many workers.
 ghost use Rattle.std.specs.Prelude.{◌≡◌, ◌<◌, ◌≤◌, List, true, IfOk};
-ghost use Rattle.kr_base.specs.declared.entry.Entry.{Entry as EntryOf};
-ghost use Rattle.kr_survey.specs.Listings.{listed_in, Lists};
-ghost use Rattle.kr_survey.specs.declared.taker.Halt.TheVariants.{Sink};
+ghost use Rattle.kr_pool.specs.Vocabulary.{EntryOf, listed_in, Lists, Sink};
 ghost use Rattle.kr_pool.specs.Collecting.{Collected};
 ghost use Rattle.kr_pool.specs.Sharing.{is_whole};
 

@@ -1,10 +1,7 @@
 // The seats of all workers at a board, in rounds that the caller leads.
 ghost use Rattle.std.specs.Prelude.{◌≡◌, ◌+◌, ◌<◌, ◌≤◌, ◌++◌, ◌∷◌, [], Some, IfOk, IfSome, ◌||◌, ◌&&◌, is_some, length, map, reverse, vec_capacity, true};
 ghost use Rattle.std.specs.List.{list_all, list_any};
-ghost use Rattle.kr_core.specs.Openings.{AreInside};
-ghost use Rattle.kr_core.specs.Rows.{drained};
-ghost use Rattle.kr_board.specs.Boards.{IsBoardOf};
-ghost use Rattle.kr_pool_desk.specs.Seats.{numbers_below, numbers_of};
+ghost use Rattle.kr_pool.specs.Vocabulary.{AreInside, drained, IsBoardOf, numbers_below, numbers_of};
 
 use crate::alone::Alone;
 use kr_base::{Cut, NoMemory, Span};

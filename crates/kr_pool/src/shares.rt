@@ -1,14 +1,6 @@
 // A span shared by many workers.
 ghost use Rattle.std.specs.Prelude.{◌≡◌, ◌+◌, ◌<◌, ◌≤◌, [], Some, None, true, List, ℕ, IfOk, IfSome, length, vec_capacity, take};
-ghost use Rattle.kr_base.specs.declared.entry.Entry.{Entry as EntryOf};
-ghost use Rattle.kr_core.specs.Openings.{AreInside, opening};
-ghost use Rattle.kr_core.specs.Rows.{drained};
-ghost use Rattle.kr_survey.specs.Listings.{listed_in};
-ghost use Rattle.kr_survey.specs.declared.taker.Room.TheVariants.{More};
-ghost use Rattle.kr_core.specs.Cutting.{cuts_for as cuts_of};
-ghost use Rattle.kr_pool_desk.specs.Limits.{KeepsWindow};
-ghost use Rattle.kr_pool_desk.specs.Listings.{ListsFrom};
-ghost use Rattle.kr_pool_desk.specs.Runs.{are_shared};
+ghost use Rattle.kr_pool.specs.Vocabulary.{are_shared, AreInside, cuts_of, drained, EntryOf, KeepsWindow, listed_in, ListsFrom, More, opening};
 ghost use Rattle.kr_pool.specs.Handing.{ReachesTo};
 ghost use Rattle.kr_pool.specs.Sharing.{EndsFull, IsLog, IsLogOf, Shares, SharesLogged, SharesRest, with_log};
 

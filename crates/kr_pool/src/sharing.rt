@@ -1,8 +1,7 @@
 // Rounds in which all seats work, and the caller hands over what comes next between two parts of its own.
 ghost use Rattle.std.specs.Prelude.{◌≡◌, ◌<◌, ◌||◌, ◌&&◌, is_some, length, true};
 ghost use Rattle.std.specs.List.{list_all, list_any};
-ghost use Rattle.kr_survey.specs.Listings.{listed_in};
-ghost use Rattle.kr_survey.specs.declared.taker.Room.TheVariants.{More, Full};
+ghost use Rattle.kr_pool.specs.Vocabulary.{Full, listed_in, More};
 ghost use Rattle.kr_pool.specs.Handing.{ComesTo};
 
 use crate::came::Came;

@@ -1,11 +1,5 @@
-//! Tests of listings by many workers.
+//! Tests of listings by many workers, who share a board or have a deque each: rows against keys, pieces joined, spans taken.
 #![tactic(auto)]
 
 #[cfg(test)]
-mod gates;
-#[cfg(test)]
-mod listing;
-#[cfg(test)]
-mod rounds;
-#[cfg(test)]
-mod surveys;
+mod tests;

@@ -3,19 +3,19 @@ use Rattle.std.proofs.Common.{◌≡◌, refl, sym, ap, ◌∙◌, subst, ℕ, �
 use Rattle.std.specs.Prelude.{Option, Some, None, map, flat_map, option_to_list, if◌then◌else◌}
 use Rattle.std.specs.List.{AllZip}
 use Rattle.std.proofs.lemmas.Grind.{flat_map-append}
-use Rattle.std.proofs.lemmas.List.{take_more}
+use Rattle.std.proofs.lemmas.List.{take_more, map-append}
 use Rattle.std.proofs.lemmas.List.Elements.{All-nil, All-cons, All-append}
 use Rattle.kr_ast.specs.Tree.{Tree}
 use Rattle.kr_classes_table.specs.Types.{JavaType}
 use Rattle.kr_classes_table.specs.Table.{Constructor, Field, Method, items, own_fields, is_instance}
-use Rattle.kr_types_meaning.specs.Scopes.{Scope, in_contract}
+use Rattle.kr_types_meaning.specs.Scopes.{Scope, Requiring, in_contract}
 use Rattle.kr_ast.specs.declared.files.NodeId.{NodeId}
 use Rattle.kr_types_meaning.specs.Running.{running}
 use Rattle.kr_types.specs.declared.program.Program.{Program}
 use Rattle.kr_mean.specs.Program as meaning
 use Rattle.kr_mean.specs.Program.{class_scope, constructor_of, constructor_scope, method_scope, program_with}
 use Rattle.kr_mean.specs.Code.{Node, code, code_of_all, code_of_class, code_of_constructor, code_of_method}
-use Rattle.kr_mean.specs.Runs.{contract_nodes}
+use Rattle.kr_mean.specs.Runs.{required_in, requires_of}
 use Rattle.kr_pure.proofs.Nodes.{maybe, statements, super_call}
 use Rattle.kr_pure.proofs.Walk.{all_code}
 use Rattle.kr_code_members.specs.Nodes.{AreMemberNodes, IsClassNodes, IsConstructorNode, IsFieldNode, IsMaybeConstructorNode, IsMethodNode, node_scope, node_tree, table}
@@ -27,7 +27,8 @@ use Rattle.kr_code_members.specs.declared.nodes.MemberNodes.{MemberNodes}
 use Rattle.kr_classes_members.specs.Rosters.{all_methods, method_numbered}
 use Rattle.std.proofs.lemmas.Option.{slice_get_read}
 use Rattle.kr_pure.specs.declared.conditions.Side.{Side}
-use Rattle.kr_pure.specs.Entries.{Enter, IsEntry, class_entries, code_at, constructor_entries, initial_entry, line_code, part_of, stated}
+use Rattle.kr_pure.specs.declared.conditions.Side.TheVariants as sides
+use Rattle.kr_pure.specs.Entries.{Enter, IsEntry, class_entries, code_at, constructor_entries, initial_entry, line_code, side_nodes, stated}
 use Rattle.kr_pure.proofs.Lists.{take_past}
 
 pub none_entered : (p : Program) → Enter p [] []
@@ -112,22 +113,27 @@ module _ (p : Program) (arrays : List JavaType) where
 
   -- ---- contracts
 
-  line_same : (s : Scope) (side : Side) (es : List Tree) → flat_map (λ (e : Node). code e.scope e.tree) (map (λ e. record { scope = in_contract (part_of side) s; tree = e }) es) ≡ flat_map (λ e. code (in_contract (part_of side) s) e) es
-  line_same s side [] = refl
-  line_same s side (e ∷ es) = ap (λ ns. code (in_contract (part_of side) s) e ++ ns) (line_same s side es)
-
-  lines_same : (s : Scope) (side : Side) (ts : List Tree) → flat_map (λ (e : Node). code e.scope e.tree) (map (λ e. record { scope = in_contract (part_of side) s; tree = e }) (flat_map (stated side) ts)) ≡ flat_map (line_code side s) ts
+  lines_same : (s : Scope) (side : Side) (ts : List Tree) → flat_map (λ (n : Node). code n.scope n.tree) (flat_map (stated side s) ts) ≡ flat_map (line_code side s) ts
   lines_same s side [] = refl
-  lines_same s side (t ∷ ts) =
-      line_same s side (stated side t ++ flat_map (stated side) ts) ∙ (flat_map-append (λ e. code (in_contract (part_of side) s) e) (stated side t) (flat_map (stated side) ts)
-      ∙ ap (λ ns. line_code side s t ++ ns) (sym (line_same s side (flat_map (stated side) ts)) ∙ lines_same s side ts))
+  lines_same s side (t ∷ ts) = flat_map-append (λ (n : Node). code n.scope n.tree) (stated side s t) (flat_map (stated side s) ts) ∙ ap (λ ns. line_code side s t ++ ns) (lines_same s side ts)
 
   -- the conditions of a method's contract are those of its lines
   pub contract_same : (m : Method) (n : MethodNode) (side : Side) → IsMethodNode p m n
-      → flat_map (line_code side (running (node_scope p n.file n.contracts))) (items (node_tree p n.file n.contracts)) ≡ flat_map (λ (e : Node). code e.scope e.tree) (contract_nodes mean (part_of side) (stated side) m)
+      → flat_map (line_code side (running (node_scope p n.file n.contracts))) (items (node_tree p n.file n.contracts)) ≡ flat_map (λ (e : Node). code e.scope e.tree) (side_nodes mean side m)
   contract_same m n side h =
       ap (λ s. flat_map (line_code side s) (items (node_tree p n.file n.contracts))) (h.contracts_scope arrays)
       ∙ (ap (flat_map (line_code side (method_scope mean m))) h.contracts ∙ sym (lines_same (method_scope mean m) side m.contracts))
+
+abbrev required_node : Scope → Tree → Node
+required_node s e = record { scope = in_contract Requiring s; tree = e }
+
+required_lines : (s : Scope) (ts : List Tree) → flat_map (stated sides.Required s) ts ≡ map (required_node s) (flat_map required_in ts)
+required_lines s [] = refl
+required_lines s (t ∷ ts) = ap (λ (ns : List Node). stated sides.Required s t ++ ns) (required_lines s ts) ∙ sym (map-append (required_node s) (required_in t) (flat_map required_in ts))
+
+-- those before the call are its preconditions
+pub required_same : (program : meaning.Program) (m : Method) → side_nodes program sides.Required m ≡ requires_of program m
+required_same program m = required_lines (method_scope program m) m.contracts
 
 -- ---- lists of them
 

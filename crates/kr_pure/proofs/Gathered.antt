@@ -99,12 +99,16 @@ none s t p e = seen s t [] [] p (covers_none s t) (comes_none s t) e
 pub nothing : (s : Scope) (t : Tree) → steps_of t ≡ [] → code (running s) t ≡ [] → (IsActing t → ⊥) → IsSeen s t
 nothing s t p e not = seen_through s t [] [] p (covers_none s t) (comes_none s t) e not
 
+covers_one : (s : Scope) (t a : Tree) → IsSeen (handed s t 0) a → Covers s t (a ∷ []) (code (running (handed s t 0)) a)
+covers_one s t a ha zero u e = covered s t 0 a u _ (cc) ha (λ n h. h)
+covers_one s t a ha (suc j) u e = absurd (cc)
+
 pub one : (s : Scope) (t a : Tree) → steps_of t ≡ a ∷ [] → code (running s) t ≡ run_of (record { scope = s; tree = t }) ∷ code (running (handed s t 0)) a → IsSeen (handed s t 0) a → IsSeen s t
-one s t a p e ha = seen s t (a ∷ []) (code (running (handed s t 0)) a) p covers (λ n h. (0, a, refl, h)) e
-  where
-    covers : Covers s t (a ∷ []) (code (running (handed s t 0)) a)
-    covers zero u e = covered s t 0 a u _ (cc) ha (λ n h. h)
-    covers (suc j) u e = absurd (cc)
+one s t a p e ha = seen s t (a ∷ []) (code (running (handed s t 0)) a) p (covers_one s t a ha) (λ n h. (0, a, refl, h)) e
+
+-- a node that is no code itself
+pub only : (s : Scope) (t a : Tree) → steps_of t ≡ a ∷ [] → code (running s) t ≡ code (running (handed s t 0)) a → (IsActing t → ⊥) → IsSeen (handed s t 0) a → IsSeen s t
+only s t a p e not ha = seen_through s t (a ∷ []) (code (running (handed s t 0)) a) p (covers_one s t a ha) (λ n h. (0, a, refl, h)) e not
 
 module _ (s : Scope) (t a b : Tree) (ha : IsSeen (handed s t 0) a) (hb : IsSeen (handed s t 1) b) where
   covers_two : Covers s t (a ∷ b ∷ []) (code (running (handed s t 0)) a ++ code (running (handed s t 1)) b)

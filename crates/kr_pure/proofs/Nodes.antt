@@ -6,14 +6,15 @@ use Rattle.kr_ast.specs.declared.node.UnaryOperator.{UnaryOperator}
 use Rattle.kr_ast.specs.declared.node.UnaryOperator.TheVariants.{Minus}
 use Rattle.kr_types_meaning.specs.Scopes.{Scope, Declaring, Locals, value, statement, in_loop, in_old, declaring, bind_local, bind_as, after}
 use Rattle.kr_types_meaning.specs.Typing.{operand}
+use Rattle.kr_types_meaning.specs.Laws.{IsClassName}
 use Rattle.kr_laws_shapes.specs.Expressions.{IsCreated, Shaped}
 use Rattle.kr_types_meaning.specs.Running.{local_type, running}
 use Rattle.kr_laws_types.proofs.Loops.{running_same}
 use Rattle.kr_types_meaning.specs.Handing.{handed}
 use Rattle.kr_mean.specs.Code.{Node, code}
-use Rattle.kr_laws_shapes.specs.Shapes.{AreDeclarators, AreExpressions, AreStatements, IsCode, IsExpression, IsVariableType, MayBeExpression, One, Several, Sort, MayCallSuper}
+use Rattle.kr_laws_shapes.specs.Shapes.{AreDeclarators, AreExpressions, AreStatements, IsCaught, IsCode, IsExpression, IsVariableType, MayBeExpression, One, Several, Catch, Catches, Sort, MayCallSuper}
 use Rattle.kr_pure.specs.Seen.{IsSeen, run_of}
-use Rattle.kr_pure.proofs.Gathered.{both, four, none, nothing, one, three, two}
+use Rattle.kr_pure.proofs.Gathered.{both, four, none, nothing, one, only, three, two}
 
 -- ---- types are no code
 
@@ -37,6 +38,18 @@ declared s (trees.QualifiedType p o n) h = created s (trees.QualifiedType p o n)
 declared s (trees.GenericType p i a) h = record { seen = nothing s _ refl refl (λ a. a); empty = λ r. refl }
 declared s (trees.ArrayType p e) h = record { seen = nothing s _ refl refl (λ a. a); empty = λ r. refl }
 declared s _ h = absurd h
+
+class_name : (s : Scope) (t : Tree) → IsClassName t → IsNoCode s t
+class_name s (trees.NamedType p n) h = created s (trees.NamedType p n) tt
+class_name s (trees.QualifiedType p o n) h = created s (trees.QualifiedType p o n) tt
+class_name s _ h = absurd h
+
+-- what a `catch` declares
+caught : (s : Scope) (t : Tree) → IsCaught t → IsNoCode s t
+caught s (trees.Parameter p t n) h =
+    let no = class_name s t h in
+    record { seen = only s (trees.Parameter p t n) t refl (sym (no.empty (running s))) (λ a. a) no.seen; empty = λ r. refl }
+caught s _ h = absurd h
 
 -- a type, then code; or the other way round
 behind_type : (s : Scope) (t a b : Tree) → IsNoCode (handed s t 0) a → code (running s) t ≡ run_of (record { scope = s; tree = t }) ∷ code (running (handed s t 1)) b → code (running s) t ≡ run_of (record { scope = s; tree = t }) ∷ (code (running (handed s t 0)) a ++ code (running (handed s t 1)) b)
@@ -143,8 +156,19 @@ shaped_code (One d) s (trees.Do p a c) h = two s (trees.Do p a c) a c (shaped_co
 shaped_code (One d) s (trees.For p i c u a) h =
     four s (trees.For p i c u a) i c u a (shaped_code Several s i h.0) (maybe (after s i) c h.1) (expressions (statement (after s i)) u h.2) (shaped_code (One false) (in_loop (after s i)) a h.3) refl
     (ap (λ (r : Scope). run_of (record { scope = s; tree = trees.For p i c u a }) ∷ (code (running s) i ++ code r c ++ code r u ++ code r a)) (running_same s i).scope)
+shaped_code (One d) s (trees.Throw p e) h = one s (trees.Throw p e) e refl refl (expression s e h)
+shaped_code (One d) s (trees.Try p b cs) h = two s (trees.Try p b cs) b cs (shaped_code (One false) s b h.1) (shaped_code Catches s cs h.2) refl refl
+shaped_code Catch s (trees.Catch p d b) h =
+    let no = caught s d h.0 in
+    two s (trees.Catch p d b) d b no.seen (shaped_code (One false) (after s d) b h.1) refl
+    (behind_type s (trees.Catch p d b) d b no (ap (λ (r : Scope). run_of (record { scope = s; tree = trees.Catch p d b }) ∷ code r b) (running_same s d).scope))
+shaped_code Catches s trees.Nil h = nothing s trees.Nil refl refl (λ a. a)
+shaped_code Catches s (trees.Cons a b) h =
+    both s (trees.Cons a b) a b (shaped_code Catch s a h.0) (shaped_code Catches (after s a) b h.1) refl (ap (λ (r : Scope). code (running s) a ++ code r b) (running_same s a).scope) (λ a. a)
 shaped_code Several s _ h = absurd h
 shaped_code (One d) s _ h = absurd h
+shaped_code Catch s _ h = absurd h
+shaped_code Catches s _ h = absurd h
 
 pub statements : (s : Scope) (t : Tree) → AreStatements t → IsSeen s t
 statements s t h = shaped_code Several s t h

@@ -1,13 +1,17 @@
 -- Between crates: nodes at which code is entered: lists of statements, initial values, conditions.
-use Rattle.std.specs.Prelude.{◌≡◌, ℕ, List, [], ◌∷◌, ◌++◌, flat_map, All, Option, Some, None, if◌then◌else◌}
+use Rattle.std.specs.Prelude.{◌≡◌, ℕ, List, [], ◌∷◌, ◌++◌, map, flat_map, All, Option, Some, None, if◌then◌else◌}
 use Rattle.kr_ast.specs.Tree.{Tree}
-use Rattle.kr_types_meaning.specs.Scopes.{Scope, Part, Requiring, Ensuring, in_contract}
+use Rattle.kr_classes_table.specs.Table.{Method}
+use Rattle.kr_types_meaning.specs.Scopes.{Scope, Requiring, in_contract}
 use Rattle.kr_ast.specs.declared.files.NodeId.{NodeId}
 use Rattle.kr_types_meaning.specs.Running.{running}
 use Rattle.kr_laws_shapes.specs.Shapes.{IsContractLine, IsExpression}
 use Rattle.kr_types.specs.declared.program.Program.{Program}
 use Rattle.kr_mean.specs.Code.{Node, code}
-use Rattle.kr_mean.specs.Runs.{ensured_in, required_in}
+use Rattle.kr_mean.specs.Program as meaning
+use Rattle.kr_mean.specs.Program.{method_scope}
+use Rattle.kr_mean.specs.Runs.{required_in}
+use Rattle.kr_mean.specs.Purity.{condition_after}
 use Rattle.kr_pure.specs.Seen.{IsSeen}
 use Rattle.kr_code_members.specs.Nodes.{IsThere, node_scope, node_tree}
 use Rattle.kr_code_members.specs.declared.nodes.ClassNodes.{ClassNodes}
@@ -49,18 +53,17 @@ class_entries k = flat_map initial_entry k.fields.items ++ constructor_entries k
 
 -- ---- conditions
 
-abbrev pub part_of : Side → Part
-part_of sides.Required = Requiring
-part_of sides.Ensured = Ensuring
+-- the conditions of that side in a line, in the scope of its method
+abbrev pub stated : Side → Scope → Tree → List Node
+stated sides.Required s t = map (λ e. record { scope = in_contract Requiring s; tree = e }) (required_in t)
+stated sides.Ensured s t = condition_after s t
 
--- the condition of a line of that side
-abbrev pub stated : Side → Tree → List Tree
-stated sides.Required t = required_in t
-stated sides.Ensured t = ensured_in t
+abbrev pub side_nodes : meaning.Program → Side → Method → List Node
+side_nodes program side m = flat_map (stated side (method_scope program m)) m.contracts
 
--- the code of the conditions of that side in a line, in a scope
+-- their code
 abbrev pub line_code : Side → Scope → Tree → List Node
-line_code side s t = flat_map (λ e. code (in_contract (part_of side) s) e) (stated side t)
+line_code side s t = flat_map (λ (n : Node). code n.scope n.tree) (stated side s t)
 
 -- a line of a contract
 pub record IsLine (p : Program) (file line : ℕ) : Type 0 where
@@ -70,6 +73,5 @@ pub record IsLine (p : Program) (file line : ℕ) : Type 0 where
 -- it is the condition of a line of that side
 pub record IsCondition (p : Program) (side : Side) (file line node : ℕ) : Type 0 where
   pub there : IsThere p file node
-  pub scope : node_scope p file node ≡ in_contract (part_of side) (node_scope p file line)
-  pub stated_is : stated side (node_tree p file line) ≡ node_tree p file node ∷ []
+  pub stated_is : stated side (running (node_scope p file line)) (node_tree p file line) ≡ node_of p (record { file = file; node = node }) ∷ []
   pub shape : IsExpression (node_tree p file node)

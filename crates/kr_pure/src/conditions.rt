@@ -14,7 +14,7 @@ use kr_code_members::list_nodes;
 use kr_types::Program;
 use std::alloc::Global;
 
-/// The conditions that hold before a call, or those that hold after it.
+/// The conditions that are looked at before a call, or those of `ensures` and `signals` after it.
 #[derive(Clone, Copy)]
 pub(crate) enum Side {
     Required,
@@ -25,7 +25,7 @@ pub(crate) enum Side {
 fn condition_of(program: &Program, side: Side, file: u32, line: u32) -> Option<u32>
     requires program { IsProgram program.now }
     requires line { IsLine program.now file line }
-    ensures { MatchOption result (stated side (node_tree program.now file line) ≡ []) (λ n. IsCondition program.now side file line n) }
+    ensures { MatchOption result (stated side (running (node_scope program.now file line)) (node_tree program.now file line) ≡ []) (λ n. IsCondition program.now side file line n) }
 {
     match tree_of(&program.trees, file).entry(line).node {
         Node::Requires { condition } => match side {
@@ -33,6 +33,10 @@ fn condition_of(program: &Program, side: Side, file: u32, line: u32) -> Option<u
             Side::Ensured => None,
         },
         Node::Ensures { condition } => match side {
+            Side::Required => None,
+            Side::Ensured => Some(condition),
+        },
+        Node::Signals { condition, .. } => match side {
             Side::Required => None,
             Side::Ensured => Some(condition),
         },

@@ -5,13 +5,12 @@ ghost use Rattle.kr_classes_members.specs.Rosters.{all_methods, method_numbered}
 ghost use Rattle.kr_types.specs.Programs.{IsProgram};
 ghost use Rattle.kr_mean.specs.Program.{program_with};
 ghost use Rattle.kr_mean.specs.Code.{Node as CodeNode, code, code_of_method};
-ghost use Rattle.kr_mean.specs.Runs.{contract_nodes};
 ghost use Rattle.kr_mean.specs.Purity.{contract_of, rep_ok_method, roots, tested};
 ghost use Rattle.kr_code_members.specs.Nodes.{AreMemberNodes, table};
 ghost use Rattle.kr_space_problem.specs.declared.problem.Problem.{Problem as Posing};
 ghost use Rattle.kr_space_problem.specs.Posed.{IsPosed, posed};
 ghost use Rattle.kr_space_problem.specs.Subjects.{IsSubject};
-ghost use Rattle.kr_pure.specs.Entries.{Enter, part_of, stated};
+ghost use Rattle.kr_pure.specs.Entries.{Enter, side_nodes};
 
 use crate::conditions::{Side, add_conditions};
 use crate::members::add_bodies;
@@ -51,7 +50,7 @@ fn add_side(
     requires program { IsProgram program.now }
     requires nodes { AreMemberNodes program.now nodes.now }
     requires method { method < length (all_methods (table program.now)) }
-    ensures { (before : List CodeNode) (arrays : List JavaType) → IfOk result (λ done. Enter program.now before entries.old.items → Enter program.now (before ++ flat_map (λ e. code e.scope e.tree) (contract_nodes (program_with (table program.now) arrays) (part_of side) (stated side) (method_numbered (table program.now) method))) entries.new.items) }
+    ensures { (before : List CodeNode) (arrays : List JavaType) → IfOk result (λ done. Enter program.now before entries.old.items → Enter program.now (before ++ flat_map (λ e. code e.scope e.tree) (side_nodes (program_with (table program.now) arrays) side (method_numbered (table program.now) method))) entries.new.items) }
 {
     let found = nodes.methods[method as usize];
     add_conditions(alloc, program, side, found.file, found.contracts, entries)

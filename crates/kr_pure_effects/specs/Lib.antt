@@ -1,2 +1,3 @@
 pub mod Nodes
 pub mod Touches
+pub mod Vocabulary

@@ -1,8 +1,6 @@
 // Whether a node touches the candidates of a problem.
 ghost use Rattle.std.specs.Prelude.{◌≡◌, ◌↔◌, ◌^◌, ◌<◌, ◌≤◌, IfOk, OnErr, IsTrue, Some, length, slice_get};
-ghost use Rattle.kr_ast.specs.Files.{file_at};
-ghost use Rattle.kr_types.specs.declared.program.TypedFile.{TypedFile as Typed};
-ghost use Rattle.kr_space_problem.specs.Posed.{IsPosed, posed};
+ghost use Rattle.kr_pure_effects.specs.Vocabulary.{file_at, IsPosed, posed, Typed};
 ghost use Rattle.kr_pure_effects.specs.Nodes.{TouchesCandidates, node_there};
 
 use crate::nodes::touch_of;

@@ -1,13 +1,6 @@
 // The classes of which a creation runs code.
 ghost use Rattle.std.specs.Prelude.{◌≡◌, ◌<◌, All, IfOk, List, length};
-ghost use Rattle.kr_ast.specs.Arena.{Arena};
-ghost use Rattle.kr_ast.specs.Tree.{Tree};
-ghost use Rattle.kr_classes_table.specs.Table.{type_named};
-ghost use Rattle.kr_classes_members.specs.Shown.{table_in};
-ghost use Rattle.kr_classes_members.specs.Kept.{AreMembers};
-ghost use Rattle.kr_classes_names.specs.Types.{count, type_at};
-ghost use Rattle.kr_mean.specs.Program.{Program};
-ghost use Rattle.kr_mean.specs.Code.{classes_of};
+ghost use Rattle.kr_pure_effects.specs.Vocabulary.{AreMembers, Arena, classes_of, count, Program, table_in, Tree, type_at, type_named};
 
 use kr_base::NoMemory;
 use kr_classes_members::Members;

@@ -1,12 +1,6 @@
 // A node's entry and the type that it names; and methods by their numbers.
 ghost use Rattle.std.specs.Prelude.{◌≡◌, ◌<◌, length};
-ghost use Rattle.kr_ast.specs.Arena.{tree_in};
-ghost use Rattle.kr_classes_table.specs.Table.{type_named};
-ghost use Rattle.kr_ast.specs.Files.{file_at};
-ghost use Rattle.kr_classes_members.specs.Shown.{IsMethod, method_shown, table_in};
-ghost use Rattle.kr_classes_members.specs.Rosters.{all_methods, method_numbered};
-ghost use Rattle.kr_classes_names.specs.Types.{IsTypeNumber};
-ghost use Rattle.kr_types.specs.Programs.{IsProgram};
+ghost use Rattle.kr_pure_effects.specs.Vocabulary.{all_methods, file_at, IsMethod, IsProgram, IsTypeNumber, method_numbered, method_shown, table_in, tree_in, type_named};
 ghost use Rattle.kr_pure_effects.specs.Nodes.{IsEntry};
 
 use kr_ast::{Entry, tree_of};

@@ -1,14 +1,7 @@
 // The touch of a node.
 ghost use Rattle.std.specs.Prelude.{◌≡◌, ◌<◌, Some, length, slice_get};
-ghost use Rattle.kr_ast.specs.Arena.{tree_in};
-ghost use Rattle.kr_types_meaning.specs.Running.{running};
-ghost use Rattle.kr_ast.specs.Files.{file_at};
-ghost use Rattle.kr_types.specs.Programs.{IsProgram, scope_there};
-ghost use Rattle.kr_types.specs.declared.program.TypedFile.{TypedFile as Typed};
-ghost use Rattle.kr_value.specs.declared.object.Class.{Class};
 ghost use Rattle.kr_mean.specs.Program as meaning;
-ghost use Rattle.kr_mean.specs.Meaning.{target_of};
-ghost use Rattle.kr_mean.specs.Purity.{may_touch, writes_to};
+ghost use Rattle.kr_pure_effects.specs.Vocabulary.{Class, file_at, IsProgram, may_touch, running, scope_there, target_of, tree_in, Typed, writes_to};
 ghost use Rattle.kr_pure_effects.specs.Nodes.{node_there};
 ghost use Rattle.kr_pure_effects.specs.Touches.{IsTouchWithin, touches};
 

@@ -1,11 +1,6 @@
 // The methods that a call of a method may run.
 ghost use Rattle.std.specs.Prelude.{◌≡◌, ◌<◌, IfOk, IfSome, All, length, map, option_map};
-ghost use Rattle.kr_value.specs.declared.object.Class.TheVariants.{Object};
-ghost use Rattle.kr_classes_members.specs.Shown.{IsMethod, method_shown, table_in};
-ghost use Rattle.kr_classes_members.specs.Kept.{AreMembers};
-ghost use Rattle.kr_classes_members.specs.Rosters.{IsRoster, all_methods, method_numbered};
-ghost use Rattle.kr_mean.specs.Program.{Program, overriding};
-ghost use Rattle.kr_mean.specs.Code.{overriders};
+ghost use Rattle.kr_pure_effects.specs.Vocabulary.{all_methods, AreMembers, IsMethod, IsRoster, method_numbered, method_shown, Object, overriders, overriding, Program, table_in};
 
 use kr_ast::{Tree, tree_of};
 use kr_base::{NoMemory, add_found};

@@ -1,12 +1,7 @@
 // The methods and classes whose code a node may run.
 ghost use Rattle.std.specs.Prelude.{◌≡◌, ◌<◌, All, IfOk, Some, length, map, slice_get};
-ghost use Rattle.kr_ast.specs.Files.{file_at};
-ghost use Rattle.kr_classes_members.specs.Shown.{table_in};
-ghost use Rattle.kr_classes_members.specs.Rosters.{all_methods, method_numbered};
-ghost use Rattle.kr_types.specs.Programs.{IsProgram};
-ghost use Rattle.kr_types.specs.declared.program.TypedFile.{TypedFile as Typed};
 ghost use Rattle.kr_mean.specs.Program as meaning;
-ghost use Rattle.kr_mean.specs.Code.{classes_run, methods_run};
+ghost use Rattle.kr_pure_effects.specs.Vocabulary.{all_methods, classes_run, file_at, IsProgram, method_numbered, methods_run, table_in, Typed};
 ghost use Rattle.kr_pure_effects.specs.Nodes.{node_there};
 
 use crate::callees::methods_of;

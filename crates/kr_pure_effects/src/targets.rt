@@ -1,14 +1,8 @@
 // The touch of the creation of an object, and of a write of a field or an element.
 ghost use Rattle.std.specs.Prelude.{◌≡◌, ◌<◌, IfSome, option_map};
 ghost use Rattle.kr_ast.specs.Tree as trees;
-ghost use Rattle.kr_value.specs.declared.object.Class.{Class};
-ghost use Rattle.kr_classes_members.specs.Shown.{table_in};
-ghost use Rattle.kr_classes_names.specs.Types.{TypeList, count, type_at};
-ghost use Rattle.kr_types.specs.Programs.{IsProgram};
 ghost use Rattle.kr_mean.specs.Program as meaning;
-ghost use Rattle.kr_mean.specs.Meaning.{element_target};
-ghost use Rattle.kr_mean.specs.Purity.{is_class, writes_to};
-ghost use Rattle.kr_types_resolving.specs.Shown.{IsMeaningWithin, meaning_shown};
+ghost use Rattle.kr_pure_effects.specs.Vocabulary.{Class, count, element_target, is_class, IsMeaningWithin, IsProgram, meaning_shown, table_in, type_at, TypeList, writes_to};
 ghost use Rattle.kr_pure_effects.specs.Touches.{IsTouchWithin, field_written, touches};
 
 use crate::touch::Touch;

@@ -1,14 +1,8 @@
 // The touch of a node, and whether it touches candidates.
 ghost use Rattle.std.specs.Prelude.{◌≡◌, ◌<◌, List, All, length, map};
-ghost use Rattle.kr_ast.specs.Arena.{Arena};
-ghost use Rattle.kr_classes_table.specs.Types.{ArrayType, VoidType, is_same};
 ghost use Rattle.std.proofs.Common.{get_or};
-ghost use Rattle.kr_classes_members.specs.Shown.{table_in};
-ghost use Rattle.kr_classes_members.specs.Kept.{AreMembers};
-ghost use Rattle.kr_classes_names.specs.Types.{count, type_at};
 ghost use Rattle.kr_mean.specs.Program as mean;
-ghost use Rattle.kr_mean.specs.Problem.{domain_at};
-ghost use Rattle.kr_space_layout.specs.Bounds.{bare};
+ghost use Rattle.kr_pure_effects.specs.Vocabulary.{AreMembers, Arena, ArrayType, bare, count, domain_at, is_same, table_in, type_at, VoidType};
 ghost use Rattle.kr_pure_effects.specs.Touches as spec;
 ghost use Rattle.kr_pure_effects.specs.Touches.{IsTouchWithin};
 

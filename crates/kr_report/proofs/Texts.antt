@@ -36,6 +36,6 @@ pub row_is : (problem : Problem) (v : List ℕ) → problem.mode ≡ Listing
 row_is problem v e =
     let key = cut_text (key_of problem v) ++ codes " " in
     let structure = structure_text problem (structure_of problem v) in
-    let none : verdict_text (verdict_of problem v) ≡ [] = ap verdict_text (no_verdict problem v e) in
-    let same : key ++ verdict_text (verdict_of problem v) ≡ key = ap (λ t. key ++ t) none ∙ append-nil key in
+    let none : verdict_text problem.program.table.headings (verdict_of problem v) ≡ [] = ap (verdict_text problem.program.table.headings) (no_verdict problem v e) in
+    let same : key ++ verdict_text problem.program.table.headings (verdict_of problem v) ≡ key = ap (λ t. key ++ t) none ∙ append-nil key in
     ap (λ t. (t ++ structure) ++ codes "\n") (sym same)

@@ -5,7 +5,7 @@ use Rattle.kr_base.specs.declared.entry.Mark.TheVariants.{Valid, Invalid, Spent}
 use Rattle.kr_base.specs.declared.entry.Entry.{Entry}
 use Rattle.kr_mean.specs.Problem.{Problem}
 use Rattle.kr_mean.specs.declared.kind.Verdict.{Verdict}
-use Rattle.kr_mean.specs.declared.kind.Verdict.TheVariants.{Pass, Ensures, RepOk, Trap, CheckTrap, Spent as OutOfFuel}
+use Rattle.kr_mean.specs.declared.kind.Verdict.TheVariants.{Pass, Ensures, Signals, RepOk, Trap, CheckTrap, Spent as OutOfFuel}
 use Rattle.kr_mean.specs.declared.mode.Mode.{Mode}
 use Rattle.kr_mean.specs.declared.mode.Mode.TheVariants.{List as Listing, Method as Testing}
 use Rattle.kr_mean.specs.declared.row.Row.{Row}
@@ -51,6 +51,7 @@ abbrev pub is_failing : Option Verdict → Bool
 is_failing None = false
 is_failing (Some Pass) = false
 is_failing (Some (Ensures n)) = true
+is_failing (Some (Signals n)) = true
 is_failing (Some RepOk) = true
 is_failing (Some (Trap kind)) = true
 is_failing (Some (CheckTrap kind)) = true

@@ -4,15 +4,17 @@ use Rattle.std.specs.Prelude.{ℕ, ◌-◌, ◌^◌, true, false, List, [], ◌�
 use Rattle.std.specs.Fmt.{signed_decimal}
 use Rattle.std.proofs.Common.{get_or}
 use Rattle.kr_base.specs.Cuts.{cut_text}
-use Rattle.kr_classes_table.specs.Table.{Table, Method, fields_of}
+use Rattle.kr_base.specs.Places.{nowhere}
+use Rattle.kr_ast.specs.Tree.{Nil}
+use Rattle.kr_classes_table.specs.Table.{Table, Heading, Method, fields_of}
 use Rattle.kr_mean.specs.Places.{SlotPlace, This, Parameter, At}
 use Rattle.kr_mean.specs.Problem.{Problem, DomainObject, all_objects, domain_at, slot_at}
 use Rattle.kr_mean.specs.Heaps.{distinct, is_same_object, is_owner}
 use Rattle.kr_mean.specs.Runs.{tested_method}
 use Rattle.kr_mean.specs.declared.kind.Kind.{Kind}
-use Rattle.kr_mean.specs.declared.kind.Kind.TheVariants.{NullPointerException, ArithmeticException, ArrayIndexOutOfBoundsException, NegativeArraySizeException, ClassCastException, NoSuchElementException, NoReturn, ArrayTooLong}
+use Rattle.kr_mean.specs.declared.kind.Kind.TheVariants.{NullPointerException, ArithmeticException, ArrayIndexOutOfBoundsException, NegativeArraySizeException, ClassCastException, NoSuchElementException, Thrown, NoReturn, ArrayTooLong}
 use Rattle.kr_mean.specs.declared.kind.Verdict.{Verdict}
-use Rattle.kr_mean.specs.declared.kind.Verdict.TheVariants.{Pass, Ensures, RepOk, Trap, CheckTrap, Spent as OutOfFuel}
+use Rattle.kr_mean.specs.declared.kind.Verdict.TheVariants.{Pass, Ensures, Signals, RepOk, Trap, CheckTrap, Spent as OutOfFuel}
 use Rattle.kr_mean.specs.declared.row.Row.{Row}
 use Rattle.kr_value.specs.declared.object.Class.{Class}
 use Rattle.kr_value.specs.declared.object.Class.TheVariants.{Object, Array}
@@ -112,29 +114,39 @@ structure_text problem structure =
 
 -- ---- lines
 
-abbrev pub trap_text : Kind → List ℕ
-trap_text NullPointerException = codes "NullPointerException"
-trap_text ArithmeticException = codes "ArithmeticException"
-trap_text ArrayIndexOutOfBoundsException = codes "ArrayIndexOutOfBoundsException"
-trap_text NegativeArraySizeException = codes "NegativeArraySizeException"
-trap_text ClassCastException = codes "ClassCastException"
-trap_text NoSuchElementException = codes "NoSuchElementException"
-trap_text NoReturn = codes "NoReturn"
-trap_text ArrayTooLong = codes "ArrayTooLong"
+-- in place of no class, which isn't asked for
+abbrev pub throwable : Heading
+throwable = record { name = codes "Throwable"; place = nowhere; outer = None; extended = Nil; members = [] }
+
+-- the simple name of a class whose object is thrown
+abbrev pub thrown_name : List Heading → ℕ → List ℕ
+thrown_name classes c = (get_or classes c throwable).name
+
+abbrev pub trap_text : List Heading → Kind → List ℕ
+trap_text classes NullPointerException = codes "NullPointerException"
+trap_text classes ArithmeticException = codes "ArithmeticException"
+trap_text classes ArrayIndexOutOfBoundsException = codes "ArrayIndexOutOfBoundsException"
+trap_text classes NegativeArraySizeException = codes "NegativeArraySizeException"
+trap_text classes ClassCastException = codes "ClassCastException"
+trap_text classes NoSuchElementException = codes "NoSuchElementException"
+trap_text classes (Thrown c) = thrown_name classes c
+trap_text classes NoReturn = codes "NoReturn"
+trap_text classes ArrayTooLong = codes "ArrayTooLong"
 
 -- a verdict and a space; nothing in a listing
-abbrev pub verdict_text : Option Verdict → List ℕ
-verdict_text None = []
-verdict_text (Some Pass) = codes "pass "
-verdict_text (Some (Ensures n)) = codes "ensures " ++ decimal n ++ codes " "
-verdict_text (Some RepOk) = codes "repOk "
-verdict_text (Some (Trap kind)) = codes "trap " ++ trap_text kind ++ codes " "
-verdict_text (Some (CheckTrap kind)) = codes "check-trap " ++ trap_text kind ++ codes " "
-verdict_text (Some OutOfFuel) = codes "spent "
+abbrev pub verdict_text : List Heading → Option Verdict → List ℕ
+verdict_text classes None = []
+verdict_text classes (Some Pass) = codes "pass "
+verdict_text classes (Some (Ensures n)) = codes "ensures " ++ decimal n ++ codes " "
+verdict_text classes (Some (Signals n)) = codes "signals " ++ decimal n ++ codes " "
+verdict_text classes (Some RepOk) = codes "repOk "
+verdict_text classes (Some (Trap kind)) = codes "trap " ++ trap_text classes kind ++ codes " "
+verdict_text classes (Some (CheckTrap kind)) = codes "check-trap " ++ trap_text classes kind ++ codes " "
+verdict_text classes (Some OutOfFuel) = codes "spent "
 
 -- `KEY STRUCTURE`, of a test `KEY VERDICT STRUCTURE`
 abbrev pub row_text : Problem → Row → List ℕ
-row_text problem row = cut_text row.key ++ codes " " ++ verdict_text row.verdict ++ structure_text problem row.structure ++ codes "\n"
+row_text problem row = cut_text row.key ++ codes " " ++ verdict_text problem.program.table.headings row.verdict ++ structure_text problem row.structure ++ codes "\n"
 
 -- ---- the last line
 abbrev pub listed_text : ℕ → ℕ → List ℕ

@@ -1,14 +1,28 @@
-// Names of fields and parameters, as structures have them.
+// Names of classes, fields and parameters, as rows have them.
 ghost use Rattle.std.specs.Prelude.{◌≡◌, ◌<◌, ◌∷◌, [], All, IfSome, MatchOption, length, map};
 ghost use Rattle.std.proofs.Common.{get_or};
-ghost use Rattle.kr_ast.specs.Arena.{AreNamesIn, name_in, tree_in};
+ghost use Rattle.kr_ast.specs.Arena.{AreNamesIn, name_in, root, tree_in};
 ghost use Rattle.kr_classes_members.specs.Shown.{IsField, IsMethod, field_name as name_of};
-ghost use Rattle.kr_classes_table.specs.Table.{items};
+ghost use Rattle.kr_classes_names.specs.Shown.{AreHeads};
+ghost use Rattle.kr_classes_table.specs.Table.{headings_of, items};
 ghost use Rattle.kr_report.specs.Names.{listed_names, name_under, names_of};
+ghost use Rattle.kr_report.specs.Texts.{thrown_name};
 
 use kr_ast::{Name, Node, Tree, tree_of};
 use kr_classes_members::{Field, Method};
-use kr_classes_table::first_item;
+use kr_classes_names::Heads;
+use kr_classes_table::{ClassId, first_item};
+
+/// The simple name of a class whose object is thrown.
+pub(crate) fn thrown_name<'t>(trees: &'t [Tree], heads: &Heads, class: ClassId) -> &'t [u8]
+    requires { AreHeads trees.now heads.now }
+    ensures { result.now ≡ thrown_name (headings_of (map root trees.now)) class }
+{
+    match heads.headings().get(class as usize) {
+        None => b"Throwable",
+        Some(heading) => tree_of(trees, heading.file).name(heading.name),
+    }
+}
 
 /// The name of a field by its position; empty where there is none.
 pub fn field_name_among<'t>(trees: &'t [Tree], fields: &[Field], position: u32) -> &'t [u8]

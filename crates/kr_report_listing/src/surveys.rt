@@ -1,5 +1,5 @@
 // A problem's entries with the lines of their rows, or with their number alone.
-ghost use Rattle.std.specs.Prelude.{◌≡◌, ◌<◌, IfOk, OnOk, true, is_some};
+ghost use Rattle.std.specs.Prelude.{◌≡◌, ◌<◌, OnOk, true, is_some};
 ghost use Rattle.kr_space_problem.specs.Posed.{posed};
 ghost use Rattle.kr_report.specs.Reports.{is_failing};
 ghost use Rattle.kr_report.specs.Texts.{row_text};
@@ -16,6 +16,7 @@ use kr_survey::{Making, Mapped};
 use kr_text::Line;
 use std::alloc::Global;
 use std::marker::Model;
+use std::mem;
 
 /// Whether a verdict is failing.
 fn is_failure(verdict: Option<Verdict>) -> bool
@@ -25,6 +26,7 @@ fn is_failure(verdict: Option<Verdict>) -> bool
         None => false,
         Some(Verdict::Pass) => false,
         Some(Verdict::Ensures(_)) => true,
+        Some(Verdict::Signals(_)) => true,
         Some(Verdict::RepOk) => true,
         Some(Verdict::Trap(_)) => true,
         Some(Verdict::CheckTrap(_)) => true,
@@ -63,12 +65,15 @@ impl<'p> Model for ToLines<'p> {
 }
 
 impl<'p> ToLines<'p> {
-    /// A row's text.
-    fn text(&self, row: &Row, line: &mut Line) -> Result<Text, NoMemory>
-        ensures { IfOk result (λ text. text ≡ row_text (posed self.now) row.now) }
+    /// Makes a text that of a row.
+    fn write_text(&self, row: &Row, line: &mut Line, text: &mut Text) -> Result<(), NoMemory>
+        ensures { OnOk result (text.new ≡ row_text (posed self.now) row.now) }
     {
         match write_row(self.prepared, row, line) {
-            Ok(()) => Ok(Text::new(line.bytes().to_vec(self.alloc)?)),
+            Ok(()) => {
+                text.assign(line.bytes())?;
+                Ok(())
+            }
             Err(why) => Err(why),
         }
     }
@@ -88,13 +93,17 @@ impl<'p> Making<Row> for ToLines<'p> {
         Line::new(self.alloc)
     }
 
-    fn make(&self, room: &mut Line, row: Row) -> Result<RowLine, NoMemory> {
-        match self.text(&row, room) {
-            Ok(text) => Ok(RowLine {
-                key: row.key,
-                text,
-                failing: is_failure(row.verdict),
-            }),
+    fn blank(&self) -> RowLine {
+        RowLine::blank(self.alloc)
+    }
+
+    fn make(&self, room: &mut Line, row: &mut Row, made: &mut RowLine) -> Result<(), NoMemory> {
+        match self.write_text(&*row, room, &mut made.text) {
+            Ok(()) => {
+                mem::swap(&mut made.key, &mut row.key);
+                made.failing = is_failure(row.verdict);
+                Ok(())
+            }
             Err(why) => Err(why),
         }
     }
@@ -128,9 +137,12 @@ impl Making<Row> for ToUnits {
 
     fn room(&self) {}
 
-    fn make(&self, room: &mut (), row: Row) -> Result<(), NoMemory> {
+    fn blank(&self) {}
+
+    fn make(&self, room: &mut (), row: &mut Row, made: &mut ()) -> Result<(), NoMemory> {
         let _ = room;
-        drop(row);
+        let _ = row;
+        *made = ();
         Ok(())
     }
 }

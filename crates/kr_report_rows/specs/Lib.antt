@@ -1,4 +1,5 @@
 pub mod Parts
 pub mod Stretches
-pub mod Written
+pub mod Vocabulary
 pub mod Worked
+pub mod Written

@@ -1,12 +1,11 @@
 // The front of a row's line, up to the structure.
 ghost use Rattle.std.specs.Prelude.{◌++◌, codes};
-ghost use Rattle.kr_base.specs.Cuts.{cut_text, dotted};
-ghost use Rattle.kr_base.specs.Told.{Writes};
-ghost use Rattle.kr_report.specs.Texts.{verdict_text};
+ghost use Rattle.kr_report_rows.specs.Vocabulary.{cut_text, dotted, posed, verdict_text, Writes};
 
 use itoa::Buffer;
 use kr_base::{Cut, Failed, Sink, put_all, put_number};
-use kr_mean::Row;
+use kr_judge_prepared::Prepared;
+use kr_mean::{Row, Verdict};
 use kr_report::put_verdict;
 use kr_text::put_pieces;
 
@@ -36,11 +35,25 @@ fn put_key<K: Sink>(key: &Cut, out: &mut K) -> Result<(), Failed>
     Ok(())
 }
 
+/// Writes a verdict of a problem's method under test, and a space; of none nothing.
+fn put_judged<K: Sink>(
+    prepared: &Prepared,
+    verdict: Option<Verdict>,
+    out: &mut K,
+) -> Result<(), Failed>
+    ensures { Writes K.taken K.faults out.old out.new (verdict_text (posed prepared.now.problem).program.table.headings verdict) result }
+{
+    prepared.laws();
+    let problem = prepared.problem();
+    let trees = problem.program.trees.as_slice();
+    put_verdict(trees, &problem.program.table.heads, verdict, out)
+}
+
 /// Writes the front of a row's line: its key, and its verdict if it has one, each with a space.
-pub(crate) fn row_front<K: Sink>(row: &Row, out: &mut K) -> Result<(), Failed>
-    ensures { Writes K.taken K.faults out.old out.new (cut_text row.now.key ++ codes " " ++ verdict_text row.now.verdict) result }
+pub(crate) fn row_front<K: Sink>(prepared: &Prepared, row: &Row, out: &mut K) -> Result<(), Failed>
+    ensures { Writes K.taken K.faults out.old out.new (cut_text row.now.key ++ codes " " ++ verdict_text (posed prepared.now.problem).program.table.headings row.now.verdict) result }
 {
     put_key(&row.key, out)?;
     put_all(out, b" ")?;
-    put_verdict(row.verdict, out)
+    put_judged(prepared, row.verdict, out)
 }

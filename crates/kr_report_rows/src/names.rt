@@ -1,9 +1,6 @@
 // The method under test, whose parameters structures have.
 ghost use Rattle.std.specs.Prelude.{◌≡◌, IfSome};
-ghost use Rattle.kr_classes_members.specs.Shown.{IsMethod};
-ghost use Rattle.kr_space_problem.specs.Posed.{posed};
-ghost use Rattle.kr_report.specs.Names.{names_of};
-ghost use Rattle.kr_report.specs.Texts.{tested_parameters};
+ghost use Rattle.kr_report_rows.specs.Vocabulary.{IsMethod, names_of, posed, tested_parameters};
 
 use kr_classes_members::Method;
 use kr_judge_prepared::Prepared;

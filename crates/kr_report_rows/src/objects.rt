@@ -1,11 +1,7 @@
 // The objects that a structure names, each once.
 ghost use Rattle.std.specs.Prelude.{◌≡◌, ◌∷◌, [], flat_map, if◌then◌else◌, map, not, option_to_list, take};
 ghost use Rattle.std.proofs.Common.{get_or};
-ghost use Rattle.kr_iso.specs.Objects.{object_of};
-ghost use Rattle.kr_mean.specs.Heaps.{is_same_object};
-ghost use Rattle.kr_mean.specs.Problem.{all_objects};
-ghost use Rattle.kr_space_layout.specs.Bounds.{bare};
-ghost use Rattle.kr_report.specs.Texts.{no_domain_object, objects_in};
+ghost use Rattle.kr_report_rows.specs.Vocabulary.{all_objects, bare, is_same_object, no_domain_object, object_of, objects_in};
 ghost use Rattle.kr_report_rows.specs.Parts.{entry_objects, is_new, new_in};
 
 use crate::places::{are_same, numbered};

@@ -1,11 +1,6 @@
 // The parameters of the method under test, put into a sink.
 ghost use Rattle.std.specs.Prelude.{◌≡◌, ◌||◌, IfOk, IfSome, List, ℕ, codes, flat_map};
-ghost use Rattle.kr_base.specs.Told.{Writes};
-ghost use Rattle.kr_classes_members.specs.Shown.{IsMethod};
-ghost use Rattle.kr_space_layout.specs.Bounds.{bare};
-ghost use Rattle.kr_report.specs.Joined.{are_any, separated};
-ghost use Rattle.kr_report.specs.Names.{names_of};
-ghost use Rattle.kr_report.specs.Texts.{in_parentheses, joined_by};
+ghost use Rattle.kr_report_rows.specs.Vocabulary.{are_any, bare, in_parentheses, IsMethod, joined_by, names_of, separated, Writes};
 ghost use Rattle.kr_report_rows.specs.Parts.{argument_named, parameter_named};
 
 use crate::places::parameter_at;

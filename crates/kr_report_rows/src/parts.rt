@@ -1,11 +1,6 @@
 // What a structure has of an object, put into a sink.
 ghost use Rattle.std.specs.Prelude.{◌≡◌, ◌||◌, All, IfOk, codes, flat_map, map};
-ghost use Rattle.kr_base.specs.Told.{Writes};
-ghost use Rattle.kr_classes_members.specs.Shown.{IsField, field_name};
-ghost use Rattle.kr_iso.specs.Objects.{object_of};
-ghost use Rattle.kr_space_layout.specs.Bounds.{bare};
-ghost use Rattle.kr_report.specs.Joined.{are_any, closing, opening, separated};
-ghost use Rattle.kr_report.specs.Texts.{joined_by};
+ghost use Rattle.kr_report_rows.specs.Vocabulary.{are_any, bare, closing, field_name, IsField, joined_by, object_of, opening, separated, Writes};
 ghost use Rattle.kr_report_rows.specs.Parts.{entry_named, object_named, part_named};
 
 use crate::places::{class_of, is_within, spot_at, stretch_of};

@@ -1,12 +1,7 @@
 // Slots and objects of a layout, also where they aren't there.
 ghost use Rattle.std.specs.Prelude.{◌≡◌, ◌<◌, ◌≤◌, ◌^◌, ◌⊎◌};
-ghost use Rattle.kr_iso.specs.Objects.{object_of};
-ghost use Rattle.kr_mean.specs.Heaps.{is_same_object};
-ghost use Rattle.kr_mean.specs.Places.{place_of};
-ghost use Rattle.kr_mean.specs.Problem.{all_objects, domain_at, slot_at};
 ghost use Rattle.std.proofs.Common.{get_or};
-ghost use Rattle.kr_space_layout.specs.Bounds.{bare};
-ghost use Rattle.kr_report.specs.Texts.{no_domain_object};
+ghost use Rattle.kr_report_rows.specs.Vocabulary.{all_objects, bare, domain_at, is_same_object, no_domain_object, object_of, place_of, slot_at};
 ghost use Rattle.kr_report_rows.specs.Parts.{number_in, spot_in};
 ghost use Rattle.kr_report_rows.specs.Stretches.{IsStretch, IsWithin};
 

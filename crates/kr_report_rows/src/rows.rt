@@ -1,12 +1,7 @@
 // Structures and rows, put into a sink.
 ghost use Rattle.std.specs.Prelude.{◌≡◌, ◌||◌, ◌∷◌, [], IfOk, codes, map, option_to_list};
-ghost use Rattle.kr_base.specs.Told.{Writes};
-ghost use Rattle.kr_iso.specs.Objects.{object_of};
-ghost use Rattle.kr_space_layout.specs.Bounds.{bare, problem_with};
-ghost use Rattle.kr_space_problem.specs.Posed.{posed};
 ghost use Rattle.kr_report_rows.specs.Parts.{class_in, object_named};
-ghost use Rattle.kr_report.specs.Joined.{are_any, separated};
-ghost use Rattle.kr_report.specs.Texts.{joined_by, object_text, objects_named, row_text, structure_text};
+ghost use Rattle.kr_report_rows.specs.Vocabulary.{are_any, bare, joined_by, object_of, object_text, objects_named, posed, problem_with, row_text, separated, structure_text, Writes};
 
 use crate::front::row_front;
 use crate::names::method_under_test;
@@ -144,7 +139,7 @@ pub fn structure_text<K: Sink>(
 pub fn row_text<K: Sink>(prepared: &Prepared, row: &Row, out: &mut K) -> Result<(), Failed>
     ensures { Writes K.taken K.faults out.old out.new (row_text (posed prepared.now.problem) row.now) result }
 {
-    row_front(row, out)?;
+    row_front(prepared, row, out)?;
     structure_text(prepared, &row.structure, out)?;
     put_all(out, b"\n")
 }

@@ -1,10 +1,6 @@
 // Values and names of objects, put into a sink.
 ghost use Rattle.std.specs.Prelude.{◌≡◌, ◌++◌, ◌∷◌, [], codes, decimal, if◌then◌else◌};
-ghost use Rattle.kr_base.specs.Told.{Writes};
-ghost use Rattle.kr_iso.specs.Objects.{object_of};
-ghost use Rattle.kr_space_layout.specs.Bounds.{bare};
-ghost use Rattle.kr_report.specs.Joined.{separated};
-ghost use Rattle.kr_report.specs.Texts.{object_name, value_text};
+ghost use Rattle.kr_report_rows.specs.Vocabulary.{bare, object_name, object_of, separated, value_text, Writes};
 
 use crate::places::{name_of, numbered};
 use itoa::Buffer;

@@ -10,7 +10,7 @@ ghost use Rattle.kr_survey.specs.declared.taker.Room.TheVariants.{Full, More};
 use crate::halting::put_halt;
 use kr_base::Sink;
 use kr_report::{Summary, once_written, summary_text};
-use kr_survey::{End, Halt, Room, RowList, Taker};
+use kr_survey::{End, Halt, Room, RowList, RowTaker, Taker};
 
 /// Counts rows, and stays at the last number of 64 bits.
 #[derive(Drop)]
@@ -32,13 +32,6 @@ impl<K> Taker<K> for Counter {
         None
     }
 
-    fn take_row(&mut self, row: (), out: &mut K) -> Result<Room, Halt> {
-        let _ = row;
-        let _ = out;
-        self.count = self.count.saturating_add(1);
-        Ok(Room::More)
-    }
-
     fn take(&mut self, rows: RowList<()>, out: &mut K) -> Result<Room, Halt>
         ensures took { (start : CounterOf) (from : K) (done : List (Unit {0})) → HasCounted from done self.old out.old (Some More) → Took (λ a from rows b out room. HasCounted from rows b out room) start from done rows self.new out.new result }
         ensures limit { let none : Option ℕ = None in none ≡ none }
@@ -46,6 +39,15 @@ impl<K> Taker<K> for Counter {
     {
         let _ = out;
         self.count = self.count.saturating_add(rows.len() as u64);
+        Ok(Room::More)
+    }
+}
+
+impl<K> RowTaker<K> for Counter {
+    fn take_row(&mut self, row: &mut (), out: &mut K) -> Result<Room, Halt> {
+        let _ = row;
+        let _ = out;
+        self.count = self.count.saturating_add(1);
         Ok(Room::More)
     }
 }

@@ -1,7 +1,8 @@
 // A row as it is written.
-ghost use Rattle.std.specs.Prelude.{◌≡◌};
+ghost use Rattle.std.specs.Prelude.{◌≡◌, OnOk};
 
-use kr_base::Cut;
+use kr_base::{Cut, NoMemory};
+use std::alloc::Global;
 use std::marker::Model;
 
 /// A text. Contracts see its bytes.
@@ -26,6 +27,15 @@ impl Text {
         Text { bytes }
     }
 
+    /// Becomes these bytes, in the memory that it has.
+    pub fn assign(&mut self, bytes: &[u8]) -> Result<(), NoMemory>
+        ensures { OnOk result (self.new ≡ bytes.now) }
+    {
+        self.bytes.clear();
+        self.bytes.extend_from_slice(bytes)?;
+        Ok(())
+    }
+
     pub fn as_slice(&self) -> &[u8]
         ensures { result.now ≡ self.now }
     {
@@ -39,4 +49,15 @@ pub struct RowLine {
     pub key: Cut,
     pub text: Text,
     pub failing: bool,
+}
+
+impl RowLine {
+    /// A row in whose memory others are made. It takes none.
+    pub fn blank(alloc: Global) -> RowLine {
+        RowLine {
+            key: Cut::empty(alloc),
+            text: Text::new(Vec::new(alloc)),
+            failing: false,
+        }
+    }
 }

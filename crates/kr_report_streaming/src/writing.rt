@@ -10,7 +10,8 @@ use crate::putting::put_rows;
 use crate::row_line::RowLine;
 use crate::writer::LineWriter;
 use kr_base::{Sink, put_all};
-use kr_survey::{Halt, Room, RowList, Taker};
+use kr_survey::{Halt, Room, RowList, RowTaker, Taker};
+use std::mem;
 
 impl<K: Sink> Taker<K> for LineWriter {
     ghost use Rattle.std.specs.Prelude.{Some};
@@ -24,21 +25,6 @@ impl<K: Sink> Taker<K> for LineWriter {
 
     fn limit(&self) -> Option<u32> {
         Some(self.limit)
-    }
-
-    fn take_row(&mut self, row: RowLine, out: &mut K) -> Result<Room, Halt> {
-        if self.valid == self.limit {
-            return Ok(Room::Full);
-        }
-        match put_all(out, row.text.as_slice()) {
-            Err(_) => Err(Halt::Sink),
-            Ok(()) => {
-                self.valid += 1;
-                self.failing += u32::from(row.failing);
-                self.last = row.key;
-                Ok(Room::More)
-            }
-        }
     }
 
     fn take(&mut self, rows: RowList<RowLine>, out: &mut K) -> Result<Room, Halt>
@@ -55,6 +41,23 @@ impl<K: Sink> Taker<K> for LineWriter {
             Ok(()) => {
                 self.count(rows);
                 Ok(if is_past { Room::Full } else { Room::More })
+            }
+        }
+    }
+}
+
+impl<K: Sink> RowTaker<K> for LineWriter {
+    fn take_row(&mut self, row: &mut RowLine, out: &mut K) -> Result<Room, Halt> {
+        if self.valid == self.limit {
+            return Ok(Room::Full);
+        }
+        match put_all(out, row.text.as_slice()) {
+            Err(_) => Err(Halt::Sink),
+            Ok(()) => {
+                self.valid += 1;
+                self.failing += u32::from(row.failing);
+                mem::swap(&mut self.last, &mut row.key);
+                Ok(Room::More)
             }
         }
     }

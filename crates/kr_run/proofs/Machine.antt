@@ -1,6 +1,6 @@
 -- The meaning's laws that the machine's steps need.
 use Rattle.std.proofs.Common.{◌≡◌, ◌<◌, arith, ℕ, List, [], ◌∷◌, length, Result, Ok, Err, refl, sym, ap, ◌∙◌, subst}
-use Rattle.std.specs.Prelude.{map, take, drop, Bool, true, nat_eq}
+use Rattle.std.specs.Prelude.{map, take, drop, reverse, Bool, true, nat_eq}
 use Rattle.std.proofs.lemmas.Bool.{eq-eqb}
 use Rattle.std.proofs.lemmas.List.{take-map}
 use Rattle.kr_value.specs.declared.value.Value.{Value}
@@ -13,7 +13,9 @@ use Rattle.kr_mean.specs.declared.operations.BinaryOperation.{BinaryOperation}
 use Rattle.kr_mean.specs.Operators.{operated}
 use Rattle.kr_mean.specs.Meaning.{Change, change_to}
 use Rattle.kr_code.specs.declared.code.Code.{Code}
-use Rattle.kr_code.specs.Doing.{Doing, constructed}
+use Rattle.kr_code.specs.declared.expression.Nodes.{Nodes}
+use Rattle.kr_code.specs.Tables.{listed}
+use Rattle.kr_code.specs.Doing.{Doing, constructed, values_at}
 use Rattle.kr_run_state.specs.declared.world.Local.{Local}
 use Rattle.kr_run_state.specs.declared.action.Cell.{Cell}
 use Rattle.kr_run_state.specs.Actions.{written}
@@ -21,13 +23,15 @@ use Rattle.kr_run_state.specs.Shown.{local_of}
 use Rattle.kr_run_frames.specs.declared.frame.Change.TheVariants as changes
 use Rattle.kr_run_state.specs.declared.world.World.{World}
 use Rattle.kr_run_state.specs.declared.world.Halt.{Halt}
-use Rattle.kr_run_state.specs.Worlds.{Others}
+use Rattle.kr_run_state.specs.Worlds.{Others, state_at}
 use Rattle.kr_run_frames.specs.declared.task.Task.{Task}
 use Rattle.kr_run_frames.specs.Frame.{Frame}
 use Rattle.kr_run_frames.specs.Kept.{values_on}
 use Rattle.kr_run_frames.specs.Leads.{Leads}
-use Rattle.kr_run_frames.specs.Frames.{continued, altered}
+use Rattle.kr_run_frames.specs.declared.frame.Goal.{Goal}
+use Rattle.kr_run_frames.specs.Frames.{continued, altered, applied, onto, out_value}
 use Rattle.kr_run_frames.proofs.Outcomes.{continued_reads, leads_alike}
+use Rattle.kr_run_moves.proofs.Moves.{onto_all}
 
 pub locals_cut : (locals : List Local) (n : ℕ) → take n (map local_of locals) ≡ map local_of (take n locals)
 locals_cut locals n = take-map local_of n locals
@@ -75,6 +79,20 @@ runs receiver n args body s locals e is =
 pub last_stuck : (code : Code) (d : Doing) (o : Value) (args : List Value) (s : State) → 0 < length args → constructed code d [] o args s ≡ stop Stuck s
 last_stuck code d o [] s lt = absurd (omega (arith, lt))
 last_stuck code d o (v ∷ vs) s lt = refl
+
+-- ---- arguments
+
+-- no argument is left: all are used
+pub none_left : (code : Code) (r : Result Task Halt) (gs fs : List Frame) (w before : World) (goal : Goal) (ns : Nodes) (found : List Value) → listed code ns ≡ []
+    → Leads code r gs w before (λ d x. out_value code d fs (applied code d goal found (state_at before x)))
+    → Leads code r gs w before (λ d x. out_value code d fs (continued (values_at d (listed code ns) (state_at before x)) (λ vs. applied code d goal (onto (reverse found) vs))))
+none_left code r gs fs w before goal ns found none h =
+    leads_alike code r gs w before (λ d x. out_value code d fs (continued (values_at d (listed code ns) (state_at before x)) (λ vs. applied code d goal (onto (reverse found) vs))))
+    (λ d x. out_value code d fs (applied code d goal found (state_at before x)))
+    (λ x d m.
+    ap (λ (is : List ℕ). out_value code d fs (continued (values_at d is (state_at before x)) (λ vs. applied code d goal (onto (reverse found) vs)))) none
+    ∙ ap (λ (vs : List Value). out_value code d fs (applied code d goal vs (state_at before x))) (onto_all found))
+    h
 
 -- ---- frames with lists
 

@@ -29,8 +29,8 @@ use kr_mean::{BinaryOperation, Flow, Kind, Stop};
 use kr_run_frames::{Change, FlowFrame, Loop, Stack, Task, ValueFrame, Waiting, WriteFrame};
 use kr_run_known::{at_once, statement_at};
 use kr_run_moves::{
-    all, declare, enter_node, enter_statement, feed, repeat, step_operation, take_flow, take_test,
-    take_value, update, value, write,
+    all, declare, enter_catch, enter_node, enter_statement, feed, repeat, step_operation,
+    take_flow, take_test, take_value, throw_from, update, value, write,
 };
 use kr_run_state::{Action, Cell, Halt, Local, World, act, store_initial, tick};
 use kr_value::Value;
@@ -83,6 +83,8 @@ fn declarators(statement: &Statement) -> Option<Nodes>
 {
     match statement {
         Statement::Declare(nodes) => Some(*nodes),
+        Statement::Throw(_) => None,
+        Statement::Try { .. } => None,
         Statement::Stuck => None,
         Statement::Empty => None,
         Statement::Block(_) => None,
@@ -378,6 +380,11 @@ fn flow_frame(
             stack.drop_top();
             return end_scope(code, world, stack, count as usize, flow, task);
         }
+        Waiting::Catch(_) => {
+            stack.drop_top();
+            *task = Task::Led(flow);
+            return Ok(());
+        }
         Waiting::Leave(is_void, this, _) => {
             return leave(code, world, stack, is_void, this, flow, task);
         }
@@ -498,6 +505,10 @@ fn do_task(
         Task::Declare(nodes) => return declare(alloc, code, world, stack, nodes, task),
         Task::Update(nodes) => return update(alloc, code, world, stack, nodes, task),
         Task::Repeat(turn) => return repeat(alloc, code, world, stack, turn, task),
+        Task::Throw(object) => return Err(throw_from(code, world, &*stack, object)),
+        Task::Catch(kind, body) => {
+            return enter_catch(alloc, code, world, stack, kind, body, task);
+        }
         Task::Alter(change, cell, old) => {
             return alter(code, world, stack, change, cell, old, task);
         }
@@ -511,7 +522,7 @@ fn do_task(
 
 /// The topmost frame receives a value, or the run has it.
 #[inline(always)]
-#[tactic(auto, using(crate::proofs::Passing::stops_then))]
+#[tactic(auto, using(crate::proofs::Passing::steps_same))]
 fn give_value(
     alloc: Global,
     code: &Code,
@@ -528,7 +539,7 @@ fn give_value(
     let frame = *top;
     match value_frame(alloc, code, world, stack, frame, given, task) {
         Ok(()) => return Ok(Step::More),
-        Err(Halt::Ended(why)) => return Err(end(code, world, stack, why)),
+        Err(Halt::Ended(why)) => return end(code, world, stack, why, task),
         Err(Halt::Memory(why)) => return Err(Halt::Memory(why)),
     }
 }
@@ -591,9 +602,9 @@ fn give_nothing(
     return unit_frame(alloc, code, world, stack, frame, task);
 }
 
-/// One step: the next task comes in place of the one that is done. Where the run ends all frames are left.
+/// One step: the next task comes in place of the one that is done. Where the run stops frames are left, all of them unless one catches it.
 #[inline(always)]
-#[tactic(auto, using(crate::proofs::Passing::stops_then))]
+#[tactic(auto, using(crate::proofs::Passing::steps_same))]
 pub fn step(
     alloc: Global,
     code: &Code,
@@ -607,7 +618,7 @@ pub fn step(
         Task::Got(given) => return give_value(alloc, code, world, stack, given, task),
         _ => match do_task(alloc, code, world, stack, task) {
             Ok(()) => return Ok(Step::More),
-            Err(Halt::Ended(why)) => return Err(end(code, world, stack, why)),
+            Err(Halt::Ended(why)) => return end(code, world, stack, why, task),
             Err(Halt::Memory(why)) => return Err(Halt::Memory(why)),
         },
     }

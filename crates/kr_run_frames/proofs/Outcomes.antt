@@ -1,5 +1,5 @@
 -- How outcomes go through frames.
-use Rattle.std.proofs.Common.{◌≡◌, List, [], ◌∷◌, ◌++◌, Result, Ok, Err, refl, sym, ap, ◌∙◌}
+use Rattle.std.proofs.Common.{◌≡◌, List, [], ◌∷◌, ◌++◌, Option, Some, None, Result, Ok, Err, refl, sym, ap, ◌∙◌}
 use Rattle.std.specs.Prelude.{reverse}
 use Rattle.std.proofs.lemmas.List.{append_assoc, append-nil}
 use Rattle.kr_value.specs.declared.value.Value.{Value}
@@ -7,10 +7,12 @@ use Rattle.kr_mean.specs.declared.kind.Stop.{Stop}
 use Rattle.kr_mean.specs.declared.kind.Stop.TheVariants.{Stuck}
 use Rattle.kr_mean.specs.Places.{SlotPlace}
 use Rattle.kr_mean.specs.Steps.{State, Outcome, Run, after_reads, go_on, bind, give, say, stop}
+use Rattle.kr_mean.specs.Thrown.{handled, caught_by}
 use Rattle.kr_mean.specs.declared.flow.Flow.{Flow}
 use Rattle.kr_mean.specs.Meaning.{returned, completed}
 use Rattle.kr_code.specs.declared.code.Code.{Code}
-use Rattle.kr_code.specs.Doing.{Doing, IsMeaning, values_at, constructed}
+use Rattle.kr_code.specs.declared.expression.Nodes.{Nodes}
+use Rattle.kr_code.specs.Doing.{Doing, IsMeaning, values_at, constructed, caught_at}
 use Rattle.kr_code.specs.Tables.{listed}
 use Rattle.kr_code.specs.Steps.{store_initial}
 use Rattle.kr_run_state.specs.declared.world.World.{World}
@@ -22,7 +24,7 @@ use Rattle.kr_run_state.proofs.Candidates.{kept_same, kept_then}
 use Rattle.kr_run_frames.specs.Frame.{Frame}
 use Rattle.kr_run_frames.specs.Frame as frames
 use Rattle.kr_run_frames.specs.declared.task.Task.{Task}
-use Rattle.kr_run_frames.specs.Frames.{continued, restored, cut_to, got, tested, led, done, applied, upwards, onto, missed, misled, out_value, out_flow, out_unit, stopped}
+use Rattle.kr_run_frames.specs.Frames.{continued, restored, cut_to, got, tested, led, done, applied, upwards, onto, caught, passed, missed, misled, out_value, out_flow, out_unit, stopped}
 use Rattle.kr_run_frames.specs.Leads.{Leads}
 
 -- ---- earlier reads
@@ -40,12 +42,19 @@ continued_reads {A} {B} rs o f = go o.said
     go (Ok a) = sym (reads_twice rs o.reads (f a o.after))
     go (Err e) = refl
 
-misled_reads : {A : Type 0} (code : Code) (d : Doing) (fs : List Frame) (rs : List SlotPlace) (o : Outcome A) → misled code d fs (after_reads rs o) ≡ after_reads rs (misled code d fs o)
-misled_reads {A} code d fs rs o = go o.said
+misled_reads : {A : Type 0} (stopping : Stop → State → Outcome Value) (rs : List SlotPlace) (o : Outcome A) → misled stopping (after_reads rs o) ≡ after_reads rs (misled stopping o)
+misled_reads {A} stopping rs o = go o.said
   where
-    go : (r : Result A Stop) → missed code d fs r o.after (rs ++ o.reads) ≡ after_reads rs (missed code d fs r o.after o.reads)
-    go (Ok a) = sym (reads_twice rs o.reads (stopped code d fs Stuck o.after))
-    go (Err e) = sym (reads_twice rs o.reads (stopped code d fs e o.after))
+    go : (r : Result A Stop) → missed stopping r o.after (rs ++ o.reads) ≡ after_reads rs (missed stopping r o.after o.reads)
+    go (Ok a) = sym (reads_twice rs o.reads (stopping Stuck o.after))
+    go (Err e) = sym (reads_twice rs o.reads (stopping e o.after))
+
+caught_reads : (code : Code) (d : Doing) (cs : Nodes) (rs : List SlotPlace) (o : Outcome Flow) → caught code d cs (after_reads rs o) ≡ after_reads rs (caught code d cs o)
+caught_reads code d cs rs o = go (handled o.said (caught_at code d (listed code cs)))
+  where
+    go : (m : Option (Run Flow)) → caught_by m (after_reads rs o) ≡ after_reads rs (caught_by m o)
+    go None = refl
+    go (Some m) = sym (reads_twice rs o.reads (m o.after))
 
 mutual
   pub value_reads : (code : Code) (d : Doing) (fs : List Frame) (rs : List SlotPlace) (o : Outcome Value) → out_value code d fs (after_reads rs o) ≡ after_reads rs (out_value code d fs o)
@@ -62,22 +71,25 @@ mutual
       ∙ unit_reads code d fs rs (continued (continued o (λ v. bind (values_at d (listed code ns)) (λ ws. give (v ∷ ws)))) (λ ws. upwards code d up (onto (reverse vs) ws)))
   value_reads code d (frames.UpEnter up ns ∷ fs) rs o = ap (out_unit code d fs) (continued_reads rs o (λ v. bind (values_at d (listed code ns)) (upwards code d up))) ∙ unit_reads code d fs rs (continued o (λ v. bind (values_at d (listed code ns)) (upwards code d up)))
   value_reads code d (frames.Store field object ∷ fs) rs o = ap (out_unit code d fs) (continued_reads rs o (store_initial code field object)) ∙ unit_reads code d fs rs (continued o (store_initial code field object))
-  value_reads code d fs rs o = misled_reads code d fs rs o
+  value_reads code d (f ∷ fs) rs o = misled_reads (passed code d f (λ k t. stopped code d fs k t) (λ q. out_flow code d fs q)) rs o
 
   pub flow_reads : (code : Code) (d : Doing) (fs : List Frame) (rs : List SlotPlace) (o : Outcome Flow) → out_flow code d fs (after_reads rs o) ≡ after_reads rs (out_flow code d fs o)
   flow_reads code d (frames.Flow f ∷ fs) rs o = ap (out_flow code d fs) (continued_reads rs o (led code d f)) ∙ flow_reads code d fs rs (continued o (led code d f))
   flow_reads code d (frames.Scope n ∷ fs) rs o = flow_reads code d fs rs (cut_to n o)
+  flow_reads code d (frames.Catch cs ∷ fs) rs o = ap (out_flow code d fs) (caught_reads code d cs rs o) ∙ flow_reads code d fs rs (caught code d cs o)
   flow_reads code d (frames.Leave void this locals ∷ fs) rs o =
       ap (λ (q : Outcome Value). out_value code d fs (restored this locals q)) (continued_reads rs o (returned void)) ∙ value_reads code d fs rs (restored this locals (continued o (returned void)))
   flow_reads code d (frames.Complete ∷ fs) rs o = ap (out_unit code d fs) (continued_reads rs o completed) ∙ unit_reads code d fs rs (continued o completed)
-  flow_reads code d fs rs o = misled_reads code d fs rs o
+  flow_reads code d [] rs o = misled_reads (λ k t. stop k t) rs o
+  flow_reads code d (f ∷ fs) rs o = misled_reads (passed code d f (λ k t. stopped code d fs k t) (λ q. out_flow code d fs q)) rs o
 
   pub unit_reads : (code : Code) (d : Doing) (fs : List Frame) (rs : List SlotPlace) (o : Outcome (Unit {0})) → out_unit code d fs (after_reads rs o) ≡ after_reads rs (out_unit code d fs o)
   unit_reads code d (frames.Unit f ∷ fs) rs o = ap (out_unit code d fs) (continued_reads rs o (λ u. done code d f)) ∙ unit_reads code d fs rs (continued o (λ u. done code d f))
   unit_reads code d (frames.Back this locals ∷ fs) rs o = unit_reads code d fs rs (restored this locals o)
   unit_reads code d (frames.Made object ∷ fs) rs o = ap (out_value code d fs) (continued_reads rs o (λ u. give object)) ∙ value_reads code d fs rs (continued o (λ u. give object))
   unit_reads code d (frames.Construct line object vs ∷ fs) rs o = ap (out_unit code d fs) (continued_reads rs o (λ u. constructed code d (listed code line) object vs)) ∙ unit_reads code d fs rs (continued o (λ u. constructed code d (listed code line) object vs))
-  unit_reads code d fs rs o = misled_reads code d fs rs o
+  unit_reads code d [] rs o = misled_reads (λ k t. stop k t) rs o
+  unit_reads code d (f ∷ fs) rs o = misled_reads (passed code d f (λ k t. stopped code d fs k t) (λ q. out_flow code d fs q)) rs o
 
 pub noted_behind : (seen a b : List SlotPlace) → noted_once seen (a ++ b) ≡ noted_once (noted_once seen a) b
 noted_behind seen [] b = refl
@@ -154,6 +166,9 @@ value_halts code h fs w before o a = halts code h fs w before (λ d q. out_value
 
 pub unit_halts : (code : Code) (h : Halt) (fs : List Frame) (w before : World) (o : Others → Outcome (Unit {0})) → Agrees {A = Unit {0}} (Err h) w before o → Leads code (Err h) fs w before (λ d x. out_unit code d fs (o x))
 unit_halts code h fs w before o a = halts code h fs w before (λ d q. out_unit code d fs q) (λ d rs q. unit_reads code d fs rs q) (λ d e s. unit_stops code d fs e s) o a
+
+pub flow_halts : (code : Code) (h : Halt) (fs : List Frame) (w before : World) (o : Others → Outcome Flow) → Agrees {A = Flow} (Err h) w before o → Leads code (Err h) fs w before (λ d x. out_flow code d fs (o x))
+flow_halts code h fs w before o a = halts code h fs w before (λ d q. out_flow code d fs q) (λ d rs q. flow_reads code d fs rs q) (λ d e s. flow_stops code d fs e s) o a
 
 -- likewise where a value, or a flow, would have been the outcome
 pub value_halts_then : {A : Type 0} (code : Code) (h : Halt) (fs : List Frame) (w before : World) (k : Doing → A → Run Value) (o : Others → Outcome A) → Agrees {A = A} (Err h) w before o → Leads code (Err h) fs w before (λ d x. out_value code d fs (continued (o x) (k d)))

@@ -24,6 +24,8 @@ pub data Frame : Type 0 where
   Construct : Nodes → v.Value → List v.Value → Frame
   -- the locals of a block end: so many were there before
   Scope : ℕ → Frame
+  -- the block of a `try` ends: what is thrown in it is caught by the first of these clauses that fits
+  Catch : Nodes → Frame
   -- a method's body ends, and gives no value or one: `this` and the locals are those of its caller
   Leave : Bool → v.Value → List Local → Frame
   -- a constructor's body ends

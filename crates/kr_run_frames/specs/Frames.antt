@@ -9,14 +9,15 @@ use Rattle.kr_mean.specs.declared.flow.Flow.TheVariants as flows
 use Rattle.kr_mean.specs.Places.{SlotPlace}
 use Rattle.kr_mean.specs.Steps.{State, Outcome, Run, after_reads, go_on, say, give, stop, ◌>>=◌, ◌>>◌, get_this, assign, within, element, class_or_null, class_of, collect}
 use Rattle.kr_mean.specs.Operators.{operated, operated_alone, gives_old}
+use Rattle.kr_mean.specs.Thrown.{handled, caught_by}
 use Rattle.kr_mean.specs.Meaning as meaning
 use Rattle.kr_mean.specs.Meaning.{then_on, then_round, then_update, returned, completed, choose, stepped, change_from, compound}
 use Rattle.kr_code.specs.declared.code.Code.{Code}
 use Rattle.kr_code.specs.declared.expression.Nodes.{Nodes}
 use Rattle.kr_code.specs.Tables.{listed, method_at, class_at}
 use Rattle.kr_code.specs.Collections.{name_of, new_collection}
-use Rattle.kr_code.specs.Steps.{load_named, store_field, store_initial, store_item, cast_to, instance_of}
-use Rattle.kr_code.specs.Doing.{Doing, values_at, all_at, updates_at, run_method, run_numbered, run_on, initialised, constructed, create, array_of, initial_value, all_declared, condition, for_round}
+use Rattle.kr_code.specs.Steps.{load_named, store_field, store_initial, store_item, cast_to, instance_of, throw_object}
+use Rattle.kr_code.specs.Doing.{Doing, values_at, all_at, updates_at, run_method, run_numbered, run_on, initialised, constructed, create, array_of, initial_value, all_declared, condition, for_round, catch_at, caught_at}
 use Rattle.kr_run_state.specs.declared.world.Local.{Local}
 use Rattle.kr_run_state.specs.declared.action.Cell.{Cell}
 use Rattle.kr_run_state.specs.declared.action.Cell.TheVariants as cells
@@ -143,6 +144,7 @@ tested code d (tests.Then a) v = choose v (d.exec a) (give flows.Next)
 tested code d (tests.Branch a b) v = choose v (d.exec a) (d.exec b)
 tested code d tests.Discard v = give flows.Next
 tested code d tests.Return v = give (flows.Gave v)
+tested code d tests.Throw v = throw_object code v
 tested code d (tests.Initial k ns) v = assign k v >> all_declared code d (listed code ns)
 tested code d (tests.Declared k e ns) v = initial_value d k e >> all_declared code d (listed code ns)
 tested code d (tests.Rest ns) v = all_declared code d (listed code ns)
@@ -169,25 +171,35 @@ restored this locals o = record { said = o.said; after = record o.after { this_v
 abbrev pub cut_to : {A : Type 0} → ℕ → Outcome A → Outcome A
 cut_to n o = record { said = o.said; after = record o.after { locals = take n o.after.locals }; reads = o.reads }
 
--- a run stops: each frame is passed by, and with it a block's locals end, or a body
-abbrev pub stopped : Code → Doing → List Frame → Stop → State → Outcome Value
-stopped code d [] e s = stop e s
-stopped code d (frames.Scope n ∷ fs) e s = stopped code d fs e (record s { locals = take n s.locals })
-stopped code d (frames.Leave void this locals ∷ fs) e s = stopped code d fs e (record s { this_value = this; locals = map local_of locals })
-stopped code d (frames.Back this locals ∷ fs) e s = stopped code d fs e (record s { this_value = this; locals = map local_of locals })
-stopped code d (f ∷ fs) e s = stopped code d fs e s
+-- after a block with these clauses
+abbrev pub caught : Code → Doing → Nodes → Outcome Flow → Outcome Flow
+caught code d cs o = caught_by (handled o.said (caught_at code d (listed code cs))) o
 
--- the topmost frame waits for something else
-abbrev pub missed : {A : Type 0} → Code → Doing → List Frame → Result A Stop → State → List SlotPlace → Outcome Value
-missed code d fs (Ok a) s reads = after_reads reads (stopped code d fs Stuck s)
-missed code d fs (Err e) s reads = after_reads reads (stopped code d fs e s)
+-- A run stops at a frame: the frame is passed by, and with it a block's locals end, or a body; a clause of a `try` may catch what
+-- is thrown. The frames below it go on by these.
+abbrev pub passed : Code → Doing → Frame → (Stop → State → Outcome Value) → (Outcome Flow → Outcome Value) → Stop → State → Outcome Value
+passed code d (frames.Scope n) stopping leading e s = stopping e (record s { locals = take n s.locals })
+passed code d (frames.Catch cs) stopping leading e s = leading (caught code d cs (stop e s))
+passed code d (frames.Leave void this locals) stopping leading e s = stopping e (record s { this_value = this; locals = map local_of locals })
+passed code d (frames.Back this locals) stopping leading e s = stopping e (record s { this_value = this; locals = map local_of locals })
+passed code d f stopping leading e s = stopping e s
 
-abbrev pub misled : {A : Type 0} → Code → Doing → List Frame → Outcome A → Outcome Value
-misled code d fs o = missed code d fs o.said o.after o.reads
+-- the topmost frame waits for something else: the run is stuck, and stops
+abbrev pub missed : {A : Type 0} → (Stop → State → Outcome Value) → Result A Stop → State → List SlotPlace → Outcome Value
+missed stopping (Ok a) s reads = after_reads reads (stopping Stuck s)
+missed stopping (Err e) s reads = after_reads reads (stopping e s)
+
+abbrev pub misled : {A : Type 0} → (Stop → State → Outcome Value) → Outcome A → Outcome Value
+misled stopping o = missed stopping o.said o.after o.reads
 
 -- ---- stacks
 
 abbrev mutual
+  -- the run stops
+  pub stopped : Code → Doing → List Frame → Stop → State → Outcome Value
+  stopped code d [] e s = stop e s
+  stopped code d (f ∷ fs) e s = passed code d f (λ k t. stopped code d fs k t) (λ o. out_flow code d fs o) e s
+
   -- a value has come
   pub out_value : Code → Doing → List Frame → Outcome Value → Outcome Value
   out_value code d [] o = o
@@ -199,15 +211,17 @@ abbrev mutual
       out_unit code d fs (continued (continued o (λ v. values_at d (listed code ns) >>= (λ ws. give (v ∷ ws)))) (λ ws. upwards code d up (onto (reverse vs) ws)))
   out_value code d (frames.UpEnter up ns ∷ fs) o = out_unit code d fs (continued o (λ v. values_at d (listed code ns) >>= upwards code d up))
   out_value code d (frames.Store field object ∷ fs) o = out_unit code d fs (continued o (store_initial code field object))
-  out_value code d fs o = misled code d fs o
+  out_value code d (f ∷ fs) o = misled (passed code d f (λ k t. stopped code d fs k t) (λ q. out_flow code d fs q)) o
 
   -- a statement has led on
   pub out_flow : Code → Doing → List Frame → Outcome Flow → Outcome Value
   out_flow code d (frames.Flow f ∷ fs) o = out_flow code d fs (continued o (led code d f))
   out_flow code d (frames.Scope n ∷ fs) o = out_flow code d fs (cut_to n o)
+  out_flow code d (frames.Catch cs ∷ fs) o = out_flow code d fs (caught code d cs o)
   out_flow code d (frames.Leave void this locals ∷ fs) o = out_value code d fs (restored this locals (continued o (returned void)))
   out_flow code d (frames.Complete ∷ fs) o = out_unit code d fs (continued o completed)
-  out_flow code d fs o = misled code d fs o
+  out_flow code d [] o = misled (λ k t. stop k t) o
+  out_flow code d (f ∷ fs) o = misled (passed code d f (λ k t. stopped code d fs k t) (λ q. out_flow code d fs q)) o
 
   -- something is done that gives nothing
   pub out_unit : Code → Doing → List Frame → Outcome (Unit {0}) → Outcome Value
@@ -215,7 +229,8 @@ abbrev mutual
   out_unit code d (frames.Construct line object vs ∷ fs) o = out_unit code d fs (continued o (λ u. constructed code d (listed code line) object vs))
   out_unit code d (frames.Back this locals ∷ fs) o = out_unit code d fs (restored this locals o)
   out_unit code d (frames.Made object ∷ fs) o = out_value code d fs (continued o (λ u. give object))
-  out_unit code d fs o = misled code d fs o
+  out_unit code d [] o = misled (λ k t. stop k t) o
+  out_unit code d (f ∷ fs) o = misled (passed code d f (λ k t. stopped code d fs k t) (λ q. out_flow code d fs q)) o
 
 -- the arguments that are left come for the topmost frame
 abbrev pub out_arguments : Code → Doing → List Frame → State → Outcome Value
@@ -237,4 +252,6 @@ resumed code d fs (tasks.All ns) s = out_flow code d fs (all_at d (listed code n
 resumed code d fs (tasks.Declare ns) s = out_flow code d fs (all_declared code d (listed code ns) s)
 resumed code d fs (tasks.Update ns) s = out_flow code d fs (updates_at d (listed code ns) s)
 resumed code d fs (tasks.Repeat l) s = out_flow code d fs (repeated code d l s)
+resumed code d fs (tasks.Throw v) s = out_flow code d fs (throw_object code v s)
+resumed code d fs (tasks.Catch k b) s = out_flow code d fs (catch_at code d b k s)
 resumed code d fs (tasks.Initialise ns o) s = out_unit code d fs (initialised code d o (listed code ns) s)

@@ -18,6 +18,7 @@ frame_of (kept.UpArguments up ns k) vs ls = frames.UpArguments up ns vs
 frame_of (kept.UpEnter up ns) vs ls = frames.UpEnter up ns
 frame_of (kept.Construct line object k) vs ls = frames.Construct line object vs
 frame_of (kept.Scope n) vs ls = frames.Scope n
+frame_of (kept.Catch cs) vs ls = frames.Catch cs
 frame_of (kept.Leave void this k) vs ls = frames.Leave void this ls
 frame_of kept.Complete vs ls = frames.Complete
 frame_of (kept.Back this k) vs ls = frames.Back this ls

@@ -103,6 +103,7 @@ pub enum TestFrame {
     Branch(u32, u32),
     Discard,
     Return,
+    Throw,
     /// A local's initial value; the other declarators come next.
     Initial(u32, Nodes),
     /// A local is declared; its initial value, if any, comes next, and then the other declarators.
@@ -150,6 +151,8 @@ pub enum Waiting {
     Construct(Nodes, Value, u32),
     /// The locals of a block end: so many were there before.
     Scope(u32),
+    /// The block of a `try` ends: what is thrown in it is caught by the first of these clauses that fits.
+    Catch(Nodes),
     /// A method's body ends, and gives no value or one: `this` and the locals are those of its caller.
     Leave(bool, Value, u32),
     /// A constructor's body ends.

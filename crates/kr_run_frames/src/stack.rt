@@ -79,6 +79,7 @@ fn cut(frame: &Waiting, values: &mut Vec<Value>, locals: &mut Vec<Local>)
         Waiting::Unit(_) => {}
         Waiting::UpEnter(_, _) => {}
         Waiting::Scope(_) => {}
+        Waiting::Catch(_) => {}
         Waiting::Complete => {}
         Waiting::Made(_) => {}
         Waiting::Store(_, _) => {}

@@ -2,7 +2,7 @@
 
 use crate::{Change, Loop};
 use kr_code::Nodes;
-use kr_mean::Flow;
+use kr_mean::{Flow, Kind};
 use kr_run_state::{Action, Cell};
 use kr_value::Value;
 
@@ -31,6 +31,10 @@ pub enum Task {
     /// Updates of a loop.
     Update(Nodes),
     Repeat(Loop),
+    /// An object is thrown.
+    Throw(Value),
+    /// A trap of this kind is caught, by a clause with this block.
+    Catch(Kind, u32),
     /// The initial values of fields.
     Initialise(Nodes, Value),
 }

@@ -2,7 +2,7 @@
 ghost use Rattle.std.specs.Prelude.{◌≡◌, IfSome, MatchOption};
 ghost use Rattle.kr_run_known.specs.Knowing.{HasGiven, Knows};
 
-use crate::levels::{Above, Below, Look, expression_at};
+use crate::levels::{Above, Below, Look, called, expression_at};
 use kr_code::{Code, CollectionCall, Expression};
 use kr_run_state::World;
 use kr_value::Value;
@@ -20,6 +20,34 @@ pub fn look_at(code: &Code, world: &World, node: u32, fuel: u64) -> Option<Known
     ensures { IfSome result (λ k. Knows code.now world.now fuel k (λ d. d.value node)) }
 {
     <Above<Above<Above<Above<Below>>>>>::look(code, world, node, fuel)
+}
+
+/// Likewise of a node that mostly is a call on a collection: what else it could be is looked at last.
+#[inline(always)]
+pub fn look_at_call(code: &Code, world: &World, node: u32, fuel: u64) -> Option<Known>
+    ensures { IfSome result (λ k. Knows code.now world.now fuel k (λ d. d.value node)) }
+{
+    if fuel == 0 {
+        return None;
+    }
+    match expression_at(code, node) {
+        None => None,
+        Some(expression) => match expression {
+            Expression::CallCollection {
+                object,
+                call,
+                arguments,
+            } => called::<Above<Above<Above<Above<Below>>>>>(
+                code,
+                world,
+                *object,
+                *call,
+                *arguments,
+                fuel - 1,
+            ),
+            _ => look_at(code, world, node, fuel),
+        },
+    }
 }
 
 /// Whether a call mostly changes its collection.

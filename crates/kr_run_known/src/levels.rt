@@ -261,6 +261,25 @@ fn may_ask(call: CollectionCall) -> bool {
     }
 }
 
+/// An argument: a field of what a node gives is looked up here, so that it costs little.
+#[inline(always)]
+fn argument_of<L: Look>(code: &Code, world: &World, node: u32, fuel: u64) -> Option<Known>
+    ensures { IfSome result (λ k. Knows code.now world.now fuel k (λ d. d.value node)) }
+{
+    if fuel == 0 {
+        return None;
+    }
+    match expression_at(code, node) {
+        None => None,
+        Some(expression) => match expression {
+            Expression::FieldOf { object, name } => {
+                field_of::<L>(code, world, *object, *name, fuel - 1)
+            }
+            _ => L::look(code, world, node, fuel),
+        },
+    }
+}
+
 /// A call with an argument on a collection. Calls that change the collection aren't known; most of these are recognised by
 /// their names.
 #[inline(never)]
@@ -279,13 +298,34 @@ fn call_with<L: Look>(
     }
     match L::look(code, world, object, fuel) {
         None => None,
-        Some(found) => match L::look(code, world, argument, found.fuel) {
+        Some(found) => match argument_of::<L>(code, world, argument, found.fuel) {
             None => None,
             Some(given) => known_with(
                 asked_with(world, call, found.value, given.value),
                 given.fuel,
             ),
         },
+    }
+}
+
+/// A call on a collection, with an argument or none.
+#[inline(always)]
+pub(crate) fn called<L: Look>(
+    code: &Code,
+    world: &World,
+    object: u32,
+    call: CollectionCall,
+    arguments: Nodes,
+    fuel: u64,
+) -> Option<Known>
+    ensures { IfSome result (λ k. Knows code.now world.now fuel k (λ d. bind (d.value object) (λ o. bind (values_at d (listed code.now arguments)) (collect_step (name_of call) o)))) }
+{
+    if arguments.count == 0 {
+        return call_of::<L>(code, world, object, call, arguments, fuel);
+    }
+    match only(code, arguments) {
+        None => None,
+        Some(argument) => call_with::<L>(code, world, object, call, argument, fuel),
     }
 }
 
@@ -317,16 +357,7 @@ fn parts_in<L: Look>(
             object,
             call,
             arguments,
-        } => {
-            if arguments.count == 0 {
-                call_of::<L>(code, world, *object, *call, *arguments, fuel)
-            } else {
-                match only(code, *arguments) {
-                    None => None,
-                    Some(argument) => call_with::<L>(code, world, *object, *call, argument, fuel),
-                }
-            }
-        }
+        } => called::<L>(code, world, *object, *call, *arguments, fuel),
         Expression::Convert { operand, .. } => L::look(code, world, *operand, fuel),
         _ => None,
     }

@@ -8,6 +8,6 @@ mod known;
 mod levels;
 mod places;
 
-pub use known::{Known, at_once, look_at};
+pub use known::{Known, at_once, look_at, look_at_call};
 pub use levels::{expression_at, statement_at};
 pub use places::field;

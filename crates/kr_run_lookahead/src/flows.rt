@@ -14,7 +14,7 @@ use crate::leaving::literal_returned;
 use crate::passing::operated_alone;
 use kr_code::{Code, Expression, Nodes, Statement};
 use kr_mean::{Flow, UnaryOperation};
-use kr_run_known::{Known, expression_at, look_at, statement_at};
+use kr_run_known::{Known, expression_at, look_at, look_at_call, statement_at};
 use kr_run_state::World;
 use kr_value::Value;
 
@@ -93,7 +93,7 @@ fn all<L: Follow>(code: &Code, world: &World, nodes: Nodes, fuel: u64) -> Option
     None
 }
 
-/// An operator with its operand, after its unit.
+/// An operator with its operand, after its unit: mostly a call on a set is negated.
 #[inline(always)]
 fn unary(
     code: &Code,
@@ -104,7 +104,7 @@ fn unary(
 ) -> Option<Known>
     ensures { IfSome result (λ k. Knows code.now world.now fuel k (λ d. bind (d.value operand) (λ v. say (alone_step operation v)))) }
 {
-    match look_at(code, world, operand, fuel) {
+    match look_at_call(code, world, operand, fuel) {
         None => None,
         Some(found) => operated_alone(code, world, operation, found.value, found.fuel),
     }

@@ -14,6 +14,8 @@ use Rattle.kr_classes_table.specs.Types.{JavaType, ArrayType, is_void}
 use Rattle.kr_classes_table.specs.Table.{Field, Method}
 use Rattle.kr_classes_table.specs.Arrays.{array_number}
 use Rattle.kr_types_meaning.specs.Scopes.{Scope, after}
+use Rattle.kr_mean.specs.Thrown.{class_of_kind, throw_as, object_of_class, object_or_new, object_of, handled, caught_by, attempted}
+use Rattle.kr_mean.specs.declared.kind.Kind.{Kind}
 use Rattle.kr_mean.specs.declared.kind.Stop.{Stop}
 use Rattle.kr_mean.specs.declared.kind.Stop.TheVariants.{OutOfFuel, Stuck, Trapped}
 use Rattle.kr_mean.specs.Program.{Program, spot_of_field, is_array_of, method_scope}
@@ -27,7 +29,7 @@ use Rattle.kr_mean.specs.Meaning.{choose, run_method, make_array, create_array, 
 use Rattle.kr_mean.specs.Code.{code, code_run}
 use Rattle.kr_mean.specs.Purity.{written_by}
 use Rattle.kr_laws_runs.proofs.Bounds.{AnyField, AnyType, AnyNode, OneOutcome, Under, under_logic, body_is, enough_for_statements, enough_for_values, may_any, all_any}
-use Rattle.kr_laws_runs.proofs.Respects.{Any, Same, Each, Logic, OnFlow, IsCode, parts_alike}
+use Rattle.kr_laws_runs.proofs.Respects.{Any, Same, Each, Logic, OnOption, OnFlow, IsCode, parts_alike}
 use Rattle.kr_mean.specs.declared.kind.Kind.TheVariants.{NoReturn}
 use Rattle.kr_run_method.specs.CostLaws.{IsSpent, IsSameWith, Costs, with_fuel, value_with_fuel}
 
@@ -274,6 +276,67 @@ module _ (more : ℕ) where
       go s x y (inl e) = inl e
       go s x y (inr h) = inr (h.0, ap (λ (t : State). record t { locals = take (length s.locals) t.locals }) h.1)
 
+  abbrev there : {A : Type 0} → Result A Stop → State → List SlotPlace → Outcome A
+  there r t ps = record { said = r; after = t; reads = ps }
+
+  -- what catches takes no fuel back either
+  attempt_longer : {A : Type 0} (S : A → A → Type 0) (m m' : Run A) (h h' : Kind → Option (Run A)) → Longer S m m' → ((k : Kind) → OnOption (λ (x y : Run A). Longer S x y) (h k) (h' k)) → LongerBy S (attempted m h) (attempted m' h')
+  unfolding attempted
+  attempt_longer {A} S m m' h h' p q = record { by = λ s. go s (m s) (m' (longer s)) (p.runs.by s) }
+    where
+      onward : (k : Kind) (t : State) (ps qs : List SlotPlace) → (x y : Option (Run A)) → OnOption (λ (x y : Run A). Longer S x y) x y → GoesOn S (caught_by x (there (Err (Trapped k)) t ps)) (caught_by y (there (Err (Trapped k)) (longer t) qs))
+      onward k t ps qs None None v = inr (refl, refl)
+      onward k t ps qs (Some x) (Some y) v = v.runs.by t
+      onward k t ps qs None (Some y) v = absurd v
+      onward k t ps qs (Some x) None v = absurd v
+
+      stopped_at : (x : Stop) (t : State) (ps qs : List SlotPlace) → GoesOn S (caught_by (handled (Err x) h) (there (Err x) t ps)) (caught_by (handled (Err x) h') (there (Err x) (longer t) qs))
+      stopped_at (Trapped k) t ps qs = onward k t ps qs (h k) (h' k) (q k)
+      stopped_at OutOfFuel t ps qs = inr (refl, refl)
+      stopped_at Stuck t ps qs = inr (refl, refl)
+
+      step : (r r' : Result A Stop) (t : State) (ps qs : List SlotPlace) → SaidSame S r r' → GoesOn S (caught_by (handled r h) (there r t ps)) (caught_by (handled r' h') (there r' (longer t) qs))
+      step (Ok a) (Ok b) t ps qs e = inr (e, refl)
+      step (Err x) (Err y) t ps qs e = rw e (stopped_at x t ps qs)
+      step (Ok a) (Err y) t ps qs e = absurd e
+      step (Err x) (Ok b) t ps qs e = absurd e
+
+      caught_less : (k : Kind) (t : State) (qs : List SlotPlace) (x y : Option (Run A)) → OnOption (λ (x y : Run A). Longer S x y) x y → t.fuel < more → (caught_by y (there (Err (Trapped k)) t qs)).after.fuel < more
+      caught_less k t qs None None v lt = lt
+      caught_less k t qs (Some x) (Some y) v lt = let z = (v.under t.fuel).by t (omega arith) in subst (λ (w : State). w.fuel < more) (sym z.after) (omega (arith, z.less, lt))
+      caught_less k t qs None (Some y) v lt = absurd v
+      caught_less k t qs (Some x) None v lt = absurd v
+
+      less : (r : Result A Stop) (t : State) (qs : List SlotPlace) → t.fuel < more → (caught_by (handled r h') (there r t qs)).after.fuel < more
+      less (Ok a) t qs lt = lt
+      less (Err (Trapped k)) t qs lt = caught_less k t qs (h k) (h' k) (q k) lt
+      less (Err OutOfFuel) t qs lt = lt
+      less (Err Stuck) t qs lt = lt
+
+      go : (s : State) (o o' : Outcome A) → GoesOn S o o' → GoesOn S (caught_by (handled o.said h) o) (caught_by (handled o'.said h') o')
+      go s o o' (inl x) = inl (subst (λ (r : Result A Stop). (caught_by (handled r h) o).said ≡ Err OutOfFuel) (sym x.0) x.0, λ some. less o'.said o'.after o'.reads (x.1 some))
+      go s o o' (inr x) = subst (λ (t : State). GoesOn S (caught_by (handled o.said h) o) (caught_by (handled o'.said h') (there o'.said t o'.reads))) (sym x.1) (step o.said o'.said o.after o.reads o'.reads x.0)
+
+  handlers_under : {A : Type 0} (S : A → A → Type 0) (j : ℕ) (x y : Option (Run A)) → OnOption (λ (x y : Run A). Longer S x y) x y → OnOption (λ (x y : Run A). Under j S x y) x y
+  handlers_under S j None None v = tt
+  handlers_under S j (Some x) (Some y) v = v.under j
+  handlers_under S j None (Some y) v = absurd v
+  handlers_under S j (Some x) None v = absurd v
+
+  object_moves : (program : Program) (k : Kind) → Moves (object_of program k)
+  object_moves program k s = go s.thrown
+    where
+      made : (c : Option ℕ) → Moved (object_of_class program c s) (object_of_class program c (longer s))
+      made None = (refl, refl)
+      made (Some c) = (refl, refl)
+
+      go : (x : Option Value) → Moved (object_or_new program k x s) (object_or_new program k x (longer s))
+      go None = made (class_of_kind program k)
+      go (Some v) = (refl, refl)
+
+  throws_longer : {A : Type 0} (S : A → A → Type 0) (k : Kind) (v : Value) → LongerBy S (throw_as k v) (throw_as k v)
+  throws_longer S k v = record { by = λ s. inr (refl, refl) }
+
   module _ (program : Program) where
     abbrev u : ℕ → Logic program AnyField AnyType
     u j = under_logic program j
@@ -313,6 +376,9 @@ module _ (more : ℕ) where
       chooses = λ S v v' m m' n n' r p q. record { runs = chooses S v v' m m' n n' r p.runs q.runs; under = λ j. (u j).chooses S v v' m m' n n' r (p.under j) (q.under j) };
       withins = λ S o o' n vs ws m m' r e p. record { runs = withins S o o' n vs ws m m' r e p.runs; under = λ j. (u j).withins S o o' n vs ws m m' r e (p.under j) };
       scopes = λ S m m' p. record { runs = scopes S m m' p.runs; under = λ j. (u j).scopes S m m' (p.under j) };
+      throws_as = λ S k v w e. record { runs = rw e (throws_longer S k v); under = λ j. (u j).throws_as S k v w e };
+      objects = λ k. record { runs = self Same one (object_of program k) (object_moves program k); under = λ j. (u j).objects k };
+      attempts = λ S m m' h h' p q. record { runs = attempt_longer S m m' h h' p q; under = λ j. (u j).attempts S m m' h h' (p.under j) (λ k. handlers_under S j (h k) (h' k) (q k)) };
     }
 
 -- ---- methods

@@ -37,11 +37,11 @@ was_spent false (Err Stuck) e = cc (e)
 
 same_left : (void : Bool) (more : ℕ) (o o' : Outcome Value) → IsSameWith more o o' → left_by void o' ≡ record (left_by void o) { left = (left_by void o).left + more }
 same_left void more o o' x =
-    ap (λ (r : Result Value Stop). of (ending_of void r) o'.after.heap o'.after.fuel) x.said
-    ∙ ap (λ (t : State). of (ending_of void o.said) t.heap t.fuel) x.after
+    ap (λ (r : Result Value Stop). of (ending_of void r) o'.after) x.said
+    ∙ ap (λ (t : State). of (ending_of void o.said) t) x.after
   where
-    of : Result (Option Value) Stop → Heap → ℕ → Executed
-    of end heap left = record { end = end; heap = heap; left = left }
+    of : Result (Option Value) Stop → State → Executed
+    of end s = record { end = end; heap = s.heap; left = s.fuel; thrown = s.thrown }
 
 module _ (program : Program) (m : tables.Method) (heap : Heap) where
   abbrev bodies : Value → List Value → Run Value

@@ -34,7 +34,7 @@ module _ (program : Program) (facts : IsTypedProgram program) (m : tables.Method
   Ends r t = Fine program plain call.types None [] (GivesAs program [] m.result) r t
 
   started : IsStateOf program plain call.types None [] (begun heap fuel)
-  started = record { heap = call.objects; this_is = tt; locals_are = tt; result = tt; olds = tt; candidates = refl; enough = omega arith }
+  started = record { heap = call.objects; this_is = tt; locals_are = tt; result = tt; olds = tt; thrown = refl; candidates = refl; enough = omega arith }
 
   abbrev This : Bool → Value → Type 0
   This b o = IsThis program.table call.types (if b then None else Some m.class) o

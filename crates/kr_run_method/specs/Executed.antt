@@ -1,5 +1,5 @@
--- Between crates: what it means to run a method on values, in a heap and with some fuel: how the run ends, and the heap and the
--- fuel that it leaves.
+-- Between crates: what it means to run a method on values, in a heap and with some fuel: how the run ends, the heap and the fuel
+-- that it leaves, and what is thrown.
 use Rattle.std.specs.Prelude.{◌≡◌, ℕ, Bool, true, false, List, [], ◌∷◌, Option, Some, None, Result, Ok, Err}
 use Rattle.kr_value.specs.declared.value.Value.{Value}
 use Rattle.kr_value.specs.declared.value.Value.TheVariants.{Null}
@@ -28,6 +28,7 @@ begun heap fuel = record {
   locals = [];
   result = None;
   olds = [];
+  thrown = None;
   heap = heap;
   candidates = 0;
   fuel = fuel;
@@ -50,7 +51,7 @@ ending_of void (Err OutOfFuel) = Err OutOfFuel
 ending_of void (Err Stuck) = Err Stuck
 
 abbrev pub left_by : Bool → Outcome Value → Executed
-left_by void o = record { end = ending_of void o.said; heap = o.after.heap; left = o.after.fuel }
+left_by void o = record { end = ending_of void o.said; heap = o.after.heap; left = o.after.fuel; thrown = o.after.thrown }
 
 -- ---- the whole
 

@@ -1,5 +1,5 @@
 // An expression of a contract is evaluated.
-ghost use Rattle.std.specs.Prelude.{◌≡◌, ◌≤◌, ◌⊎◌, ◌++◌, [], IfOk, OnOk, false, map};
+ghost use Rattle.std.specs.Prelude.{◌≡◌, ◌≤◌, ◌⊎◌, ◌++◌, [], IfOk, None, OnOk, false, map, option_to_list};
 ghost use Rattle.kr_code.specs.Doing.{Doing, IsMeaning};
 ghost use Rattle.kr_code.specs.Resolved.{IsCodeOf, Numbering};
 ghost use Rattle.kr_classes_table.specs.Table.{Method as TableMethod};
@@ -9,7 +9,7 @@ ghost use Rattle.kr_mean.specs.Verdicts.{olds_of};
 ghost use Rattle.kr_run_state.specs.Shown.{local_of, old_of};
 ghost use Rattle.kr_run_state.specs.Worlds.{state_of};
 ghost use Rattle.kr_run_method.specs.Executed.{left_by};
-ghost use Rattle.kr_run_method.specs.Evaluated.{evaluated, evaluated_at, places_of, seen, with_places};
+ghost use Rattle.kr_run_method.specs.Evaluated.{evaluated, evaluated_at, places_of, seen, seen_locals, with_places};
 ghost use Rattle.kr_run_method.specs.Fits.{IsEvaluatedUnstuck};
 
 use crate::executed::{Env, Executed};
@@ -32,6 +32,25 @@ fn add_locals(locals: &mut Vec<Local>, values: &[Value]) -> Result<(), NoMemory>
             parameter: None,
         })?;
     }
+    Ok(())
+}
+
+/// What is thrown is added, if there is something.
+fn add_thrown(locals: &mut Vec<Local>, thrown: Option<Value>) -> Result<(), NoMemory>
+    ensures { OnOk result (map local_of locals.new.items ≡ map local_of locals.old.items ++ map plain_local (option_to_list thrown)) }
+{
+    match thrown {
+        None => Ok(()),
+        Some(value) => add_locals(locals, &[value]),
+    }
+}
+
+/// The locals that an expression sees are added.
+fn add_seen(locals: &mut Vec<Local>, env: &Env) -> Result<(), NoMemory>
+    ensures { OnOk result (map local_of locals.new.items ≡ map local_of locals.old.items ++ seen_locals env.now) }
+{
+    add_locals(locals, env.arguments.as_slice())?;
+    add_thrown(locals, env.thrown)?;
     Ok(())
 }
 
@@ -62,13 +81,14 @@ fn add_olds(olds: &mut Vec<Old>, places: &[Place], values: &[Value]) -> Result<(
 fn show(world: &mut World, places: &[Place], env: &Env) -> Result<(), NoMemory>
     requires locals { world.old.locals.items ≡ [] }
     requires olds { world.old.olds.items ≡ [] }
+    requires thrown { world.old.thrown ≡ None }
     requires none { world.old.candidates ≡ [] }
     ensures state { OnOk result (state_of world.new ≡ seen places.now env.now (state_of world.old).heap (state_of world.old).fuel) }
     ensures candidates { world.new.candidates ≡ world.old.candidates }
 {
     world.this = env.this;
     world.result = env.result;
-    add_locals(&mut world.locals, env.arguments.as_slice())?;
+    add_seen(&mut world.locals, env)?;
     add_olds(&mut world.olds, places, env.olds.as_slice())?;
     Ok(())
 }
@@ -86,6 +106,7 @@ fn evaluate_in(alloc: Global, code: &Code, world: World, node: u32) -> Result<Ex
         end: given(false, end),
         heap: world.made,
         left: world.fuel,
+        thrown: world.thrown,
     })
 }
 

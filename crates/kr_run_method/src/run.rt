@@ -1,5 +1,5 @@
 // A method is run.
-ghost use Rattle.std.specs.Prelude.{◌≡◌, [], IfOk, Result};
+ghost use Rattle.std.specs.Prelude.{◌≡◌, [], IfOk, None, Result};
 ghost use Rattle.kr_mean.specs.declared.kind.Stop.{Stop};
 ghost use Rattle.kr_code.specs.Doing.{Doing, IsMeaning, run_method as run_step};
 ghost use Rattle.kr_code.specs.Resolved.{IsCodeOf, Numbering};
@@ -29,6 +29,7 @@ pub(crate) fn world_of(alloc: Global, heap: Heap, fuel: u64) -> World
     ensures state { state_of result ≡ begun heap fuel }
     ensures locals { result.locals.items ≡ [] }
     ensures olds { result.olds.items ≡ [] }
+    ensures thrown { result.thrown ≡ None }
     ensures candidates { result.candidates ≡ [] }
 {
     World {
@@ -36,6 +37,7 @@ pub(crate) fn world_of(alloc: Global, heap: Heap, fuel: u64) -> World
         locals: Vec::new(alloc),
         result: None,
         olds: Vec::new(alloc),
+        thrown: None,
         candidates: Heap::new(alloc),
         made: heap,
         is_frozen: true,
@@ -145,6 +147,7 @@ fn run_on(
         end: given(is_void(code, method), end),
         heap: world.made,
         left: world.fuel,
+        thrown: world.thrown,
     })
 }
 
@@ -171,6 +174,7 @@ fn run_method(
             end: Err(Stop::Stuck),
             heap,
             left: fuel,
+            thrown: None,
         }),
     }
 }

@@ -18,9 +18,10 @@ use Rattle.kr_run_state.specs.declared.world.World.{World}
 use Rattle.kr_run_state.specs.declared.world.Halt.{Halt}
 use Rattle.kr_run_state.specs.Noting.{noting}
 use Rattle.kr_run_state.specs.Worlds.{Agrees, Others, Allows, Keeps, state_at}
+use Rattle.kr_run_state.proofs.Candidates.{kept_same}
 use Rattle.kr_run_frames.specs.Frame.{Frame}
 use Rattle.kr_run_frames.specs.declared.task.Task.{Task}
-use Rattle.kr_run_frames.specs.Frames.{continued, out_value, out_flow}
+use Rattle.kr_run_frames.specs.Frames.{continued, out_value, out_flow, resumed}
 use Rattle.kr_run_frames.specs.Leads.{Leads}
 use Rattle.kr_run_frames.proofs.Outcomes.{continued_reads, flow_halts_then, flow_reads, gave, leads_alike, leads_same, value_halts_then, value_reads}
 use Rattle.kr_run_moves.proofs.Moves.{given_then, mapped}
@@ -53,6 +54,10 @@ leads_behind code r gs w then before o e h = subst (λ (u : World). Leads code r
 -- a world that is as it was
 pub leads_from : (code : Code) (r : Result Task Halt) (gs : List Frame) (then before : World) (o : World → Doing → Others → Outcome Value) → then ≡ before → Leads code r gs then then (o then) → Leads code r gs then before (o before)
 leads_from code r gs then before o e h = subst (λ (u : World). Leads code r gs then u (o u)) e h
+
+-- a statement comes next
+pub leads_here : (code : Code) (task : Task) (fs : List Frame) (w : World) → Leads code (Ok task) fs w w (λ d x. resumed code d fs task (state_at w x))
+leads_here code task fs w = λ x a. (kept_same w x a, λ d m. refl)
 
 -- ---- steps that give something, and then go on
 

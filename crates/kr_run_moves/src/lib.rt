@@ -2,6 +2,7 @@
 //! where a frame receives a value or a statement's end, and in lists of nodes. Each keeps the outcome of the whole run.
 #![tactic(auto)]
 
+mod catches;
 mod expressions;
 mod flows;
 mod lists;
@@ -11,6 +12,7 @@ mod statements;
 mod values;
 mod variables;
 
+pub use catches::{enter_catch, throw_from};
 pub use expressions::enter_node;
 pub use flows::take_flow;
 pub use lists::{all, declare, repeat, update};

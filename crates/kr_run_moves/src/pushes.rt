@@ -63,6 +63,13 @@ pub fn flow(stack: &mut Stack, frame: FlowFrame) -> Result<(), NoMemory>
     push(stack, Waiting::Flow(frame))
 }
 
+/// The block of a `try` is entered, with these clauses.
+pub(crate) fn catches(stack: &mut Stack, clauses: Nodes) -> Result<(), NoMemory>
+    ensures pushed { OnOk result (stack.new ≡ frames.Catch clauses ∷ stack.old) }
+{
+    push(stack, Waiting::Catch(clauses))
+}
+
 #[inline(always)]
 pub fn unit(stack: &mut Stack, frame: UnitFrame) -> Result<(), NoMemory>
     ensures pushed { OnOk result (stack.new ≡ frames.Unit frame ∷ stack.old) }

@@ -5,7 +5,7 @@ ghost use Rattle.kr_run_frames.specs.Leads.{Leads, next_task};
 ghost use Rattle.kr_run_state.specs.Worlds.{state_at};
 
 use crate::lists::all;
-use crate::pushes::{flow, scope};
+use crate::pushes::{catches as catch_by, flow, scope};
 use crate::values::{stop, test_next};
 use kr_code::{Code, Statement};
 use kr_mean::Flow;
@@ -15,7 +15,7 @@ use std::alloc::Global;
 
 /// A statement, after its unit.
 #[inline(always)]
-#[tactic(auto, using(crate::proofs::Moves::locals_long), unfolding(kr_mean::specs::Steps::bind))]
+#[tactic(auto, using(crate::proofs::Moves::locals_long), unfolding(kr_mean::specs::Steps::bind, kr_mean::specs::Thrown::attempted))]
 pub fn enter_statement(
     alloc: Global,
     code: &Code,
@@ -113,6 +113,20 @@ pub fn enter_statement(
             *node,
             task,
         ),
+        Statement::Throw(node) => test_next(
+            alloc,
+            code,
+            world,
+            stack,
+            TestFrame::Throw,
+            *node,
+            task,
+        ),
+        Statement::Try { body, catches } => {
+            catch_by(stack, *catches)?;
+            *task = Task::Execute(*body);
+            Ok(())
+        }
         Statement::Declare(_) => stop(code, world, stack, task),
     }
 }

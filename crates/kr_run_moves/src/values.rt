@@ -570,6 +570,10 @@ pub fn take_test(
             *task = Task::Led(Flow::Gave(given));
             Ok(())
         }
+        TestFrame::Throw => {
+            *task = Task::Throw(given);
+            Ok(())
+        }
         TestFrame::Initial(local, others) => {
             test(stack, TestFrame::Rest(others))?;
             *task = Task::Act(Action::Write(Cell::Local(local), given, given));

@@ -59,6 +59,7 @@ state_at w x = record {
   locals = map local_of w.locals.items;
   result = w.result;
   olds = map old_of w.olds.items;
+  thrown = w.thrown;
   heap = candidates_of w.candidates x ++ w.made;
   candidates = length w.candidates;
   fuel = w.fuel;

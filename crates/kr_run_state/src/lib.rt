@@ -8,6 +8,7 @@ mod memory;
 mod names;
 mod operators;
 mod reads;
+mod thrown;
 mod world;
 
 pub use action::{Action, Cell, act};
@@ -16,7 +17,8 @@ pub use kr_base::NoMemory;
 pub use memory::{
     class_of, element, index_below, load_named, made_number, new_object, store_initial,
 };
-pub use names::{assign, declare, read_local, tick};
+pub use names::{add_local, assign, declare, read_local, tick};
 pub use operators::{alone, binary, operated, operated_alone};
 pub use reads::Reads;
+pub use thrown::{take, throw};
 pub use world::{Halt, Local, Old, World, ended};

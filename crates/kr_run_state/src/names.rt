@@ -45,6 +45,18 @@ pub fn declare(world: &mut World, value: Value) -> Result<Value, Halt>
     Ok(Value::Null)
 }
 
+/// A new local.
+pub fn add_local(world: &mut World, value: Value) -> Result<(), Halt>
+    ensures { Agrees result world.new world.old (λ x. declare_step value (state_at world.old x)) }
+{
+    let local = Local {
+        value,
+        parameter: None,
+    };
+    append(&mut world.locals, local)?;
+    Ok(())
+}
+
 /// Gives a local another value, and then what is to be given.
 #[inline(always)]
 #[tactic(auto, unfolding(kr_mean::specs::Steps::bind))]

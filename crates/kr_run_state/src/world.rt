@@ -57,6 +57,8 @@ pub struct World {
     pub locals: Vec<Local>,
     pub result: Option<Value>,
     pub olds: Vec<Old>,
+    /// An object that is thrown, until it is caught.
+    pub thrown: Option<Value>,
     pub candidates: Heap,
     pub made: Heap,
     pub is_frozen: bool,

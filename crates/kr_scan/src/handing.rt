@@ -21,7 +21,7 @@ use crate::scan::Scan;
 use kr_base::{Span, Steps};
 use kr_mean::Row;
 use kr_step::{Candidate, Ending, Next, SpanSearch};
-use kr_survey::{End, Halt, Making, Mapped, Room, Taker};
+use kr_survey::{End, Halt, Making, Mapped, Room, RowTaker};
 use std::alloc::Global;
 use std::sync::ledger::Ledger;
 
@@ -45,10 +45,18 @@ fn spent_at(alloc: Global, key: &[u32], tried: u64) -> Result<End, Halt>
     }
 }
 
+/// The memory in which one row after another is made, and made into another.
+#[derive(Drop)]
+struct Rooms<R, O> {
+    row: Row,
+    room: O,
+    made: R,
+}
+
 /// Makes the row of a candidate that is valid, and hands it over.
-fn hand_valid<R, M: Making<Row, Row = R>, T: Taker<K, Row = R>, C: Candidate + Drop, K>(
+fn hand_valid<R, M: Making<Row, Row = R>, T: RowTaker<K, Row = R>, C: Candidate + Drop, K>(
     making: &M,
-    room: &mut M::Room,
+    rooms: &mut Rooms<R, M::Room>,
     maker: &mut RowMaker<'_>,
     span: &SpanSearch<C>,
     taker: &mut T,
@@ -60,20 +68,20 @@ fn hand_valid<R, M: Making<Row, Row = R>, T: Taker<K, Row = R>, C: Candidate + D
     ensures maker { maker.new ≡ maker.old }
     ensures took { (start : T) (from : K) (done : List R) → T.takes start from done taker.old out.old (Some More) → Took T.takes start from done (map (M.made_of making.now) (rows_at (mark_of (posed maker.old.problem) (C.vector span.now.candidates)))) taker.new out.new result }
 {
-    match maker.row(span.cut(), span.candidates()) {
+    match maker.fill(span.cut(), span.candidates(), &mut rooms.row) {
         Err(why) => Err(Halt::Memory(why)),
-        Ok(row) => match making.make(room, row) {
+        Ok(()) => match making.make(&mut rooms.room, &mut rooms.row, &mut rooms.made) {
             Err(why) => Err(Halt::Memory(why)),
-            Ok(made) => taker.take_row(made, out),
+            Ok(()) => taker.take_row(&mut rooms.made, out),
         },
     }
 }
 
 /// Hands over the row of the entry at which a walk over a span is, if its candidate is valid.
-fn hand_entry<R, M: Making<Row, Row = R>, T: Taker<K, Row = R>, C: Candidate + Drop, K>(
+fn hand_entry<R, M: Making<Row, Row = R>, T: RowTaker<K, Row = R>, C: Candidate + Drop, K>(
     ending: Ending,
     making: &M,
-    room: &mut M::Room,
+    rooms: &mut Rooms<R, M::Room>,
     maker: &mut RowMaker<'_>,
     span: &SpanSearch<C>,
     taker: &mut T,
@@ -86,14 +94,21 @@ fn hand_entry<R, M: Making<Row, Row = R>, T: Taker<K, Row = R>, C: Candidate + D
     ensures took { (start : T) (from : K) (done : List R) → T.takes start from done taker.old out.old (Some More) → Took T.takes start from done (map (M.made_of making.now) (rows_at (mark_of (posed maker.old.problem) (C.vector span.now.candidates)))) taker.new out.new result }
 {
     match ending {
-        Ending::Valid => hand_valid(making, room, maker, span, taker, out),
+        Ending::Valid => hand_valid(making, rooms, maker, span, taker, out),
         Ending::Invalid => Ok(Room::More),
         Ending::Spent => Ok(Room::More),
     }
 }
 
 /// Hands over the rows of a span's entries: each before the next candidate is run.
-fn hand_over<R, M: Making<Row, Row = R>, T: Taker<K, Row = R>, C: Candidate + Drop, K, L: Ledger>(
+fn hand_over<
+    R: Drop,
+    M: Making<Row, Row = R>,
+    T: RowTaker<K, Row = R>,
+    C: Candidate + Drop,
+    K,
+    L: Ledger,
+>(
     alloc: Global,
     making: &M,
     maker: &mut RowMaker<'_>,
@@ -108,7 +123,11 @@ fn hand_over<R, M: Making<Row, Row = R>, T: Taker<K, Row = R>, C: Candidate + Dr
     ensures runs { IfOk result (λ end. runs.new ≤ runs.old + length (entries_in (At span.old.cut) span.old.upto (all_entries (posed maker.old.problem))) + 1) }
     ensures full { IfOk result (λ end. IfFull end (StopsWhenFull T.takes (entries_by (M.made_of making.now) (entries_in (At span.old.cut) span.old.upto (all_entries (posed maker.old.problem)))) taker.old out.old runs.old runs.new 0)) }
 {
-    let mut room = making.room();
+    let mut rooms = Rooms {
+        row: Row::blank(alloc),
+        room: making.room(),
+        made: making.blank(),
+    };
     let mut tried: u64 = 0;
     loop {
         let ending = match span.next(runs) {
@@ -120,7 +139,7 @@ fn hand_over<R, M: Making<Row, Row = R>, T: Taker<K, Row = R>, C: Candidate + Dr
         if is_spent(ending) {
             return spent_at(alloc, span.cut(), tried);
         }
-        match hand_entry(ending, making, &mut room, maker, &*span, taker, out) {
+        match hand_entry(ending, making, &mut rooms, maker, &*span, taker, out) {
             Err(halt) => return Err(halt),
             Ok(Room::Full) => return Ok(End::Full),
             Ok(Room::More) => {}
@@ -130,7 +149,7 @@ fn hand_over<R, M: Making<Row, Row = R>, T: Taker<K, Row = R>, C: Candidate + Dr
 
 /// The rows of a problem's entries in a span, made into others and handed over by one worker: each before the next candidate is
 /// run. There is at most one run an entry, beside those that seeking takes, and none once the taker is full. It waits for nobody.
-pub fn walk<'p, R, M: Making<Row, Row = R>, T: Taker<K, Row = R>, K, L: Ledger>(
+pub fn walk<'p, R: Drop, M: Making<Row, Row = R>, T: RowTaker<K, Row = R>, K, L: Ledger>(
     survey: &Mapped<Scan<'p>, M>,
     span: Span,
     taker: &mut T,

@@ -1,12 +1,12 @@
 // What makes rows.
-ghost use Rattle.std.specs.Prelude.{◌≡◌, IfOk};
+ghost use Rattle.std.specs.Prelude.{◌≡◌, IfOk, OnOk};
 ghost use Rattle.kr_mean.specs.Entries.{row_of};
 ghost use Rattle.kr_mean.specs.Runs.{key_of};
 ghost use Rattle.kr_mean.specs.Space.{IsVector, space_of};
 ghost use Rattle.kr_space_problem.specs.Posed.{posed};
 
 use kr_base::{Cut, NoMemory};
-use kr_build::{Walk, structure_of};
+use kr_build::{Walk, fill_structure};
 use kr_contract::Tester;
 use kr_judge_prepared::Prepared;
 use kr_mean::Row;
@@ -15,8 +15,8 @@ use kr_vector::Vector;
 use std::alloc::Global;
 use std::marker::Model;
 
-/// Makes the rows of a problem's valid candidates. The walk and the tester are kept from row to row; the cut and the structure of
-/// each row are allocated anew. Contracts see the problem and its code.
+/// Makes the rows of a problem's valid candidates. The walk and the tester are kept from row to row. Contracts see the problem and
+/// its code.
 #[derive(Drop)]
 pub struct RowMaker<'p> {
     alloc: Global,
@@ -43,31 +43,27 @@ pub(crate) fn cut_of(alloc: Global, numbers: &[u32]) -> Result<Cut, NoMemory>
     Ok(Cut::new(numbers.to_vec(alloc)?))
 }
 
-/// The row of a candidate, whose key this is.
-fn row_for(
-    alloc: Global,
+/// Makes a row that of a candidate, whose key this is.
+fn fill_row(
     prepared: &Prepared,
     walk: &mut Walk,
     tester: &mut Tester<'_>,
     key: &[u32],
     vector: &Vector,
-) -> Result<Row, NoMemory>
+    row: &mut Row,
+) -> Result<(), NoMemory>
     requires tester { tester.old ≡ prepared.now }
     requires vector { IsVector (space_of (posed prepared.now.problem)) vector.now }
     requires key { key.now ≡ key_of (posed prepared.now.problem) vector.now }
-    ensures row { IfOk result (λ row. row ≡ row_of (posed prepared.now.problem) vector.now) }
+    ensures row { OnOk result (row.new ≡ row_of (posed prepared.now.problem) vector.now) }
     ensures tester { tester.new ≡ tester.old }
 {
     prepared.laws();
     let layout = prepared.layout();
-    let verdict = tester.verdict_on(vector)?;
-    let key = cut_of(alloc, key)?;
-    let structure = structure_of(alloc, layout, walk, vector)?;
-    Ok(Row {
-        key,
-        structure,
-        verdict,
-    })
+    row.verdict = tester.verdict_on(vector)?;
+    row.key.assign(key)?;
+    fill_structure(layout, walk, vector, &mut row.structure)?;
+    Ok(())
 }
 
 impl<'p> RowMaker<'p> {
@@ -84,20 +80,37 @@ impl<'p> RowMaker<'p> {
         })
     }
 
-    /// The row of a valid candidate with this key: with its verdict, where a method is tested.
+    /// Makes a row that of a valid candidate with this key: with its verdict, where a method is tested.
+    pub fn fill<C: Candidate>(
+        &mut self,
+        key: &[u32],
+        candidate: &C,
+        row: &mut Row,
+    ) -> Result<(), NoMemory>
+        requires vector { IsVector (space_of (posed self.old.problem)) (C.vector candidate.now) }
+        requires key { key.now ≡ key_of (posed self.old.problem) (C.vector candidate.now) }
+        ensures row { OnOk result (row.new ≡ row_of (posed self.old.problem) (C.vector candidate.now)) }
+        ensures same { self.new ≡ self.old }
+    {
+        fill_row(
+            self.prepared,
+            &mut self.walk,
+            &mut self.tester,
+            key,
+            candidate.current(),
+            row,
+        )
+    }
+
+    /// The row of a valid candidate with this key.
     pub fn row<C: Candidate>(&mut self, key: &[u32], candidate: &C) -> Result<Row, NoMemory>
         requires vector { IsVector (space_of (posed self.old.problem)) (C.vector candidate.now) }
         requires key { key.now ≡ key_of (posed self.old.problem) (C.vector candidate.now) }
         ensures row { IfOk result (λ row. row ≡ row_of (posed self.old.problem) (C.vector candidate.now)) }
         ensures same { self.new ≡ self.old }
     {
-        row_for(
-            self.alloc,
-            self.prepared,
-            &mut self.walk,
-            &mut self.tester,
-            key,
-            candidate.current(),
-        )
+        let mut row = Row::blank(self.alloc);
+        self.fill(key, candidate, &mut row)?;
+        Ok(row)
     }
 }

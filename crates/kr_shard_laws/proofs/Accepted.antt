@@ -1,24 +1,21 @@
 -- The entries of an accepted problem have lines, those of a listing's are a listing's, and what `shard` writes of it is put together.
-use Rattle.std.proofs.Common.{◌≡◌, ℕ, List, [], ◌∷◌, map, Option, Some, None, Result, Ok, Err, refl, sym, ap, ◌∙◌, subst}
-use Rattle.std.specs.Prelude.{MatchOption}
+use Rattle.std.proofs.Common.{◌≡◌, ℕ, List, [], ◌∷◌, map, Option, Some, None, refl, sym, ap, ◌∙◌, subst}
 use Rattle.std.specs.List.{AllByRecursion}
 use Rattle.kr_ast.specs.Tree.{Tree}
 use Rattle.kr_classes_table.specs.Table.{Field, Heading, Method, Parameter, headings_of, method_named, table_of}
-use Rattle.kr_fin.specs.Least.{IsLeast}
 use Rattle.kr_fin.specs.declared.document.FinDoc.{FinDoc}
-use Rattle.kr_fin.proofs.Leasts.{least_of_all}
 use Rattle.kr_mean.specs.Entries.{all_entries}
 use Rattle.kr_mean.specs.Problem.{Problem, ClassDomain, Domain}
 use Rattle.kr_mean.specs.Runs.{root_class, tested_method}
 use Rattle.kr_mean.specs.declared.mode.Mode.{Mode}
 use Rattle.kr_mean.specs.declared.mode.Mode.TheVariants.{List as Listing, Method as Testing}
 use Rattle.kr_space_meaning.specs.Bounds.{bounded, declared, domains_of, parameter_key, parameter_values, problem_in, problem_of, setting_of, tested_parameters}
-use Rattle.kr_space_meaning.specs.Meaning.{faults_of, meaning, unless}
-use Rattle.kr_space_meaning.specs.Order.{Fault, least, space_rank}
+use Rattle.kr_space_meaning.specs.Meaning.{faults_of}
 use Rattle.kr_space_meaning.proofs.Each.{each_weaker}
 use Rattle.kr_space_meaning.proofs.WellFormed.{well_formed}
+use Rattle.kr_laws_never_stuck.proofs.Accepted.{posed}
 use Rattle.kr_laws_never_stuck.specs.Apart.{all_fields}
-use Rattle.kr_laws_never_stuck.specs.NeverStuck.{IsAccepted}
+use Rattle.kr_laws_never_stuck.specs.Accepted.{IsAccepted}
 use Rattle.kr_report.specs.Texts.{parameter_names}
 use Rattle.kr_shard_laws.proofs.SourceNames.{named}
 use Rattle.kr_shard_laws.specs.Names.{IsIdentifier, all_methods}
@@ -33,28 +30,8 @@ use Rattle.kr_shard_laws.proofs.Methods.{of_named}
 use Rattle.kr_shard_laws.proofs.ProblemNames.{name_line}
 use Rattle.kr_shard_laws.proofs.Sizes.{AreNumbered, IsGood, IsSmall, domains_good, numbered, parameters_small, slot_small}
 
--- ---- the problem of a document that breaks no rule
+-- ---- the parts of the problem
 
-pub record IsPosed (files : List Tree) (document : FinDoc) (mode : Mode) (problem : Problem) : Type 0 where
-  pub unbroken : faults_of files document mode ≡ []
-  pub is : problem_of files document mode ≡ problem
-
-pub posed : (files : List Tree) (document : FinDoc) (mode : Mode) (problem : Problem) → meaning files document mode ≡ Ok problem → IsPosed files document mode problem
-unfolding meaning
-posed files document mode problem e = go (least (faults_of files document mode)) refl e
-  where
-    inside : Result Problem Fault → Problem
-    inside (Ok p) = p
-    inside (Err f) = problem
-
-    go : (o : Option Fault) → least (faults_of files document mode) ≡ o → unless o (problem_of files document mode) ≡ Ok problem → IsPosed files document mode problem
-    go None n e = record {
-      unbroken = subst (λ (o : Option Fault). MatchOption o (faults_of files document mode ≡ []) (IsLeast space_rank (faults_of files document mode))) n (least_of_all space_rank (faults_of files document mode));
-      is = ap inside e;
-    }
-    go (Some f) n e = absurd (cc (e))
-
--- the parts of the problem
 pub record HasParts (files : List Tree) (document : FinDoc) (mode : Mode) : Type 0 where
   pub mode_is : (problem_of files document mode).mode ≡ mode
   pub parameters : (problem_of files document mode).parameters ≡ map (λ p. parameter_values (setting_of files document) (parameter_key mode p)) (tested_parameters (setting_of files document) mode)

@@ -1,6 +1,6 @@
 -- What `shard` writes is read back.
-use Rattle.std.proofs.Common.{◌≡◌, ℕ, suc, ◌+◌, ◌-◌, ◌<◌, ◌≤◌, ◌^◌, Bool, true, false, ◌&&◌, List, [], ◌∷◌, ◌++◌, map, length, drop, take, min, refl, sym, ap, ◌∙◌, subst, arith, lit<, lit≤, append_assoc, append-nil, decimal, Option, Some, None}
-use Rattle.std.specs.Prelude.{Result, Ok, Err, codes, flat_map, if◌then◌else◌, nat_lt, nat_le, option_and_then, option_map}
+use Rattle.std.proofs.Common.{◌≡◌, ℕ, ◌+◌, ◌-◌, ◌<◌, ◌≤◌, ◌^◌, Bool, true, false, List, [], ◌∷◌, ◌++◌, map, length, drop, take, refl, sym, ap, ◌∙◌, subst, arith, lit<, lit≤, append_assoc, append-nil, decimal, Option, Some, None}
+use Rattle.std.specs.Prelude.{Ok, codes, flat_map, if◌then◌else◌, nat_lt, nat_le, option_and_then, option_map}
 use Rattle.std.specs.Fmt.{digits}
 use Rattle.std.specs.List.{before_first, after_first}
 use Rattle.std.specs.Str.{bytes_eq}
@@ -17,17 +17,17 @@ use Rattle.kr_base.specs.declared.span.Bound.TheVariants.{At, End}
 use Rattle.kr_base.specs.declared.span.Span.{Span}
 use Rattle.kr_base.specs.Bounds.{less}
 use Rattle.kr_base.specs.Cuts.{Before, cut_text}
-use Rattle.kr_base.specs.Entries.{entries_in, is_within, through_spent, within}
+use Rattle.kr_base.specs.Entries.{entries_in, is_within, within}
 use Rattle.kr_base.specs.Parsing.{cut_of}
 use Rattle.kr_mean.specs.Problem.{Problem}
 use Rattle.kr_mean.specs.declared.mode.Mode.{Mode}
 use Rattle.kr_mean.specs.declared.mode.Mode.TheVariants.{List as Listing}
 use Rattle.kr_mean.specs.declared.row.Row.{Row}
-use Rattle.kr_report.specs.Reports.{Answer, bytes_of, cut_report, last_key as last_key_in, lines, listing_answer, rows_in, spent_key, summary_text, whole_report}
+use Rattle.kr_report.specs.Reports.{bytes_of, cut_report, last_key as last_key_in, lines, listing_answer, rows_in, spent_key, summary_text, whole_report}
 use Rattle.kr_report.specs.Texts.{listed_text, more_text, row_text, spent_text, structure_text, verdict_text}
 use Rattle.kr_text.specs.Splitting.{IsWithout, after_front, bound_of, ended, is_empty, is_space, lines_in, unended}
 use Rattle.kr_shard.specs.Shards as reading
-use Rattle.kr_shard.specs.Shards.{KeyedLine, ended_by, ending_in, ending_of, for_ok, from_of, key_in, last_key, row_bytes, row_key, shard_of, shard_with, span_between, span_in, span_of, spent_at, tried_of, with_lines, with_rows, with_span}
+use Rattle.kr_shard.specs.Shards.{KeyedLine, ended_by, ending_in, ending_of, for_ok, from_of, key_in, last_key, row_key, shard_of, shard_with, span_between, span_of, spent_at, tried_of, with_lines, with_rows, with_span}
 use Rattle.kr_shard.specs.Stages.{line_of}
 use Rattle.kr_shard.specs.Texts.{first_text, from_text, to_text}
 use Rattle.kr_shard.specs.declared.shard.Shard.{Shard}
@@ -35,7 +35,7 @@ use Rattle.kr_shard.proofs.Fronts.{drop_lines, lines_ended}
 use Rattle.kr_shard_laws.specs.Law.{BackLaw, IsShardOf, tried_by}
 use Rattle.kr_shard_laws.specs.Listings.{IsBound, IsCut, IsListing, IsSpan, MOST_ROWS, listing_in, shard_text}
 use Rattle.kr_shard.specs.Files.{MOST_BYTES}
-use Rattle.kr_shard_laws.proofs.Bytes.{AreLines, IsHigh, after_is, before_is, front_after, high_append, high_cut, high_number, lines_append, lines_back, nothing_unended, without_append, without_high}
+use Rattle.kr_shard_laws.proofs.Bytes.{AreLines, IsHigh, after_is, before_is, front_after, high_cut, high_number, lines_append, lines_back, nothing_unended, without_append, without_high}
 use Rattle.kr_shard_laws.proofs.Rows.{AreListable, IsRun, are_listable, cut_back, few_rows, key_read, keyed, keyed_bytes, keyed_count, keyed_lines, rows_read, run_through, run_within, spent_after, through_listable, within_listable}
 
 -- ---- the first line
@@ -140,7 +140,7 @@ unfolding last_line
 no_row None valid tried upto k = row_none upto k (codes "valid " ++ decimal (capped valid) ++ codes " tried " ++ decimal (capped tried)) (codes "valid") refl no_valid
 no_row (Some key) valid tried upto k = row_none upto k (codes "spent " ++ cut_text key) (codes "spent") refl no_spent
 
-capped_fits : (n : ℕ) → capped n < 2 ^ 64
+pub capped_fits : (n : ℕ) → capped n < 2 ^ 64
 capped_fits n = omega arith
 
 last_is_line : (key : Option (List ℕ)) (valid tried : ℕ) → ((k : List ℕ) → key ≡ Some k → IsCut k) → IsWithout 10 (last_line key valid tried)
@@ -189,7 +189,7 @@ ending_back upto last count (Some key) valid tried same few h = spent_back upto 
 
 row_some : (problem : Problem) (row : Row) → 1 ≤ length (row_text problem row)
 row_some problem row =
-    omega (arith, length-append (cut_text row.key ++ codes " " ++ verdict_text row.verdict ++ structure_text problem row.structure) (codes "\n"))
+    omega (arith, length-append (cut_text row.key ++ codes " " ++ verdict_text problem.program.table.headings row.verdict ++ structure_text problem row.structure) (codes "\n"))
 
 lines_long : (problem : Problem) (rows : List Row) → length rows ≤ length (lines (map (row_text problem) rows))
 lines_long problem [] = omega arith

@@ -1,10 +1,10 @@
 -- No object domain and no array type of a document has more than 64 objects, and no object domain's name has a line feed where its
 -- class's has none.
 use Rattle.std.proofs.Common.{◌≡◌, ℕ, ◌≤◌, ℤ, Bool, true, false, not, ◌&&◌, cond, nat_le, nat_lt, List, [], ◌∷◌, ◌++◌, codes, inl, inr, ◌⊎◌, Option, Some, None, Ok, Err, refl, subst, arith}
-use Rattle.std.specs.Prelude.{pos, negsuc, bytes_eq, option_and_then, MatchOption, if◌then◌else◌}
+use Rattle.std.specs.Prelude.{pos, negsuc, bytes_eq, option_and_then, if◌then◌else◌}
 use Rattle.std.specs.List.{AllByRecursion}
 use Rattle.std.proofs.lemmas.Bool.{and_parts, leb-true}
-use Rattle.toml.specs.Data.{Data, string, integer, float, boolean, datetime, array, table, Members, no_members, member, get_member, as_integer, as_table}
+use Rattle.toml.specs.Data.{Data, Members, no_members, member, get_member, as_integer}
 use Rattle.kr_fin.specs.declared.document.Count.{Count}
 use Rattle.kr_fin.specs.declared.document.FinDoc.{FinDoc}
 use Rattle.kr_classes_table.specs.Table.{Heading, number_of as class_number}
@@ -15,15 +15,14 @@ use Rattle.kr_fin.specs.declared.refusal.FinRule.TheVariants.{TooLong, WrongKind
 use Rattle.kr_fin.specs.Document as documents
 use Rattle.kr_fin.specs.Document.{bounds_of, counts_of, document_of, magnitude, members_of, number_of, object_domains_of, objects_of, table_of}
 use Rattle.kr_fin.specs.Identifiers.{is_identifier}
-use Rattle.kr_fin.specs.Least.{IsLeast}
 use Rattle.kr_fin.specs.Version.{is_second, objects_section}
-use Rattle.kr_fin.proofs.Leasts.{least_of_all}
-use Rattle.kr_fin.specs.Faults.{entries, faults_in, fuel, named_domain, of_kind, optional, root, section, unknown_keys, version}
+use Rattle.kr_fin.specs.Faults.{entries, faults_in, fuel, named_domain, root, section, unknown_keys, version}
 use Rattle.kr_fin.specs.Meaning.{document_in, is_short, meaning, of_table, table_in, unless}
-use Rattle.kr_fin.specs.Order.{Fault, broken, least, rank_of}
+use Rattle.kr_fin.specs.Order.{Fault, broken, least}
 use Rattle.kr_fin.specs.Shapes.{counts, have, is_domain_name, item_of, name_of}
 use Rattle.kr_space_meaning.specs.Bounds.{classed, declared, declared_by}
 use Rattle.kr_space_meaning.proofs.Each.{each_of_both}
+use Rattle.kr_space_meaning.proofs.Sections.{table_entries, unbroken_whole}
 
 -- the name is the class's, or an identifier
 abbrev pub IsNamed : Count → Type 0
@@ -89,17 +88,6 @@ domains_named (member key d rest) e =
     let name = both_empty (if is_domain_name key then [] else broken WrongKind (item_of Domains key)) _ parts.0 in
     (inr (domain_name key (item_of Domains key) name.0), domains_named rest parts.1)
 
--- a table that is absent, or one whose entries break no rule
-table_entries : (s : Section) (o : Option Data) → optional (λ d. of_kind (entries s) (name_of s) (as_table d)) o ≡ [] → entries s (members_of o) ≡ []
-table_entries s None e = refl
-table_entries s (Some (table ms)) e = e
-table_entries s (Some (integer z)) e = absurd (cc (e))
-table_entries s (Some (string t)) e = absurd (cc (e))
-table_entries s (Some (float x)) e = absurd (cc (e))
-table_entries s (Some (boolean b)) e = absurd (cc (e))
-table_entries s (Some (datetime dt)) e = absurd (cc (e))
-table_entries s (Some (array ds)) e = absurd (cc (e))
-
 objects_named : (b : Bool) (ms : Members) → section (if b then Domains else Objects) ms ≡ [] → AllByRecursion IsNamed (objects_of (if b then Domains else Objects) (table_of (if b then Domains else Objects) ms))
 objects_named true ms e = domains_named (table_of Domains ms) (table_entries Domains (get_member (name_of Domains) ms) e)
 objects_named false ms e = counts_named (table_of Objects ms)
@@ -122,15 +110,12 @@ of_members ms e =
       names = objects_named (is_second ms) ms own;
     }
 
-unbroken : (fs : List Fault) → least fs ≡ None → fs ≡ []
-unbroken fs e = subst (λ (o : Option Fault). MatchOption o (fs ≡ []) (IsLeast rank_of fs)) e (least_of_all rank_of fs)
-
 judged_few : (ms : Members) (document : FinDoc) → document_in ms ≡ Ok document → HasFew document
 unfolding document_in
 judged_few ms document e = go (least (faults_in ms)) refl e
   where
     go : (o : Option Fault) → least (faults_in ms) ≡ o → unless o (document_of ms) ≡ Ok document → HasFew document
-    go None n e = let same : document_of ms ≡ document = cc (e) in subst HasFew same (of_members ms (unbroken (faults_in ms) n))
+    go None n e = let same : document_of ms ≡ document = cc (e) in subst HasFew same (of_members ms (unbroken_whole (faults_in ms) n))
     go (Some f) n e = absurd (cc (e))
 
 pub read_few : (bytes : List ℕ) (document : FinDoc) → meaning bytes ≡ Ok document → HasFew document

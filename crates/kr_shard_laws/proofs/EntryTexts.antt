@@ -34,12 +34,12 @@ entries_ascend problem =
     ascends_sorted (map (entry_of (order_of problem) (mark_of problem)) (filter (λ v. is_least (space_of problem) (order_of problem) v && is_settled (space_of problem) (order_of problem) v) (vectors (space_of problem))))
 
 -- a vector whose entry it is
-record IsOf (problem : Problem) (e : Entry Row) : Type 0 where
-  vector : List ℕ
-  within : IsVector (space_of problem) vector
-  is : entry_of (order_of problem) (mark_of problem) vector ≡ e
+pub record IsOf (problem : Problem) (e : Entry Row) : Type 0 where
+  pub vector : List ℕ
+  pub within : IsVector (space_of problem) vector
+  pub is : entry_of (order_of problem) (mark_of problem) vector ≡ e
 
-entry_is_of : (problem : Problem) (e : Entry Row) → IsAmong e (all_entries problem) → IsOf problem e
+pub entry_is_of : (problem : Problem) (e : Entry Row) → IsAmong e (all_entries problem) → IsOf problem e
 unfolding all_entries all_of
 entry_is_of problem e h =
     let passes = λ (v : List ℕ). is_least (space_of problem) (order_of problem) v && is_settled (space_of problem) (order_of problem) v in

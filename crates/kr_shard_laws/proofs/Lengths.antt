@@ -105,6 +105,11 @@ shorter (grammar.if_else _ _ _ _ _ _ d _ e _ _ f) = omega (arith, shorter d, sho
 shorter (grammar.while _ _ _ _ _ d _ e) = omega (arith, shorter d, shorter e)
 shorter (grammar.do_while _ _ _ _ _ _ d _ _ e _ _) = omega (arith, shorter d, shorter e)
 shorter (grammar.for _ _ _ _ _ _ _ d _ e _ f _ g) = omega (arith, shorter d, shorter e, shorter f, shorter g)
+shorter (grammar.throw _ _ _ d _) = omega (arith, shorter d)
+shorter (grammar.try _ _ _ _ _ d _ e f) = omega (arith, shorter d, shorter e, shorter f)
+shorter (grammar.caught _ d _) = omega (arith, shorter d)
+shorter (grammar.final_caught _ _ _ d _) = omega (arith, shorter d)
+shorter (grammar.catch _ _ _ _ _ _ _ d _ _ e _) = omega (arith, shorter d, shorter e)
 shorter (grammar.for_local d) = omega (arith, shorter d)
 shorter (grammar.for_expressions d) = shorter d
 shorter (grammar.parameter _ d _) = omega (arith, shorter d)
@@ -116,6 +121,8 @@ shorter (grammar.nested m _ _ d) = omega (arith, modified_length m, shorter d)
 shorter (grammar.field _ m _ d e _) = omega (arith, modified_length m, shorter d, shorter e)
 shorter (grammar.precondition _ _ _ _ _ d _) = omega (arith, shorter d)
 shorter (grammar.postcondition _ _ _ _ _ d _) = omega (arith, shorter d)
+shorter (grammar.exception _ _ _ _ _ _ _ _ d _ e _) = omega (arith, shorter d, shorter e)
+shorter (grammar.named_exception _ _ _ _ _ _ _ _ _ d _ _ e _) = omega (arith, shorter d, shorter e)
 shorter (grammar.method _ _ _ _ _ c m d _ _ e _ _ f _) = omega (arith, shorter c, modified_length m, shorter d, shorter e, shorter f)
 shorter (grammar.constructor _ _ _ _ _ m _ _ _ d _ _ e f _) = omega (arith, modified_length m, shorter d, shorter e, shorter f)
 shorter grammar.no_member = omega arith
@@ -133,6 +140,8 @@ shorter (grammar.another m _ d e) = omega (arith, modified_length m, shorter d, 
 line_shorter : {i r : List Lexeme} {t : Tree} → Der grammar.Contract i t r → length r < length i
 line_shorter (grammar.precondition _ _ _ _ _ d _) = omega (arith, shorter d)
 line_shorter (grammar.postcondition _ _ _ _ _ d _) = omega (arith, shorter d)
+line_shorter (grammar.exception _ _ _ _ _ _ _ _ d _ e _) = omega (arith, shorter d, shorter e)
+line_shorter (grammar.named_exception _ _ _ _ _ _ _ _ _ d _ _ e _) = omega (arith, shorter d, shorter e)
 
 pub lines_few : {i r : List Lexeme} {t : Tree} → Der (grammar.Many grammar.Contract) i t r → length (items t) + length r ≤ length i
 lines_few grammar.end = omega arith

@@ -9,7 +9,7 @@ use Rattle.kr_text.specs.Splitting.{IsWithout}
 abbrev pub IsLine : List ℕ → Type 0
 IsLine text = IsWithout 10 text
 
-digit_line : (n : ℕ) → (digit_glyph false (n % 10) == 10) ≡ false
+pub digit_line : (n : ℕ) → (digit_glyph false (n % 10) == 10) ≡ false
 digit_line n = grind (arith, nat_tests)
 
 either_line : (b : Bool) (x y : List ℕ) → IsLine x → IsLine y → IsLine (if b then x else y)

@@ -1,5 +1,5 @@
--- A name of the lexer, or of an object domain, has no line feed.
-use Rattle.std.proofs.Common.{◌≡◌, ℕ, ◌+◌, ◌≤◌, ◌/◌, ◌==◌, cond, nat_lt, Bool, true, false, List, [], ◌∷◌, sym, ap, ◌∙◌, subst, arith}
+-- A name of the lexer, or of an object domain, has no line feed; one of the lexer is a word.
+use Rattle.std.proofs.Common.{◌≡◌, ℕ, ◌+◌, ◌≤◌, ◌<◌, ◌/◌, ◌==◌, cond, nat_lt, Bool, true, false, List, [], ◌∷◌, ◌++◌, length, sym, ap, ◌∙◌, subst, arith}
 use Rattle.std.specs.Char.{encode_utf8}
 use Rattle.std.specs.Prelude.{chars}
 use Rattle.std.specs.List.{list_all}
@@ -14,38 +14,66 @@ use Rattle.kr_lex.specs.Words.{IsName}
 use Rattle.kr_lex.proofs.Classes.{part_ascii_is, start_is_part}
 use Rattle.kr_shard_laws.proofs.Bytes.{without_append}
 use Rattle.kr_shard_laws.proofs.Numbers.{IsLine}
+use Rattle.kr_text.specs.Splitting.{IsWithout}
 
-high : (b : ℕ) → 128 ≤ b → (b == 10) ≡ false
-high b h = grind (arith, nat_tests)
+high : (f b : ℕ) → f < 128 → 128 ≤ b → (b == f) ≡ false
+high f b small h = grind (arith, nat_tests)
 
-other : (c : ℕ) → (c ≡ 10 → ⊥) → (c == 10) ≡ false
-other c h = grind (arith, nat_tests)
+other : (f c : ℕ) → (c ≡ f → ⊥) → (c == f) ≡ false
+other f c h = grind (arith, nat_tests)
 
-char_line : (c : ℕ) → (c ≡ 10 → ⊥) → IsLine (encode_utf8 c)
+-- a character is written without any other one below 128
+char_without : (f c : ℕ) → f < 128 → (c ≡ f → ⊥) → IsWithout f (encode_utf8 c)
 unfolding encode_utf8
-char_line c h = go (nat_lt c 128) (nat_lt c 2048) (nat_lt c 65536)
+char_without f c small h = go (nat_lt c 128) (nat_lt c 2048) (nat_lt c 65536)
   where
     go : (x y z : Bool)
-        → IsLine (cond x (c ∷ []) (cond y ((192 + c / 64) ∷ next c ∷ []) (cond z ((224 + c / 4096) ∷ next (c / 64) ∷ next c ∷ []) ((240 + c / 262144) ∷ next (c / 4096) ∷ next (c / 64) ∷ next c ∷ []))))
-    go true y z = (other c h, tt)
-    go false true z = (high (192 + c / 64) (omega arith), (high (next c) (omega arith), tt))
-    go false false true = (high (224 + c / 4096) (omega arith), (high (next (c / 64)) (omega arith), (high (next c) (omega arith), tt)))
-    go false false false = (high (240 + c / 262144) (omega arith), (high (next (c / 4096)) (omega arith), (high (next (c / 64)) (omega arith), (high (next c) (omega arith), tt))))
+        → IsWithout f (cond x (c ∷ []) (cond y ((192 + c / 64) ∷ next c ∷ []) (cond z ((224 + c / 4096) ∷ next (c / 64) ∷ next c ∷ []) ((240 + c / 262144) ∷ next (c / 4096) ∷ next (c / 64) ∷ next c ∷ []))))
+    go true y z = (other f c h, tt)
+    go false true z = (high f (192 + c / 64) small (omega arith), (high f (next c) small (omega arith), tt))
+    go false false true = (high f (224 + c / 4096) small (omega arith), (high f (next (c / 64)) small (omega arith), (high f (next c) small (omega arith), tt)))
+    go false false false = (high f (240 + c / 262144) small (omega arith), (high f (next (c / 4096)) small (omega arith), (high f (next (c / 64)) small (omega arith), (high f (next c) small (omega arith), tt))))
+
+char_line : (c : ℕ) → (c ≡ 10 → ⊥) → IsLine (encode_utf8 c)
+char_line c h = char_without 10 c (omega arith) h
+
+no_other : (f c : ℕ) → is_part f ≡ false → is_part c ≡ true → c ≡ f → ⊥
+no_other f c n p e =
+    let yes : is_part f ≡ true = ap is_part (sym e) ∙ p in
+    absurd (cc (yes, n))
 
 no_feed : (c : ℕ) → is_part c ≡ true → c ≡ 10 → ⊥
-no_feed c p e =
-    let yes : is_part 10 ≡ true = ap is_part (sym e) ∙ p in
-    let no : is_part 10 ≡ false = part_ascii_is 10 (omega arith) in
-    absurd (cc (yes, no))
+no_feed c p e = no_other 10 c (part_ascii_is 10 (omega arith)) p e
 
-parts_line : (cs : List ℕ) → AllParts cs → IsLine (encode_utf8_all cs)
-parts_line [] h = tt
-parts_line (c ∷ cs) h = without_append 10 (encode_utf8 c) (encode_utf8_all cs) (char_line c (no_feed c h.0.1)) (parts_line cs h.1)
+parts_without : (f : ℕ) → f < 128 → is_part f ≡ false → (cs : List ℕ) → AllParts cs → IsWithout f (encode_utf8_all cs)
+parts_without f small n [] h = tt
+parts_without f small n (c ∷ cs) h = without_append f (encode_utf8 c) (encode_utf8_all cs) (char_without f c small (no_other f c n h.0.1)) (parts_without f small n cs h.1)
+
+-- a name has no character below 128 that is no part of names
+name_without : (f : ℕ) → f < 128 → is_part f ≡ false → (text : List ℕ) → IsName text → IsWithout f text
+name_without f small n text h =
+    subst (IsWithout f) (sym h.spelled)
+    (without_append f (encode_utf8 h.first) (encode_utf8_all h.others) (char_without f h.first small (no_other f h.first n (start_is_part h.first h.starts))) (parts_without f small n h.others h.parts))
 
 pub name_line : (text : List ℕ) → IsName text → IsLine text
-name_line text h =
-    subst IsLine (sym h.spelled)
-    (without_append 10 (encode_utf8 h.first) (encode_utf8_all h.others) (char_line h.first (no_feed h.first (start_is_part h.first h.starts))) (parts_line h.others h.parts))
+name_line text h = name_without 10 (omega arith) (part_ascii_is 10 (omega arith)) text h
+
+pub name_word : (text : List ℕ) → IsName text → IsWithout 32 text
+name_word text h = name_without 32 (omega arith) (part_ascii_is 32 (omega arith)) text h
+
+some_char : (c : ℕ) (rest : List ℕ) → 0 < length (encode_utf8 c ++ rest)
+unfolding encode_utf8
+some_char c rest = go (nat_lt c 128) (nat_lt c 2048) (nat_lt c 65536)
+  where
+    go : (x y z : Bool)
+        → 0 < length (cond x (c ∷ []) (cond y ((192 + c / 64) ∷ next c ∷ []) (cond z ((224 + c / 4096) ∷ next (c / 64) ∷ next c ∷ []) ((240 + c / 262144) ∷ next (c / 4096) ∷ next (c / 64) ∷ next c ∷ []))) ++ rest)
+    go true y z = omega arith
+    go false true z = omega arith
+    go false false true = omega arith
+    go false false false = omega arith
+
+pub name_some : (text : List ℕ) → IsName text → 0 < length text
+name_some text h = subst (λ (t : List ℕ). 0 < length t) (sym h.spelled) (some_char h.first (encode_utf8_all h.others))
 
 -- ---- identifiers as texts
 

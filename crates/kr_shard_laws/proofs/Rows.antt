@@ -37,7 +37,7 @@ row_line problem row = cut_text row.key ++ 32 ∷ structure_text problem row.str
 pub row_is : (problem : Problem) (row : Row) → row.verdict ≡ None → row_text problem row ≡ ended (row_line problem row)
 unfolding row_line
 row_is problem row e =
-    ap (λ (v : Option Verdict). cut_text row.key ++ codes " " ++ verdict_text v ++ structure_text problem row.structure ++ codes "\n") e
+    ap (λ (v : Option Verdict). cut_text row.key ++ codes " " ++ verdict_text problem.program.table.headings v ++ structure_text problem row.structure ++ codes "\n") e
     ∙ (ap (λ (t : List ℕ). t ++ structure_text problem row.structure ++ codes "\n") (append-nil (cut_text row.key ++ codes " "))
     ∙ ap (λ (t : List ℕ). t ++ codes "\n") (append_assoc (cut_text row.key) (codes " ") (structure_text problem row.structure)))
 

@@ -1,38 +1,28 @@
 -- The method under test of an accepted problem.
-use Rattle.std.proofs.Common.{◌≡◌, ℕ, ◌≤◌, ◌==◌, Bool, true, false, not, List, [], length, get_or, Option, Some, None, refl, sym, ap, ◌∙◌, subst}
+use Rattle.std.proofs.Common.{◌≡◌, ℕ, ◌≤◌, ◌==◌, true, false, not, List, [], length, Option, Some, None, refl, sym, ap, ◌∙◌, subst}
 use Rattle.std.specs.Prelude.{codes}
 use Rattle.std.specs.List.{AllByRecursion}
 use Rattle.kr_ast.specs.Tree.{Tree}
-use Rattle.kr_classes_table.specs.Table.{Method, method_named}
+use Rattle.kr_classes_table.specs.Table.{Method, headings_of, method_named, table_of}
 use Rattle.kr_fin.specs.declared.document.FinDoc.{FinDoc}
-use Rattle.kr_mean.specs.Problem.{Problem, domain_at, no_objects}
-use Rattle.kr_mean.specs.Program.{Program}
-use Rattle.kr_mean.specs.Runs.{class_number, root_class, tested_method}
+use Rattle.kr_mean.specs.Problem.{Problem, domain_at}
+use Rattle.kr_mean.specs.Runs.{root_class, tested_method}
 use Rattle.kr_mean.specs.declared.mode.Mode.{Mode}
 use Rattle.kr_mean.specs.declared.mode.Mode.TheVariants.{Method as Testing}
 use Rattle.kr_space_meaning.specs.declared.refusal.SpaceRule.TheVariants.{NoMethod}
-use Rattle.kr_space_meaning.specs.Bounds.{Setting, domains_of, object_number, problem_in, problem_of, program_in, root_of, setting_of}
+use Rattle.kr_space_meaning.specs.Bounds.{problem_in, problem_of, program_in, root_of, setting_of}
 use Rattle.kr_space_meaning.specs.Faults.{is_instance}
 use Rattle.kr_space_meaning.specs.Keys.{method_at}
 use Rattle.kr_space_meaning.specs.Meaning.{faults_of}
 use Rattle.kr_space_meaning.proofs.Each.{unbroken}
-use Rattle.kr_laws_never_stuck.proofs.Typed.{is_posed, object_class, root_domain_is, root_numbered, rooted_by, rules_of}
-use Rattle.kr_laws_never_stuck.specs.NeverStuck.{IsAccepted}
-use Rattle.kr_shard_laws.specs.Names.{all_methods}
-use Rattle.kr_shard_laws.proofs.Accepted.{parts, posed}
+use Rattle.kr_laws_never_stuck.proofs.Accepted.{posed, root_at}
+use Rattle.std.proofs.lemmas.Bool.{not-false}
+use Rattle.kr_laws_never_stuck.proofs.Typed.{is_posed, root_numbered, rooted_by, rules_of}
+use Rattle.kr_laws_never_stuck.specs.Accepted.{IsAccepted}
+use Rattle.kr_shard_laws.specs.Names.{IsIdentifier, all_methods}
+use Rattle.kr_shard_laws.proofs.Accepted.{parts}
 use Rattle.kr_shard_laws.proofs.Methods.{of_named}
-use Rattle.kr_shard_laws.proofs.SourceNames.{lines_few}
-
--- the root's objects are of the root's class
-root_at : (program : Program) (setting : Setting) (mode : Mode) (c d : ℕ) → root_of setting ≡ Some c → object_number 0 setting.objects setting.document.root c ≡ Some d → root_class (problem_in program setting mode) ≡ c
-unfolding problem_in
-root_at program setting mode c d e n =
-    ap (λ (k : ℕ). class_number (get_or (domains_of setting) k no_objects).class) (root_domain_is setting c d e n)
-    ∙ ap class_number (object_class setting setting.document.root c d n)
-
-not_false : (b : Bool) → not b ≡ false → b ≡ true
-not_false true e = refl
-not_false false e = absurd (cc (e))
+use Rattle.kr_shard_laws.proofs.SourceNames.{lines_few, named}
 
 some_instance : (o : Option Method) → is_instance o ≡ true → (m : Method) × (o ≡ Some m)
 some_instance None e = absurd (cc (e))
@@ -48,15 +38,20 @@ tested_there files document name e =
     let some = subst (λ (p : Problem). ((domain_at p p.root).count == 0) ≡ false) (is_posed setting (Testing name)) rules.some in
     let number = root_numbered setting root.0 root.1 some in
     let here = root_at (program_in setting) setting (Testing name) root.0 number.0 root.1 number.1 in
-    let instance = not_false (is_instance (method_at setting.table (root_of setting) name)) (unbroken (not (is_instance (method_at setting.table (root_of setting) name))) NoMethod (codes "method") rules.instance) in
+    let instance = not-false (is_instance (method_at setting.table (root_of setting) name)) (unbroken (not (is_instance (method_at setting.table (root_of setting) name))) NoMethod (codes "method") rules.instance) in
     let found = some_instance (method_named setting.table root.0 name) (ap (λ (o : Option ℕ). is_instance (method_at setting.table o name)) (sym root.1) ∙ instance) in
     (found.0, ap (λ (c : ℕ). method_named setting.table c name) here ∙ found.1)
 
--- it has so many contract lines at most
+-- it has so many contract lines at most; the classes have names
 pub record IsTested (problem : Problem) (most : ℕ) : Type 0 where
   pub method : Method
   pub is : tested_method problem problem.mode ≡ Some method
   pub few : length method.contracts ≤ most
+  pub names : AllByRecursion (λ h. IsIdentifier h.name) problem.program.table.headings
+
+classes_named : (files : List Tree) → AllByRecursion (λ h. IsIdentifier h.name) (headings_of files) → AllByRecursion (λ h. IsIdentifier h.name) (table_of files).headings
+unfolding table_of
+classes_named files h = h
 
 pub tested : (most : ℕ) (sources : List (List ℕ)) (bytes name : List ℕ) (problem : Problem) → AllByRecursion (λ text. length text ≤ most) sources → IsAccepted sources bytes (Testing name) problem → IsTested problem most
 tested most sources bytes name problem short h =
@@ -65,9 +60,11 @@ tested most sources bytes name problem short h =
     let found = tested_there h.files h.document name p.unbroken in
     let has = parts h.files h.document (Testing name) in
     let few = subst (λ t. AllByRecursion (λ m. length m.contracts ≤ most) (all_methods t)) (sym has.table) (lines_few most sources h.files short h.read) in
+    let names = subst (λ t. AllByRecursion (λ h. IsIdentifier h.name) t.headings) (sym has.table) (classes_named h.files (named sources h.files h.read).classes) in
     subst (λ (x : Problem). IsTested x most) p.is
     (record {
       method = found.0;
       is = ap (λ (m : Mode). tested_method mine m) has.mode_is ∙ found.1;
       few = of_named (λ m. length m.contracts ≤ most) mine.program.table (root_class mine) name found.0 few found.1;
+      names = names;
     })

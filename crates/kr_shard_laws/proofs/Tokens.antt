@@ -6,7 +6,7 @@ use Rattle.kr_base.specs.declared.place.Place.{Place}
 use Rattle.kr_lex.specs.Lexemes.{Lexeme}
 use Rattle.kr_lex.specs.declared.kind.Kind.{Kind}
 use Rattle.kr_lex.specs.declared.kind.Kind.TheVariants as kinds
-use Rattle.kr_lex.specs.ContractLines.{contract_spelling}
+use Rattle.kr_lex.specs.ContractLines.{contract_spelling, IsContractWord}
 use Rattle.kr_lex.specs.Spelling.{spelling}
 use Rattle.kr_lex.specs.Spells.{IsTokenHere, anywhere, within, token_behind, Reaches, here, gap, token, contract}
 use Rattle.kr_lex.specs.Words.{IsToken, name, number, long_number, fixed}
@@ -69,9 +69,10 @@ all_names {file = file} (token {inside = inside} {front = front} {list = list} k
 all_names {file = file} (contract {front = front} {list = list} kind blank rest c d) x some =
     go (either (weights.of_kind (one_for x) nothing kind (token_behind file (front ++ 47 ∷ 47 ∷ 64 ∷ blank) kind (contract_spelling kind))) (times x list) (omega (arith, some))) (λ h. all_names d x h)
   where
-    word : (kind ≡ kinds.Requires) ⊎ (kind ≡ kinds.Ensures) → kind ≡ kinds.Identifier → IsIdentifier (contract_spelling kind)
+    word : IsContractWord kind → kind ≡ kinds.Identifier → IsIdentifier (contract_spelling kind)
     word (inl e) i = absurd (cc (e, i))
-    word (inr e) i = absurd (cc (e, i))
+    word (inr (inl e)) i = absurd (cc (e, i))
+    word (inr (inr e)) i = absurd (cc (e, i))
 
     go : (0 < weights.of_kind (one_for x) nothing kind (token_behind file (front ++ 47 ∷ 47 ∷ 64 ∷ blank) kind (contract_spelling kind))) ⊎ (0 < times x list) → (0 < times x list → IsIdentifier x) → IsIdentifier x
     go (inl h) rest_named = one_name kind (token_behind file (front ++ 47 ∷ 47 ∷ 64 ∷ blank) kind (contract_spelling kind)) x (word c.word) h

@@ -13,7 +13,7 @@ use Rattle.kr_mean.specs.WellFormed.{IsWellFormed}
 use Rattle.kr_mean.specs.declared.mode.Mode.{Mode}
 use Rattle.kr_mean.specs.declared.mode.Mode.TheVariants.{List as Listing}
 use Rattle.kr_mean.specs.declared.row.Row.{Row}
-use Rattle.kr_laws_never_stuck.specs.NeverStuck.{IsAccepted}
+use Rattle.kr_laws_never_stuck.specs.Accepted.{IsAccepted}
 use Rattle.kr_report.specs.Texts.{structure_text, tested_parameters}
 use Rattle.kr_shard_laws.specs.Listings.{IsCut, IsListing}
 use Rattle.kr_text.specs.Splitting.{IsWithout}

@@ -7,7 +7,7 @@ use Rattle.kr_base.specs.declared.span.Span.{Span}
 use Rattle.kr_mean.specs.Entries.{all_entries}
 use Rattle.kr_mean.specs.Problem.{Problem}
 use Rattle.kr_mean.specs.declared.mode.Mode.TheVariants.{List as Listing}
-use Rattle.kr_laws_never_stuck.specs.NeverStuck.{IsAccepted}
+use Rattle.kr_laws_never_stuck.specs.Accepted.{IsAccepted}
 use Rattle.kr_shard_laws.specs.Listings.{IsListing, listing_in, shard_text}
 use Rattle.kr_shard.specs.Files.{MOST_BYTES}
 use Rattle.kr_shard_laws.specs.Spans.{Adjoin, IsInAnyOrder}

@@ -55,6 +55,21 @@ pub fn tree_of(alloc: Global, file: u32, source: &str) -> Result<Tree, Unread>
     parsed(alloc, &tokens)
 }
 
+fn pair(alloc: Global, first: Tree, second: Tree) -> Result<Vec<Tree>, NoMemory>
+    ensures { IfOk result (λ trees. length trees.items ≡ 2) }
+{
+    Ok(vec![in alloc; first, second]?)
+}
+
+/// The trees of two files.
+pub fn two_trees(alloc: Global, first: &str, second: &str) -> Result<Vec<Tree>, Unread>
+    ensures { IfOk result (λ trees. length trees.items ≡ 2) }
+{
+    let first = tree_of(alloc, 0, first)?;
+    let second = tree_of(alloc, 1, second)?;
+    Ok(pair(alloc, first, second)?)
+}
+
 fn table_of(alloc: Global, trees: &[Tree]) -> Result<ClassTable, Unread>
     requires { length trees.now < 65 }
     ensures { IfOk result (IsClassTable trees.now) }

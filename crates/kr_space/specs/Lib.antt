@@ -1,8 +1,9 @@
-pub mod Sizes
-pub mod Bounded
-pub mod Slots
-pub mod Keys
-pub mod Refusals
-pub mod Laws
 pub mod Basis
+pub mod Bounded
+pub mod Keys
+pub mod Laws
 pub mod Pools
+pub mod Refusals
+pub mod Sizes
+pub mod Slots
+pub mod Vocabulary

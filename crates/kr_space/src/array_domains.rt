@@ -1,13 +1,7 @@
 // The class domains of array types.
 ghost use Rattle.std.specs.Prelude.{◌≡◌, ◌<◌, ◌^◌, ◌++◌, [], IfOk, List, OnOk, length, map, unwrap_or};
 ghost use Rattle.std.proofs.Common.{get_or};
-ghost use Rattle.kr_classes_table.specs.Arrays.{array_number as number_of_array};
-ghost use Rattle.kr_classes_names.specs.Types.{count, type_at};
-ghost use Rattle.kr_space_names.specs.Collected.{AreNumbers, types_shown};
-ghost use Rattle.kr_mean.specs.Problem.{Domain};
-ghost use Rattle.kr_space_layout.specs.Bounds.{class_domain as domain_shown, spotted};
-ghost use Rattle.kr_space_meaning.specs.Bounds.{Setting, array_class_domain, array_spots as spots_of_array, element_spots, elements_key, lengths_of};
-ghost use Rattle.kr_space_rules.specs.Entries.{IsBound, bound_shown, no_bound};
+ghost use Rattle.kr_space.specs.Vocabulary.{AreNumbers, array_class_domain, bound_shown, count, Domain, domain_shown, element_spots, elements_key, IsBound, lengths_of, no_bound, number_of_array, Setting, spots_of_array, spotted, type_at, types_shown};
 ghost use Rattle.kr_space.specs.Basis.{AreArrays, AreBoundsOn, IsBasis, setting_on};
 ghost use Rattle.kr_space.specs.Pools.{fields_given, pool};
 

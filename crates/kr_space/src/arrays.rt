@@ -1,10 +1,6 @@
 // The array types of a problem, by number.
 ghost use Rattle.std.specs.Prelude.{◌≡◌, ◌<◌, All, IfOk, OnOk, flat_map, length, map};
-ghost use Rattle.kr_classes_table.specs.Arrays.{arrays_in};
-ghost use Rattle.kr_classes_names.specs.Types.{Extends};
-ghost use Rattle.kr_space_names.specs.Collected.{AreNumbers, IsClosed, collected, types_shown};
-ghost use Rattle.kr_space_rules.specs.Classes.{AreTyped};
-ghost use Rattle.kr_space_rules.specs.Entries.{IsBound, bound_shown};
+ghost use Rattle.kr_space.specs.Vocabulary.{AreNumbers, AreTyped, arrays_in, bound_shown, collected, Extends, IsBound, IsClosed, types_shown};
 ghost use Rattle.kr_space.specs.Basis.{AreArrays, AreBoundsOn, setting_on};
 
 use crate::basis::Basis;

@@ -1,11 +1,6 @@
 // The domains that a document gives, with their values.
 ghost use Rattle.std.specs.Prelude.{◌≡◌, ◌++◌, ◌∷◌, [], All, IfOk, OnOk, map};
-ghost use Rattle.kr_classes_names.specs.Types.{Extends};
-ghost use Rattle.kr_space_layout.specs.Items.{domain_of};
-ghost use Rattle.kr_space_meaning.specs.Bounds.{lengths_of, values_of, values_with};
-ghost use Rattle.kr_space_meaning.specs.Limits.{AreLengths, IsSmall};
-ghost use Rattle.kr_space_rules.specs.Classes.{AreTyped};
-ghost use Rattle.kr_space_rules.specs.Widths.{asked};
+ghost use Rattle.kr_space.specs.Vocabulary.{AreLengths, AreTyped, asked, domain_of, Extends, IsSmall, lengths_of, values_of, values_with};
 ghost use Rattle.kr_space.specs.Basis.{AreBoundsOn, IsBasis, setting_on};
 ghost use Rattle.kr_space.specs.Pools.{all_lengths, all_values, pool};
 

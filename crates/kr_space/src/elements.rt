@@ -1,14 +1,6 @@
 // Rule S2 of the elements of arrays, and of the parameters of the method under test.
 ghost use Rattle.std.specs.Prelude.{◌≡◌, ◌&&◌, nat_lt, All, OnOk, flat_map, fold, map};
-ghost use Rattle.kr_classes_names.specs.Listed.{IsIndexOf};
-ghost use Rattle.kr_mean.specs.declared.mode.Mode.TheVariants.{Method as Testing};
-ghost use Rattle.kr_space_meaning.specs.Bounds.{greatest, lengths_of, root_of, setting_of, tested_parameters};
-ghost use Rattle.kr_space_meaning.specs.Faults.{array_S2, parameter_S2};
-ghost use Rattle.kr_space_meaning.specs.Limits.{AreLengths};
-ghost use Rattle.kr_space_meaning.specs.Order.{lesser};
-ghost use Rattle.kr_space_rules.specs.Classes.{AreClasses, files_of};
-ghost use Rattle.kr_space_rules.specs.Parameters.{IsParameter, parameter_shown};
-ghost use Rattle.kr_space_rules.specs.Entries.{IsBound, bound_shown};
+ghost use Rattle.kr_space.specs.Vocabulary.{AreClasses, AreLengths, array_S2, bound_shown, files_of, greatest, IsBound, IsIndexOf, IsParameter, lengths_of, lesser, parameter_S2, parameter_shown, root_of, setting_of, tested_parameters, Testing};
 
 use crate::keys::joined;
 use crate::lengths::greatest_length;

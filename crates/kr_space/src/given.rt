@@ -1,12 +1,6 @@
 // Rule S2 as a whole.
 ghost use Rattle.std.specs.Prelude.{◌≡◌, All, OnOk, fold};
-ghost use Rattle.kr_space_meaning.specs.Bounds.{setting_of};
-ghost use Rattle.kr_space_meaning.specs.Faults.{S2};
-ghost use Rattle.kr_space_meaning.specs.Limits.{AreLengths};
-ghost use Rattle.kr_space_meaning.specs.Order.{lesser};
-ghost use Rattle.kr_space_rules.specs.Classes.{AreClasses, files_of};
-ghost use Rattle.kr_space_rules.specs.ObjectDomains.{AreDeclared};
-ghost use Rattle.kr_space_rules.specs.Entries.{AreBounds};
+ghost use Rattle.kr_space.specs.Vocabulary.{AreBounds, AreClasses, AreDeclared, AreLengths, files_of, lesser, S2, setting_of};
 ghost use Rattle.kr_space.specs.Keys.{AreKeys};
 
 use crate::elements::{note_all_elements, note_parameters};

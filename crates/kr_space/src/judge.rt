@@ -1,14 +1,6 @@
 // All rules: whether a document is one of a program, or the least rule that it breaks.
 ghost use Rattle.std.specs.Prelude.{◌≡◌, ◌++◌, None, IfErr, IfOk, OnOk, fold};
-ghost use Rattle.kr_classes_names.specs.Types.{Extends};
-ghost use Rattle.kr_space_meaning.specs.Bounds.{problem_of, root_of, setting_of};
-ghost use Rattle.kr_space_meaning.specs.Faults.{S4, S7, S8, S9};
-ghost use Rattle.kr_space_meaning.specs.Limits.{IsWithinLimits};
-ghost use Rattle.kr_space_meaning.specs.Meaning.{faults_of};
-ghost use Rattle.kr_space_meaning.specs.Order.{least as least_of, lesser};
-ghost use Rattle.kr_space_rules.specs.Classes.{AreClasses, AreTyped, files_of};
-ghost use Rattle.kr_space_rules.specs.ObjectDomains.{AreDeclared};
-ghost use Rattle.kr_space_rules.specs.Entries.{AreBounds};
+ghost use Rattle.kr_space.specs.Vocabulary.{AreBounds, AreClasses, AreDeclared, AreTyped, Extends, faults_of, files_of, IsWithinLimits, least_of, lesser, problem_of, root_of, S4, S7, S8, S9, setting_of};
 ghost use Rattle.kr_space.specs.Keys.{AreKeys};
 ghost use Rattle.kr_space.specs.Refusals.{Refuses, after_S1};
 

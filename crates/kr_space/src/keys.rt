@@ -1,7 +1,6 @@
 // The keys of a document's tables, found by their names.
 ghost use Rattle.std.specs.Prelude.{◌≡◌, ◌++◌, IfOk, is_none, map};
-ghost use Rattle.kr_classes_names.specs.Listed.{IsIndexOf};
-ghost use Rattle.kr_space_meaning.specs.Bounds.{given};
+ghost use Rattle.kr_space.specs.Vocabulary.{given, IsIndexOf};
 ghost use Rattle.kr_space.specs.Keys.{AreKeys};
 
 use kr_base::NoMemory;

@@ -1,8 +1,6 @@
 // The layout of a document's problem.
 ghost use Rattle.std.specs.Prelude.{◌≡◌, IfOk};
-ghost use Rattle.kr_classes_names.specs.Types.{Extends};
-ghost use Rattle.kr_space_meaning.specs.Bounds.{root_domain};
-ghost use Rattle.kr_space_rules.specs.Classes.{AreTyped};
+ghost use Rattle.kr_space.specs.Vocabulary.{AreTyped, Extends, root_domain};
 ghost use Rattle.kr_space.specs.Basis.{AreArrays, AreBoundsOn, IsBasis, bounds_on, setting_on};
 ghost use Rattle.kr_space.specs.Pools.{AreDomainsOn, AreValuesOn};
 

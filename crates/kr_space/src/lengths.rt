@@ -1,9 +1,6 @@
 // The greatest of the lengths that arrays may have.
 ghost use Rattle.std.specs.Prelude.{◌≡◌, All, max, pos};
-ghost use Rattle.kr_classes_table.specs.Numbers.{Bits32};
-ghost use Rattle.kr_space_meaning.specs.Bounds.{Setting, greatest, item_values, lengths_in, lengths_of};
-ghost use Rattle.kr_space_meaning.specs.Limits.{AreLengths, IsLength};
-ghost use Rattle.kr_fin.specs.declared.document.Item.TheVariants.{Range};
+ghost use Rattle.kr_space.specs.Vocabulary.{AreLengths, Bits32, greatest, IsLength, item_values, lengths_in, lengths_of, Range, Setting};
 
 use kr_fin::Item;
 

@@ -1,13 +1,6 @@
 // Rules S3, S5 and S6 of the domains that are given.
 ghost use Rattle.std.specs.Prelude.{◌≡◌, ◌++◌, All, OnOk, fold};
-ghost use Rattle.kr_classes_table.specs.Numbers.{Bits32};
-ghost use Rattle.kr_classes_names.specs.Types.{Extends};
-ghost use Rattle.kr_mean.specs.Problem.{choices_in};
-ghost use Rattle.kr_space_meaning.specs.Bounds.{lengths_of, values_of, values_with};
-ghost use Rattle.kr_space_meaning.specs.Faults.{number_faults, numbers_of, numbers_of_lengths, of_arrays};
-ghost use Rattle.kr_space_meaning.specs.Limits.{AreLengths, IsSmall};
-ghost use Rattle.kr_space_meaning.specs.Order.{lesser};
-ghost use Rattle.kr_space_rules.specs.Widths.{asked};
+ghost use Rattle.kr_space.specs.Vocabulary.{AreLengths, asked, Bits32, choices_in, Extends, IsSmall, lengths_of, lesser, number_faults, numbers_of, numbers_of_lengths, of_arrays, values_of, values_with};
 ghost use Rattle.kr_space.specs.Bounded.{IsBounded, problem_in, setting_in};
 
 use crate::bounded::Bounded;

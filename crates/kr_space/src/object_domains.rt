@@ -1,10 +1,6 @@
 // The object domains of classes.
 ghost use Rattle.std.specs.Prelude.{◌≡◌, IfOk, map};
-ghost use Rattle.kr_classes_table.specs.Table.{fields_of};
-ghost use Rattle.kr_space_layout.specs.Bounds.{class_domain as domain_shown, spotted};
-ghost use Rattle.kr_space_meaning.specs.Bounds.{field_spots as spots_of_fields, object_domain as domain_declared};
-ghost use Rattle.kr_space_rules.specs.Classes.{table_of};
-ghost use Rattle.kr_space_rules.specs.ObjectDomains.{IsDeclared, declared_shown};
+ghost use Rattle.kr_space.specs.Vocabulary.{declared_shown, domain_declared, domain_shown, fields_of, IsDeclared, spots_of_fields, spotted, table_of};
 ghost use Rattle.kr_space.specs.Basis.{IsBasis, setting_on};
 ghost use Rattle.kr_space.specs.Pools.{pool};
 

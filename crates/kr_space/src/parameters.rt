@@ -1,9 +1,7 @@
 // The domains of the parameters of the method under test.
 ghost use Rattle.std.specs.Prelude.{◌≡◌, [], All, IfOk, map};
 ghost use Rattle.std.proofs.Common.{get_or};
-ghost use Rattle.kr_mean.specs.declared.mode.Mode.TheVariants.{Method as Testing};
-ghost use Rattle.kr_space_meaning.specs.Bounds.{parameter_key as key_of_parameter, root_of, tested_parameters};
-ghost use Rattle.kr_space_rules.specs.Parameters.{IsParameter, parameter_shown};
+ghost use Rattle.kr_space.specs.Vocabulary.{IsParameter, key_of_parameter, parameter_shown, root_of, tested_parameters, Testing};
 ghost use Rattle.kr_space.specs.Basis.{IsBasis, setting_on};
 ghost use Rattle.kr_space.specs.Pools.{params_given, pool};
 

@@ -1,8 +1,7 @@
 // The numbers of the domains that a document gives.
 ghost use Rattle.std.specs.Prelude.{◌≡◌, ◌<◌, ◌+◌, [], length};
 ghost use Rattle.std.proofs.Common.{get_or};
-ghost use Rattle.kr_space_meaning.specs.Bounds.{Setting, lengths_of};
-ghost use Rattle.kr_space_rules.specs.Entries.{no_bound};
+ghost use Rattle.kr_space.specs.Vocabulary.{lengths_of, no_bound, Setting};
 ghost use Rattle.kr_space.specs.Basis.{HasFewDomains};
 ghost use Rattle.kr_space.specs.Keys.{AreKeys};
 ghost use Rattle.kr_space.specs.Pools.{fields_given, params_given, pool};

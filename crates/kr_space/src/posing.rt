@@ -1,18 +1,6 @@
 // A program with a document beside it, posed as a problem.
 ghost use Rattle.std.specs.Prelude.{◌≡◌, ◌+◌, ◌^◌, ◌<◌, ◌≤◌, None, IfErr, IfOk, length, map};
-ghost use Rattle.kr_ast.specs.Arena.{root};
-ghost use Rattle.kr_classes_names.specs.Types.{Extends};
-ghost use Rattle.kr_types.specs.Programs.{IsProgram};
-ghost use Rattle.kr_space_problem.specs.Posed.{IsPosed, posed};
-ghost use Rattle.kr_mean.specs.Problem.{slots};
-ghost use Rattle.kr_mean.specs.WellFormed.{IsWellFormed};
-ghost use Rattle.kr_space_meaning.specs.Bounds.{problem_of, setting_of};
-ghost use Rattle.kr_space_meaning.specs.Limits.{IsWithinLimits};
-ghost use Rattle.kr_space_meaning.specs.Meaning.{faults_of};
-ghost use Rattle.kr_space_meaning.specs.Order.{least as least_of};
-ghost use Rattle.kr_space_rules.specs.Classes.{AreClasses, AreTyped, files_of};
-ghost use Rattle.kr_space_rules.specs.ObjectDomains.{AreDeclared};
-ghost use Rattle.kr_space_rules.specs.Entries.{AreBounds};
+ghost use Rattle.kr_space.specs.Vocabulary.{AreBounds, AreClasses, AreDeclared, AreTyped, Extends, faults_of, files_of, IsPosed, IsProgram, IsWellFormed, IsWithinLimits, least_of, posed, problem_of, root, setting_of, slots};
 ghost use Rattle.kr_space.specs.Basis.{AreArrays, AreBoundsOn, HasFewDomains, IsBasis, bounds_on, setting_on};
 ghost use Rattle.kr_space.specs.Keys.{AreKeys};
 ghost use Rattle.kr_space.specs.Refusals.{Refuses};

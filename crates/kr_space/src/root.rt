@@ -1,12 +1,6 @@
 // The domain of the root's objects.
 ghost use Rattle.std.specs.Prelude.{◌≡◌, ◌+◌, ◌^◌, ◌<◌, IfOk, length};
-ghost use Rattle.kr_classes_table.specs.Table.{headings_of};
-ghost use Rattle.kr_classes_names.specs.Types.{Extends};
-ghost use Rattle.kr_space_meaning.specs.Names.{array_type as array_type_of};
-ghost use Rattle.kr_space_meaning.specs.Bounds.{bounded_root as root_bounded, root_domain as domain_of_root, root_number as number_of_root, root_of, setting_of};
-ghost use Rattle.kr_space_rules.specs.Classes.{AreClasses, files_of};
-ghost use Rattle.kr_space_rules.specs.ObjectDomains.{AreDeclared};
-ghost use Rattle.kr_space_rules.specs.Entries.{AreBounds};
+ghost use Rattle.kr_space.specs.Vocabulary.{AreBounds, AreClasses, AreDeclared, array_type_of, domain_of_root, Extends, files_of, headings_of, number_of_root, root_bounded, root_of, setting_of};
 
 use crate::slots::root_number;
 use kr_base::NoMemory;

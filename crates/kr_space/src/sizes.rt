@@ -1,9 +1,6 @@
 // How many objects each object domain has, and which numbers they have in the heap.
 ghost use Rattle.std.specs.Prelude.{◌≡◌, ◌+◌, ◌^◌, ◌<◌, ◌++◌, All, IfOk, OnOk, map};
-ghost use Rattle.kr_space_layout.specs.Stretches.{IsNumbered};
-ghost use Rattle.kr_space_layout.specs.Tables.{blocks_from};
-ghost use Rattle.kr_space_rules.specs.ObjectDomains.{IsDeclared, declared_shown};
-ghost use Rattle.kr_space_rules.specs.Entries.{IsBound, bound_shown};
+ghost use Rattle.kr_space.specs.Vocabulary.{blocks_from, bound_shown, declared_shown, IsBound, IsDeclared, IsNumbered};
 ghost use Rattle.kr_space.specs.Sizes.{bare_class, object_counts};
 
 use kr_base::NoMemory;

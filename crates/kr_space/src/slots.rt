@@ -1,11 +1,6 @@
 // How many slots there are, as far as the number goes.
 ghost use Rattle.std.specs.Prelude.{◌≡◌, ◌+◌, ◌*◌, ◌-◌, ◌^◌, All, IfOk, length, map, min};
-ghost use Rattle.kr_classes_table.specs.Table.{fields_of};
-ghost use Rattle.kr_space_meaning.specs.Bounds.{greatest, lengths_of, root_of, setting_of, tested_parameters};
-ghost use Rattle.kr_space_meaning.specs.Limits.{AreLengths};
-ghost use Rattle.kr_space_rules.specs.Classes.{AreClasses, files_of, table_of};
-ghost use Rattle.kr_space_rules.specs.ObjectDomains.{IsDeclared, declared_shown};
-ghost use Rattle.kr_space_rules.specs.Entries.{IsBound, bound_shown};
+ghost use Rattle.kr_space.specs.Vocabulary.{AreClasses, AreLengths, bound_shown, declared_shown, fields_of, files_of, greatest, IsBound, IsDeclared, lengths_of, root_of, setting_of, table_of, tested_parameters};
 ghost use Rattle.kr_space.specs.Slots.{slots_of_arrays, slots_of_objects};
 
 use crate::elements::greatest_of;

@@ -1,12 +1,6 @@
 // Rule S2: each field, element and parameter that has slots has a domain.
 ghost use Rattle.std.specs.Prelude.{◌≡◌, All, IfOk, OnOk, codes, flat_map, fold, map};
-ghost use Rattle.kr_classes_names.specs.Listed.{IsIndexOf};
-ghost use Rattle.kr_classes_members.specs.Shown.{IsField, field_shown};
-ghost use Rattle.kr_space_meaning.specs.Bounds.{class_name as class_name_in, field_key as key_of_field, setting_of};
-ghost use Rattle.kr_space_meaning.specs.Faults.{no_domain, object_S2};
-ghost use Rattle.kr_space_meaning.specs.Order.{lesser};
-ghost use Rattle.kr_space_rules.specs.ObjectDomains.{declared_shown};
-ghost use Rattle.kr_space_rules.specs.Classes.{AreClasses, files_of, table_of};
+ghost use Rattle.kr_space.specs.Vocabulary.{AreClasses, class_name_in, declared_shown, field_shown, files_of, IsField, IsIndexOf, key_of_field, lesser, no_domain, object_S2, setting_of, table_of};
 
 use crate::keys::{is_absent, joined};
 use kr_ast::tree_of;

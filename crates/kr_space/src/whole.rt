@@ -1,15 +1,7 @@
 // Rules S3, S5 and S6 as a whole.
 ghost use Rattle.std.specs.Prelude.{◌≡◌, ◌==◌, ◌+◌, ◌^◌, ◌<◌, OnOk, fold, length, nat_lt};
 ghost use Rattle.std.proofs.Common.{get_or};
-ghost use Rattle.kr_classes_names.specs.Types.{Extends};
-ghost use Rattle.kr_mean.specs.Problem.{domain_at, slots};
-ghost use Rattle.kr_space_meaning.specs.Bounds.{problem_of, root_domain as domain_of_root, setting_of};
-ghost use Rattle.kr_space_meaning.specs.Faults.{S3_S5_S6};
-ghost use Rattle.kr_space_meaning.specs.Limits.{IsWithinLimits};
-ghost use Rattle.kr_space_meaning.specs.Order.{lesser};
-ghost use Rattle.kr_space_rules.specs.Classes.{AreClasses, AreTyped, files_of};
-ghost use Rattle.kr_space_rules.specs.ObjectDomains.{AreDeclared};
-ghost use Rattle.kr_space_rules.specs.Entries.{AreBounds};
+ghost use Rattle.kr_space.specs.Vocabulary.{AreBounds, AreClasses, AreDeclared, AreTyped, domain_at, domain_of_root, Extends, files_of, IsWithinLimits, lesser, problem_of, S3_S5_S6, setting_of, slots};
 ghost use Rattle.kr_space.specs.Bounded.{IsBounded, problem_in, setting_in};
 
 use crate::bounded::Bounded;

@@ -5,3 +5,4 @@ pub mod Given
 pub mod LongExamples
 pub mod Plain
 pub mod WellFormed
+pub mod Sections

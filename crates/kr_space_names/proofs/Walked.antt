@@ -79,6 +79,9 @@ parted text look p (kinds.IfElse a b c) = three (nodes (look a)) (nodes (look b)
 parted text look p (kinds.While a b) = two (nodes (look a)) (nodes (look b))
 parted text look p (kinds.Do a b) = two (nodes (look a)) (nodes (look b))
 parted text look p (kinds.For a b c d) = four (nodes (look a)) (nodes (look b)) (nodes (look c)) (nodes (look d))
+parted text look p (kinds.Throw a) = one (nodes (look a))
+parted text look p (kinds.Try a b) = two (nodes (look a)) (nodes (look b))
+parted text look p (kinds.Catch a b) = two (nodes (look a)) (nodes (look b))
 parted text look p (kinds.ConstructorCall a) = one (nodes (look a))
 parted text look p (kinds.Class n a b) = two (nodes (look a)) (nodes (look b))
 parted text look p (kinds.Field x y a b) = two (nodes (look a)) (nodes (look b))
@@ -88,6 +91,7 @@ parted text look p (kinds.Parameter a n) = one (nodes (look a))
 parted text look p (kinds.Constructor a b c) = three (nodes (look a)) (nodes (look b)) (nodes (look c))
 parted text look p (kinds.Requires a) = one (nodes (look a))
 parted text look p (kinds.Ensures a) = one (nodes (look a))
+parted text look p (kinds.Signals a b) = two (nodes (look a)) (nodes (look b))
 
 abbrev nodes_at : Arena → List ℕ → List Tree
 nodes_at tree ns = flat_map (λ n. nodes (tree_in tree n)) ns

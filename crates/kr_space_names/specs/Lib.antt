@@ -1,5 +1,6 @@
-pub mod Walks
 pub mod Collected
+pub mod Meanings
 pub mod Numbers
 pub mod Texts
-pub mod Meanings
+pub mod Vocabulary
+pub mod Walks

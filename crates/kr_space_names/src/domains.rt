@@ -1,15 +1,7 @@
 // Rule S1 in the domains of fields, elements and parameters.
 ghost use Rattle.std.specs.Prelude.{◌≡◌, ◌||◌, IfOk, OnOk, fold, map, position};
 ghost use Rattle.std.specs.List.{list_any};
-ghost use Rattle.kr_ast.specs.Arena.{root};
-ghost use Rattle.kr_fin.specs.Shapes.{is_dot};
-ghost use Rattle.kr_classes_table.specs.Table.{headings_of};
-ghost use Rattle.kr_classes_names.specs.Shown.{AreHeads};
-ghost use Rattle.kr_space_meaning.specs.Keys.{is_elements as names_elements, name_part as part_behind, owner_part as part_before};
-ghost use Rattle.kr_space_meaning.specs.Names.{meant};
-ghost use Rattle.kr_space_meaning.specs.Faults.{is_unknown, names_predefined, names_unknown, owner_unknown, owners_unknown, value_unknown, values_unknown};
-ghost use Rattle.kr_space_meaning.specs.Order.{lesser};
-ghost use Rattle.kr_classes_names.specs.Types.{Extends};
+ghost use Rattle.kr_space_names.specs.Vocabulary.{AreHeads, Extends, headings_of, is_dot, is_unknown, lesser, meant, names_elements, names_predefined, names_unknown, owner_unknown, owners_unknown, part_before, part_behind, root, value_unknown, values_unknown};
 ghost use Rattle.kr_space_names.specs.Meanings.{is_nothing};
 
 use crate::meaning::{Meaning, meaning_of, names_domains};

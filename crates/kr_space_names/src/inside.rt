@@ -1,7 +1,6 @@
 // The array types in a type.
 ghost use Rattle.std.specs.Prelude.{◌≡◌, ◌<◌, ◌++◌, ◌∷◌, [], IfOk, IfSome, MatchOption, OnOk, if◌then◌else◌, reverse};
-ghost use Rattle.kr_classes_table.specs.Arrays.{arrays_in};
-ghost use Rattle.kr_classes_names.specs.Types.{count, type_at};
+ghost use Rattle.kr_space_names.specs.Vocabulary.{arrays_in, count, type_at};
 ghost use Rattle.kr_space_names.specs.Collected.{AreNumbers, IsClosed, collected, depth, types_shown};
 
 use crate::collected::add_all;

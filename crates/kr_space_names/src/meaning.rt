@@ -1,10 +1,6 @@
 // What a name in a domain stands for.
 ghost use Rattle.std.specs.Prelude.{◌≡◌, IfOk, List, map, option_map};
-ghost use Rattle.kr_ast.specs.Arena.{Arena, root};
-ghost use Rattle.kr_classes_table.specs.Table.{headings_of};
-ghost use Rattle.kr_classes_names.specs.Shown.{AreHeads};
-ghost use Rattle.kr_space_meaning.specs.Names.{class_of as class_meant, line_of as line_named, meant, names_domains as are_domains};
-ghost use Rattle.kr_classes_names.specs.Types.{Extends};
+ghost use Rattle.kr_space_names.specs.Vocabulary.{are_domains, AreHeads, Arena, class_meant, Extends, headings_of, line_named, meant, root};
 ghost use Rattle.kr_space_names.specs.Meanings.{IsMeaning};
 
 use crate::written::array_type;

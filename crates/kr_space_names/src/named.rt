@@ -1,12 +1,6 @@
 // The array types that nodes name.
 ghost use Rattle.std.specs.Prelude.{◌≡◌, ◌<◌, [], All, IfOk, IfSome, MatchOption, OnOk, flat_map, length, map};
-ghost use Rattle.kr_ast.specs.Arena.{root, tree_in};
-ghost use Rattle.kr_classes_table.specs.Arrays.{array_types_of, arrays_in, arrays_named};
-ghost use Rattle.kr_classes_table.specs.Nodes.{nodes};
-ghost use Rattle.kr_classes_table.specs.Table.{headings_of};
-ghost use Rattle.kr_ast.specs.Files.{file_at};
-ghost use Rattle.kr_classes_names.specs.Numbers.{AreNodeTypes};
-ghost use Rattle.kr_classes_names.specs.Types.{Extends, count, type_at};
+ghost use Rattle.kr_space_names.specs.Vocabulary.{AreNodeTypes, array_types_of, arrays_in, arrays_named, count, Extends, file_at, headings_of, nodes, root, tree_in, type_at};
 ghost use Rattle.kr_space_names.specs.Collected.{AreNumbers, IsClosed, collected, types_shown};
 
 use crate::inside::add_arrays_in;

@@ -1,11 +1,6 @@
 // Rule S1: names that no class and no array type has.
 ghost use Rattle.std.specs.Prelude.{◌≡◌, ◌++◌, List, IfOk, OnOk, codes, flat_map, fold, map, string_bytes};
-ghost use Rattle.kr_ast.specs.Arena.{Arena, root};
-ghost use Rattle.kr_classes_table.specs.Table.{headings_of};
-ghost use Rattle.kr_classes_names.specs.Shown.{AreHeads};
-ghost use Rattle.kr_space_meaning.specs.Order.{break_if, lesser};
-ghost use Rattle.kr_space_meaning.specs.Faults.{arrays_unknown, class_unknown, objects_unknown, root_unknown};
-ghost use Rattle.kr_classes_names.specs.Types.{Extends};
+ghost use Rattle.kr_space_names.specs.Vocabulary.{AreHeads, Arena, arrays_unknown, break_if, class_unknown, Extends, headings_of, lesser, objects_unknown, root, root_unknown};
 
 use crate::meaning::{class_of, names_domains};
 use crate::written::array_type;

@@ -1,11 +1,6 @@
 // Rule S1 as a whole.
 ghost use Rattle.std.specs.Prelude.{◌≡◌, OnOk, fold, map};
-ghost use Rattle.kr_ast.specs.Arena.{root};
-ghost use Rattle.kr_classes_names.specs.Shown.{AreHeads};
-ghost use Rattle.kr_space_meaning.specs.Bounds.{setting_of};
-ghost use Rattle.kr_space_meaning.specs.Faults.{S1};
-ghost use Rattle.kr_space_meaning.specs.Order.{lesser};
-ghost use Rattle.kr_classes_names.specs.Types.{Extends};
+ghost use Rattle.kr_space_names.specs.Vocabulary.{AreHeads, Extends, lesser, root, S1, setting_of};
 
 use crate::domains::{owner_names, value_names};
 use crate::names::{array_names, object_names, root_name};

@@ -1,7 +1,6 @@
 // The nodes of a tree in source order.
 ghost use Rattle.std.specs.Prelude.{◌≡◌, ◌<◌, ◌++◌, All, IfOk, OnOk, length, map, reverse};
-ghost use Rattle.kr_ast.specs.Arena.{root, tree_in};
-ghost use Rattle.kr_classes_table.specs.Nodes.{nodes};
+ghost use Rattle.kr_space_names.specs.Vocabulary.{nodes, root, tree_in};
 ghost use Rattle.kr_space_names.specs.Walks.{is_link as links, own};
 
 use kr_ast::{Node, Tree};

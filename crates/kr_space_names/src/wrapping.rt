@@ -1,7 +1,6 @@
 // Types made of one type.
 ghost use Rattle.std.specs.Prelude.{◌<◌, IfOk, None, Option, Some, if◌then◌else◌};
-ghost use Rattle.kr_classes_table.specs.Types.{JavaType, is_element};
-ghost use Rattle.kr_classes_names.specs.Types.{Extends, IsMadeOf, count, type_at, type_of_form};
+ghost use Rattle.kr_space_names.specs.Vocabulary.{count, Extends, is_element, IsMadeOf, JavaType, type_at, type_of_form};
 ghost use Rattle.kr_space_names.specs.Texts.{Stands, wrap as wrapped_once, wrapped};
 
 use kr_base::NoMemory;

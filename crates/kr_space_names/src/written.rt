@@ -1,11 +1,6 @@
 // Which type a text means.
 ghost use Rattle.std.specs.Prelude.{IfOk, List, Option, length, map};
-ghost use Rattle.kr_ast.specs.Arena.{Arena, root};
-ghost use Rattle.kr_classes_table.specs.Table.{headings_of};
-ghost use Rattle.kr_classes_table.specs.Types.{JavaType};
-ghost use Rattle.kr_classes_names.specs.Shown.{AreHeads};
-ghost use Rattle.kr_space_meaning.specs.Names.{array_or_none, array_type as array_type_of, type_within, word_type};
-ghost use Rattle.kr_classes_names.specs.Types.{Extends};
+ghost use Rattle.kr_space_names.specs.Vocabulary.{AreHeads, Arena, array_or_none, array_type_of, Extends, headings_of, JavaType, root, type_within, word_type};
 ghost use Rattle.kr_space_names.specs.Texts.{Stands};
 
 use crate::peeling::peel;

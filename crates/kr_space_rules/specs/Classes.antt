@@ -2,9 +2,9 @@
 use Rattle.std.specs.Prelude.{List, map}
 use Rattle.kr_ast.specs.Arena.{root}
 use Rattle.kr_ast.specs.Tree.{Tree}
+use Rattle.kr_classes_table.specs.Table as tables
 use Rattle.kr_classes_table.specs.Table.{Table}
 use Rattle.kr_classes_names.specs.Shown.{AreHeads}
-use Rattle.kr_classes_members.specs.Shown.{table_in}
 use Rattle.kr_classes_members.specs.Kept.{AreMembers}
 use Rattle.kr_classes_names.specs.Types.{TypeList}
 use Rattle.kr_classes_names.specs.Numbers.{AreNodeTypes}
@@ -15,7 +15,7 @@ abbrev pub files_of : Classes → List Tree
 files_of c = map root c.trees.now
 
 abbrev pub table_of : Classes → Table
-table_of c = table_in c.trees.now
+table_of c = tables.table_of (files_of c)
 
 -- heads and members are those of the files
 pub record AreClasses (c : Classes) : Type 0 where

@@ -1,6 +1,7 @@
 pub mod Classes
+pub mod Entries
+pub mod ObjectDomains
 pub mod Parameters
 pub mod Spans
-pub mod ObjectDomains
-pub mod Entries
+pub mod Vocabulary
 pub mod Widths

@@ -1,11 +1,7 @@
 // The array types that a document bounds.
 ghost use Rattle.std.specs.Prelude.{◌≡◌, ◌<◌, ◌+◌, ◌^◌, All, IfOk, IfSome, length, map, option_map, option_to_list};
 ghost use Rattle.std.proofs.Common.{get_or};
-ghost use Rattle.kr_ast.specs.Arena.{root};
-ghost use Rattle.kr_classes_table.specs.Table.{headings_of};
-ghost use Rattle.kr_classes_names.specs.Shown.{AreHeads};
-ghost use Rattle.kr_classes_names.specs.Types.{Extends, count, type_at};
-ghost use Rattle.kr_space_meaning.specs.Bounds.{bound_number, bounded};
+ghost use Rattle.kr_space_rules.specs.Vocabulary.{AreHeads, bound_number, bounded, count, Extends, headings_of, root, type_at};
 ghost use Rattle.kr_space_rules.specs.Entries.{AreBounds, IsBound, bound_in, bound_shown, no_bound};
 
 use kr_ast::Tree;

@@ -1,8 +1,6 @@
 // How many values a domain has, and which rules that breaks.
 ghost use Rattle.std.specs.Prelude.{◌≡◌, ◌-◌, ◌^◌, All, OnOk, fold, length, map, min};
-ghost use Rattle.kr_space_layout.specs.Stretches.{IsNumbered, all_choices, stretch_of};
-ghost use Rattle.kr_space_meaning.specs.Faults.{number_faults};
-ghost use Rattle.kr_space_meaning.specs.Order.{break_if, lesser};
+ghost use Rattle.kr_space_rules.specs.Vocabulary.{all_choices, break_if, IsNumbered, lesser, number_faults, stretch_of};
 
 use crate::twice::has_twice;
 use kr_base::NoMemory;

@@ -1,15 +1,6 @@
 // The entries of domains, with the meanings of names.
 ghost use Rattle.std.specs.Prelude.{◌≡◌, ◌<◌, ◌+◌, ◌^◌, ◌∷◌, [], All, IfOk, length, map, option_to_list};
-ghost use Rattle.kr_ast.specs.Arena.{root};
-ghost use Rattle.kr_classes_table.specs.Operators.{number as number_of};
-ghost use Rattle.kr_mean.specs.Problem.{Plain};
-ghost use Rattle.kr_classes_names.specs.Shown.{AreHeads};
-ghost use Rattle.kr_classes_names.specs.Types.{Extends};
-ghost use Rattle.kr_space_layout.specs.Items.{domain_of, integers};
-ghost use Rattle.kr_space_meaning.specs.Bounds.{all_of as all_objects, item_values, meant_values, setting_of, values_with};
-ghost use Rattle.kr_space_meaning.specs.Names.{Meant};
-ghost use Rattle.kr_space_names.specs.Meanings.{IsMeaning};
-ghost use Rattle.kr_space_meaning.specs.Limits.{IsSmall};
+ghost use Rattle.kr_space_rules.specs.Vocabulary.{all_objects, AreHeads, domain_of, Extends, integers, IsMeaning, IsSmall, item_values, Meant, meant_values, number_of, Plain, root, setting_of, values_with};
 ghost use Rattle.kr_space_rules.specs.Entries.{AreBounds};
 ghost use Rattle.kr_space_rules.specs.ObjectDomains.{AreDeclared};
 

@@ -1,13 +1,8 @@
 // Which values fit which types.
 ghost use Rattle.std.specs.Prelude.{◌≡◌, ◌<◌, ◌&&◌, ◌||◌, not, IfOk};
 ghost use Rattle.std.specs.Int.Signed.{le_z};
-ghost use Rattle.kr_classes_table.specs.Numbers.{is_within};
-ghost use Rattle.kr_classes_table.specs.Types.{ClassType, JavaType};
 ghost use Rattle.kr_classes_table.specs.Table as table;
-ghost use Rattle.kr_classes_names.specs.Types.{Extends, IsTypeNumber, count, type_at};
-ghost use Rattle.kr_space_meaning.specs.Names.{Meant};
-ghost use Rattle.kr_space_meaning.specs.Faults.{fits, meant_fits as meant_fits_in, number_fits};
-ghost use Rattle.kr_space_names.specs.Meanings.{IsMeaning};
+ghost use Rattle.kr_space_rules.specs.Vocabulary.{ClassType, count, Extends, fits, is_within, IsMeaning, IsTypeNumber, JavaType, Meant, meant_fits_in, number_fits, type_at};
 ghost use Rattle.kr_space_rules.specs.Classes.{AreClasses, table_of};
 
 use crate::classes::Classes;

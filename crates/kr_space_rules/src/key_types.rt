@@ -1,9 +1,6 @@
 // The types of the values that keys of domains require.
 ghost use Rattle.std.specs.Prelude.{All, IfOk, Option, bytes_eq, find, map, option_map};
-ghost use Rattle.kr_classes_table.specs.Types.{JavaType};
-ghost use Rattle.kr_classes_members.specs.Shown.{field_shown};
-ghost use Rattle.kr_classes_names.specs.Types.{Extends};
-ghost use Rattle.kr_space_names.specs.Texts.{Stands};
+ghost use Rattle.kr_space_rules.specs.Vocabulary.{Extends, field_shown, JavaType, Stands};
 ghost use Rattle.kr_space_meaning.specs.Keys as spec;
 ghost use Rattle.kr_space_rules.specs.Classes.{AreClasses, AreTyped, table_of};
 ghost use Rattle.kr_space_rules.specs.Parameters.{IsParameter, parameter_shown};

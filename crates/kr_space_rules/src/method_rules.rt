@@ -1,9 +1,6 @@
 // The rules on methods of the root: its predicate (S7), and the method under test (S8).
 ghost use Rattle.std.specs.Prelude.{◌≡◌, IfOk, IfSome, OnOk, fold, option_map, not, codes};
-ghost use Rattle.kr_classes_members.specs.Shown.{IsMethod, method_shown};
-ghost use Rattle.kr_space_meaning.specs.Keys.{method_at as method_of};
-ghost use Rattle.kr_space_meaning.specs.Faults.{is_instance as is_instance_method, is_predicate as is_predicate_method};
-ghost use Rattle.kr_space_meaning.specs.Order.{break_if, lesser};
+ghost use Rattle.kr_space_rules.specs.Vocabulary.{break_if, is_instance_method, is_predicate_method, IsMethod, lesser, method_of, method_shown};
 ghost use Rattle.kr_space_rules.specs.Classes.{AreClasses, AreTyped, table_of};
 
 use crate::classes::Classes;

@@ -1,10 +1,7 @@
 // The object domains that a document declares.
 ghost use Rattle.std.specs.Prelude.{◌≡◌, ◌<◌, ◌+◌, ◌^◌, All, IfOk, IfSome, bytes_eq, ◌==◌, ◌&&◌, length, map, option_map, option_to_list};
 ghost use Rattle.std.proofs.Common.{get_or};
-ghost use Rattle.kr_ast.specs.Arena.{root};
-ghost use Rattle.kr_classes_table.specs.Table.{headings_of};
-ghost use Rattle.kr_classes_names.specs.Shown.{AreHeads};
-ghost use Rattle.kr_space_meaning.specs.Bounds.{declared, declared_by, object_number};
+ghost use Rattle.kr_space_rules.specs.Vocabulary.{AreHeads, declared, declared_by, headings_of, object_number, root};
 ghost use Rattle.kr_space_rules.specs.ObjectDomains.{AreDeclared, IsDeclared, declared_shown, no_count};
 
 use kr_ast::Tree;

@@ -1,10 +1,6 @@
 // Methods of the root, and their parameters.
 ghost use Rattle.std.specs.Prelude.{◌≡◌, ◌<◌, All, IfOk, IfSome, flat_map, length, map, option_map, option_to_list};
-ghost use Rattle.kr_ast.specs.Arena.{tree_in};
-ghost use Rattle.kr_classes_table.specs.Table.{parameter_in};
-ghost use Rattle.kr_ast.specs.Files.{file_at};
-ghost use Rattle.kr_classes_members.specs.Shown.{IsMethod, headings_in, method_shown};
-ghost use Rattle.kr_space_meaning.specs.Keys.{instance_alone, method_at as method_of, parameters_of as parameters_in};
+ghost use Rattle.kr_space_rules.specs.Vocabulary.{file_at, headings_in, instance_alone, IsMethod, method_of, method_shown, parameter_in, parameters_in, tree_in};
 ghost use Rattle.kr_space_rules.specs.Classes.{AreClasses, table_of};
 ghost use Rattle.kr_space_rules.specs.Parameters.{IsParameter, parameter_shown};
 

@@ -1,8 +1,6 @@
 // Rule S9: each domain is a field's, elements' or a parameter's.
 ghost use Rattle.std.specs.Prelude.{◌≡◌, IfOk, OnOk, fold};
-ghost use Rattle.kr_classes_names.specs.Types.{Extends};
-ghost use Rattle.kr_space_meaning.specs.Faults.{is_no_field as is_no_field_in, no_fields, no_params};
-ghost use Rattle.kr_space_meaning.specs.Order.{lesser};
+ghost use Rattle.kr_space_rules.specs.Vocabulary.{Extends, is_no_field_in, lesser, no_fields, no_params};
 ghost use Rattle.kr_space_rules.specs.Classes.{AreClasses, AreTyped, table_of};
 
 use crate::classes::Classes;

@@ -1,8 +1,7 @@
 // Whether a domain has a value twice.
 ghost use Rattle.std.specs.Prelude.{◌≡◌, All, IfOk, map};
 ghost use Rattle.std.specs.List.Sorted.{IsNonDecreasingBy, IsPermutation};
-ghost use Rattle.kr_space_layout.specs.Stretches.{IsNumbered, all_choices, stretch_of};
-ghost use Rattle.kr_space_meaning.specs.Faults.{has_twice as has_twice_in};
+ghost use Rattle.kr_space_rules.specs.Vocabulary.{all_choices, has_twice_in, IsNumbered, stretch_of};
 ghost use Rattle.kr_space_rules.specs.Spans.{meet};
 
 use crate::spans::{Span, spans_of};

@@ -1,11 +1,7 @@
 // Rule S4: values fit the types of their slots.
 ghost use Rattle.std.specs.Prelude.{◌≡◌, ◌<◌, IfOk, OnOk, Option, fold, not};
-ghost use Rattle.kr_classes_table.specs.Types.{JavaType};
-ghost use Rattle.kr_classes_names.specs.Types.{Extends, IsTypeNumber, count};
 ghost use Rattle.std.specs.List.{list_any};
-ghost use Rattle.kr_space_names.specs.Texts.{Stands};
-ghost use Rattle.kr_space_meaning.specs.Faults.{fields_unfit, fits, is_unfit as is_unfit_in, params_unfit};
-ghost use Rattle.kr_space_meaning.specs.Order.{lesser};
+ghost use Rattle.kr_space_rules.specs.Vocabulary.{count, Extends, fields_unfit, fits, is_unfit_in, IsTypeNumber, JavaType, lesser, params_unfit, Stands};
 ghost use Rattle.kr_space_rules.specs.Classes.{AreClasses, AreTyped, table_of};
 
 use crate::classes::Classes;

@@ -1,9 +1,6 @@
 // The widths of the numbers of domains, by the types that their keys require.
 ghost use Rattle.std.specs.Prelude.{◌≡◌, IfOk, Option};
-ghost use Rattle.kr_classes_table.specs.Types.{JavaType};
-ghost use Rattle.kr_classes_names.specs.Types.{Extends};
-ghost use Rattle.kr_space_names.specs.Texts.{Stands};
-ghost use Rattle.kr_space_meaning.specs.Bounds.{setting_of, width_for as width_of_type};
+ghost use Rattle.kr_space_rules.specs.Vocabulary.{Extends, JavaType, setting_of, Stands, width_of_type};
 ghost use Rattle.kr_space_rules.specs.Classes.{AreClasses, AreTyped, files_of};
 ghost use Rattle.kr_space_rules.specs.Widths.{asked};
 

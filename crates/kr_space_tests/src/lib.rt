@@ -3,16 +3,4 @@
 #![tactic(auto)]
 
 #[cfg(test)]
-mod arrays;
-#[cfg(test)]
-mod files;
-#[cfg(test)]
-mod fin;
-#[cfg(test)]
-mod meanings;
-#[cfg(test)]
-mod problem;
-#[cfg(test)]
-mod space;
-#[cfg(test)]
-mod space_problems;
+mod tests;

@@ -1,5 +1,5 @@
 -- The front of a key that a search keeps as it moves on.
-use Rattle.std.proofs.Common.{◌≡◌, ℕ, zero, suc, ◌+◌, ◌-◌, ◌<◌, List, [], ◌∷◌, ◌++◌, length, get_or, refl, sym, ap, ◌∙◌, subst, arith, append_assoc}
+use Rattle.std.proofs.Common.{◌≡◌, ℕ, zero, suc, ◌+◌, ◌-◌, ◌<◌, List, [], ◌∷◌, ◌++◌, ◌≢◌, length, length-set, get_or, get_or-set_other, get_or-set_same, set, below_more, refl, sym, ap, ◌∙◌, subst, arith, append_assoc}
 use Rattle.std.proofs.lemmas.List.{length-append, length-map, get_or_append_left}
 use Rattle.kr_step.specs.Steps.{indices_of}
 use Rattle.kr_step.specs.Keeps.{Follows, Keeps}
@@ -13,6 +13,15 @@ whole_key (k ∷ ks) (p ∷ ps) e s =
     let here : k ≡ p.1 = s 0 (omega arith) in
     let there : ks ≡ indices_of ps = whole_key ks ps (omega arith) (λ j h. s (suc j) (omega arith)) in
     ap (λ (x : ℕ). x ∷ ks) here ∙ ap (λ (l : List ℕ). p.1 ∷ l) there
+
+-- a key that lacks the last index of a path alone
+pub last_key : (key : List ℕ) (path : List (ℕ × ℕ)) (n : ℕ) → Keeps key path n → length key ≡ length path → length path - n ≡ 1 → set key n (get_or path n (0, 0)).1 ≡ indices_of path
+last_key key path n kept long one =
+    let on : n < length key = omega (arith, one, long) in
+    let new = set key n (get_or path n (0, 0)).1 in
+    whole_key new path (length-set key n (get_or path n (0, 0)).1 ∙ long) (λ k h.
+    let less : k < n + 1 = omega (arith, one, h) in
+    below_more (λ (j : ℕ). get_or new j 0 ≡ (get_or path j (0, 0)).1) n (λ j under. let other : j ≢ n = omega (arith, under) in get_or-set_other key n j (get_or path n (0, 0)).1 0 other ∙ kept.same j under) (get_or-set_same key n (get_or path n (0, 0)).1 0 on) k less)
 
 -- on from a path that was longer
 pub follows_on : (old mid new rest : List (ℕ × ℕ)) → old ≡ mid ++ rest → Follows mid new → Follows old new

@@ -33,13 +33,19 @@ pub(crate) fn extend<C: Candidate>(
     Ok(())
 }
 
-/// Writes the indices of a path from one step on into a key of the same length, which has those before it already.
+/// Writes the indices of a path from one step on into a key of the same length, which has those before it already. Mostly it
+/// lacks the last one alone.
 #[inline(always)]
 fn copy_indices(key: &mut [u32], path: &[(u32, u32)], kept: usize)
     requires long { length key.old ≡ length path.now }
     requires kept { Keeps key.old path.now kept }
     ensures { key.new ≡ indices_of path.now }
 {
+    let left = path.len() - kept;
+    if left == 1 {
+        key[kept] = path[kept].1;
+        return;
+    }
     for at in kept..path.len() {
         key[at] = path[at].1;
     }

@@ -21,4 +21,4 @@ pub use part::{Listing, Part};
 pub use piece::Piece;
 pub use rows::{RowList, Rows};
 pub use survey::Survey;
-pub use taker::{End, Halt, Room, Taker};
+pub use taker::{End, Halt, Room, RowTaker, Taker};

@@ -1,5 +1,5 @@
 // What rows are made into.
-ghost use Rattle.std.specs.Prelude.{◌≡◌, IfOk};
+ghost use Rattle.std.specs.Prelude.{◌≡◌, OnOk};
 
 use kr_base::NoMemory;
 
@@ -17,7 +17,10 @@ pub trait Making<R> {
     /// Room for the first row.
     fn room(&self) -> Self::Room;
 
-    /// What a row is made into.
-    fn make(&self, room: &mut Self::Room, row: R) -> Result<Self::Row, NoMemory>
-        ensures { IfOk result (λ made. made ≡ made_of self.now row) };
+    /// A row in whose memory others are made.
+    fn blank(&self) -> Self::Row;
+
+    /// Makes a row into another, in the memory that this has. What is left of the row isn't said.
+    fn make(&self, room: &mut Self::Room, row: &mut R, made: &mut Self::Row) -> Result<(), NoMemory>
+        ensures { OnOk result (made.new ≡ made_of self.now row.old) };
 }

@@ -40,7 +40,7 @@ impl<S, M> Mapped<S, M> {
 }
 
 // Adds what a row is made into.
-fn add_made<R, M: Making<R, Row: Drop>>(
+fn add_made<R: Drop, M: Making<R, Row: Drop>>(
     making: &M,
     room: &mut M::Room,
     row: R,
@@ -48,8 +48,10 @@ fn add_made<R, M: Making<R, Row: Drop>>(
 ) -> Result<(), NoMemory>
     ensures { OnOk result (rows.new.items ≡ rows.old.items ++ M.made_of making.now row ∷ []) }
 {
-    match making.make(room, row) {
-        Ok(made) => {
+    let mut row = row;
+    let mut made = making.blank();
+    match making.make(room, &mut row, &mut made) {
+        Ok(()) => {
             rows.push(made)?;
             Ok(())
         }

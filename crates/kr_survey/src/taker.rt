@@ -43,15 +43,18 @@ pub trait Taker<K> {
     fn limit(&self) -> Option<u32>
         ensures { result ≡ limit self.now };
 
-    /// Takes the next row.
-    fn take_row(&mut self, row: Self::Row, out: &mut K) -> Result<Room, Halt>
-        ensures { (start : Self) (from : K) (done : List Self.Row) → takes start from done self.old out.old (Some More) → Took takes start from done (row ∷ []) self.new out.new result };
-
     /// Takes the next rows. It is full exactly where it was handed more than it wants.
     fn take(&mut self, rows: RowList<Self::Row>, out: &mut K) -> Result<Room, Halt>
         ensures took { (start : Self) (from : K) (done : List Self.Row) → takes start from done self.old out.old (Some More) → Took takes start from done rows self.new out.new result }
         ensures limit { limit self.new ≡ limit self.old }
         ensures full { (start : Self) (from : K) (done : List Self.Row) → takes start from done self.old out.old (Some More) → IfOk result (λ room. (room ≡ IsFull) ↔ (is_past (limit self.old) (length (done ++ rows)) ≡ true)) };
+}
+
+/// Takes rows one by one too, each as it is found.
+pub trait RowTaker<K>: Taker<K> {
+    /// Takes the next row. What is left of it isn't said, so that its memory may be used again.
+    fn take_row(&mut self, row: &mut Self::Row, out: &mut K) -> Result<Room, Halt>
+        ensures { (start : Self) (from : K) (done : List Self.Row) → Self.takes start from done self.old out.old (Some More) → Took Self.takes start from done (row.old ∷ []) self.new out.new result };
 }
 
 impl From<Failed> for Halt {

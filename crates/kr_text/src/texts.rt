@@ -10,8 +10,7 @@ use kr_base::{Failed, Place, Sink, put_all};
 pub fn put_decimal<K: Sink>(out: &mut K, number: i128) -> Result<(), Failed>
     ensures { Writes K.taken K.faults out.old out.new (signed_decimal number) result }
 {
-    let mut buffer = Buffer::new();
-    put_all(out, buffer.format(number).as_bytes())
+    put_all(out, Buffer::new().format(number).as_bytes())
 }
 
 /// Writes the texts in order.

@@ -35,7 +35,7 @@ use Rattle.kr_types.specs.declared.site.Site.{Site}
 use Rattle.kr_types.specs.declared.site.Spot.{Spot}
 use Rattle.kr_types.specs.declared.group.Bare.{Bare}
 use Rattle.kr_types.specs.declared.group.Bare.TheVariants as bares
-use Rattle.kr_types.specs.Kinds.{IsContract, IsLeaf, IsOfBare, IsOperation, IsReturned, IsTest, IsType, IsWrite}
+use Rattle.kr_types.specs.Kinds.{IsContract, IsLeaf, IsOfBare, IsOperation, IsReturned, IsTest, IsThrown, IsType, IsWrite}
 use Rattle.kr_types.specs.declared.notes.Noted.{Noted}
 use Rattle.kr_types.specs.Sites.{AreKept, AreMeant, AreNoted, IsInside, IsMeantBy, IsNoteOf, IsSite, IsSpot, IsSpotNote, object_noted, scope_here, scope_of, tree_there}
 use Rattle.kr_types.proofs.Passing.{noted_more, parts_below, some_entry}
@@ -176,6 +176,7 @@ unmeant s ns i p n tree bares.Write k = of_other s ns i p n tree IsWrite k (λ x
 unmeant s ns i p n tree bares.Contract k = of_other s ns i p n tree IsContract k (λ x h. h) (λ a x h. h) (λ x b h. h) (λ a x b h. h) (λ x b h. h) (λ a b h. h)
 unmeant s ns i p n tree bares.Returned k = of_other s ns i p n tree IsReturned k (λ x h. h) (λ a x h. h) (λ x b h. h) (λ a x b h. h) (λ x b h. h) (λ a b h. h)
 unmeant s ns i p n tree bares.Test k = of_other s ns i p n tree IsTest k (λ x h. h) (λ a x h. h) (λ x b h. h) (λ a x b h. h) (λ x b h. h) (λ a b h. h)
+unmeant s ns i p n tree bares.Thrown k = of_other s ns i p n tree IsThrown k (λ x h. h) (λ a x h. h) (λ x b h. h) (λ a x b h. h) (λ x b h. h) (λ a b h. h)
 
 -- ---- a node more
 

@@ -38,9 +38,17 @@ IsTest (nodes.Do a b) = Unit {0}
 IsTest (nodes.For a b c d) = Unit {0}
 IsTest _ = ⊥
 
+-- something is thrown, or its class is named
+abbrev pub IsThrown : Node → Type 0
+IsThrown (nodes.Throw a) = Unit {0}
+IsThrown (nodes.Catch a b) = Unit {0}
+IsThrown (nodes.Signals a b) = Unit {0}
+IsThrown _ = ⊥
+
 -- there is no rule but those of the parts
 abbrev pub IsPlain : Node → Type 0
 IsPlain (nodes.Block a) = Unit {0}
+IsPlain (nodes.Try a b) = Unit {0}
 IsPlain (nodes.ExpressionStatement a) = Unit {0}
 IsPlain (nodes.Local a b) = Unit {0}
 IsPlain (nodes.Field s f a b) = Unit {0}
@@ -128,6 +136,7 @@ IsOfBare bares.Write n = IsWrite n
 IsOfBare bares.Contract n = IsContract n
 IsOfBare bares.Returned n = IsReturned n
 IsOfBare bares.Test n = IsTest n
+IsOfBare bares.Thrown n = IsThrown n
 
 abbrev pub IsOfNamed : Named → Node → Type 0
 IsOfNamed nameds.Name n = IsNamed n

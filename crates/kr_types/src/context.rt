@@ -1,10 +1,6 @@
 // The context of a node's note: its file, the types so far, and the notes of the nodes before it.
 ghost use Rattle.std.specs.Prelude.{◌≡◌, ◌<◌, length, slice_index_or};
-ghost use Rattle.kr_types_scopes.specs.Scoped.{nowhere};
-ghost use Rattle.kr_types_meaning.specs.Noting.{note_at};
-ghost use Rattle.kr_types_judging.specs.Shown.{IsNoteWithin, note_shown};
-ghost use Rattle.kr_types_expressions.specs.Links.{IsLinked};
-ghost use Rattle.kr_types_expressions.specs.Notes.{IsRestBelow, shown_notes, typed_in};
+ghost use Rattle.kr_types.specs.Vocabulary.{IsLinked, IsNoteWithin, IsRestBelow, note_at, note_shown, nowhere, shown_notes, typed_in};
 ghost use Rattle.kr_types.specs.Sites.{IsContext};
 
 use crate::site::{Site, Spot, part_note};

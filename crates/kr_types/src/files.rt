@@ -1,17 +1,6 @@
 // The typing rules over all files.
 ghost use Rattle.std.specs.Prelude.{◌≡◌, ◌<◌, ◌^◌, length, Some, IfOk, IfErr};
-ghost use Rattle.kr_classes_table.specs.Constants.{values_of};
-ghost use Rattle.kr_classes_table.specs.Rules.{least};
-ghost use Rattle.kr_classes_names.specs.Shown.{AreHeads};
-ghost use Rattle.kr_classes_members.specs.Shown.{table_in};
-ghost use Rattle.kr_classes_members.specs.Kept.{AreMembers};
-ghost use Rattle.kr_classes_members.specs.Rosters.{IsRoster};
-ghost use Rattle.kr_classes_names.specs.Types.{Extends};
-ghost use Rattle.kr_classes_names.specs.Numbers.{AreNodeTypes};
-ghost use Rattle.kr_classes_constants.specs.Kept.{AreValues};
-ghost use Rattle.kr_types_judging.specs.Shown.{least_shown};
-ghost use Rattle.kr_classes.specs.ClassTables.{IsClassTable};
-ghost use Rattle.kr_types_expressions.specs.Constructors.{AreSingle};
+ghost use Rattle.kr_types.specs.Vocabulary.{AreHeads, AreMembers, AreNodeTypes, AreSingle, AreValues, Extends, IsClassTable, IsRoster, least, least_shown, table_in, values_of};
 ghost use Rattle.kr_types.specs.Programs.{AreTypedFiles, IsProgram, IsTypedFile, all_entries};
 ghost use Rattle.kr_types.specs.Refusals.{IsRefusal, faults_in, root_faults};
 

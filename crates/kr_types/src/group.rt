@@ -17,6 +17,8 @@ pub(crate) enum Bare {
     Returned,
     /// a statement with a condition
     Test,
+    /// `throw`, `catch` and `signals`
+    Thrown,
 }
 
 /// A node that has a meaning, or for which its class is looked up.
@@ -90,7 +92,9 @@ pub(crate) fn group_of(node: Node) -> Group
         | Node::While { .. }
         | Node::Do { .. }
         | Node::For { .. } => Group::Bare(Bare::Test),
+        Node::Throw { .. } | Node::Catch { .. } | Node::Signals { .. } => Group::Bare(Bare::Thrown),
         Node::Block { .. }
+        | Node::Try { .. }
         | Node::ExpressionStatement { .. }
         | Node::Local { .. }
         | Node::Field { .. }

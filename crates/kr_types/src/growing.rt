@@ -1,7 +1,6 @@
 // Notes of nodes whose types may be new: `this` and creations of arrays.
 ghost use Rattle.std.specs.Prelude.{◌≡◌, length, IfOk};
-ghost use Rattle.kr_classes_names.specs.Types.{Extends};
-ghost use Rattle.kr_types_expressions.specs.Notes.{AreNotesWithin};
+ghost use Rattle.kr_types.specs.Vocabulary.{AreNotesWithin, Extends};
 ghost use Rattle.kr_types.specs.Sites.{IsSite, IsSpot, IsSpotNote, scope_of};
 ghost use Rattle.kr_types.specs.Kinds.{IsGrowing};
 

@@ -17,6 +17,7 @@ mod refusal;
 mod resolved;
 mod site;
 mod statements;
+mod throws;
 mod types;
 
 pub use files::check;

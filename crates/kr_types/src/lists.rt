@@ -1,10 +1,6 @@
 // Notes of lists.
 ghost use Rattle.std.specs.Prelude.{length};
-ghost use Rattle.kr_base.specs.declared.place.Place.{Place};
-ghost use Rattle.kr_ast.specs.Arena.{parts};
-ghost use Rattle.kr_types_meaning.specs.Scopes.{Scope};
-ghost use Rattle.kr_ast.specs.Arena.{AreBelow};
-ghost use Rattle.kr_types_expressions.specs.Notes.{AreNotesWithin};
+ghost use Rattle.kr_types.specs.Vocabulary.{AreBelow, AreNotesWithin, parts, Place, Scope};
 ghost use Rattle.kr_types.specs.declared.site.Site.{Site as SiteSeen};
 ghost use Rattle.kr_types.specs.Sites.{IsNoteOf};
 ghost use Rattle.kr_types.specs.Kinds.{IsList};

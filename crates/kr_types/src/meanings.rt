@@ -1,11 +1,6 @@
 // The meaning of a node, from the notes of its parts.
 ghost use Rattle.std.specs.Prelude.{◌≡◌, ◌<◌, IfOk, IfSome, length, option_map};
-ghost use Rattle.kr_ast.specs.Arena.{tree_in};
-ghost use Rattle.kr_types_meaning.specs.Scopes.{class_before, value};
-ghost use Rattle.kr_types_meaning.specs.Typing.{type_in};
-ghost use Rattle.kr_types_meaning.specs.Noting.{note_at};
-ghost use Rattle.kr_classes_names.specs.Types.{count, type_at};
-ghost use Rattle.kr_types_expressions.specs.Notes.{AreNotesWithin, shown_notes};
+ghost use Rattle.kr_types.specs.Vocabulary.{AreNotesWithin, class_before, count, note_at, shown_notes, tree_in, type_at, type_in, value};
 ghost use Rattle.kr_types.specs.Sites.{AreKept, IsBefore, IsMeantBy, IsSite, IsSpot, scope_of, tree_there};
 
 use crate::notes::Noted;

@@ -1,7 +1,6 @@
 // The note of a node of any kind.
 ghost use Rattle.std.specs.Prelude.{◌≡◌, IfOk, length};
-ghost use Rattle.kr_classes_names.specs.Types.{Extends};
-ghost use Rattle.kr_types_expressions.specs.Notes.{AreNotesWithin, shown_notes};
+ghost use Rattle.kr_types.specs.Vocabulary.{AreNotesWithin, Extends, shown_notes};
 ghost use Rattle.kr_types.specs.Kinds.{IsOfBare, IsOfNamed};
 ghost use Rattle.kr_types.specs.Sites.{IsBefore, IsMeantBy, IsSite, IsSpot, IsSpotNote, scope_of};
 
@@ -13,6 +12,7 @@ use crate::growing::growing_note;
 use crate::resolved::{access_note, call_group_note, declaration_note, name_note};
 use crate::site::{Site, Spot};
 use crate::statements::{returned_note, test_note};
+use crate::throws::thrown_note;
 use crate::types::type_note;
 use kr_base::NoMemory;
 use kr_classes_names::Types;
@@ -24,6 +24,7 @@ use std::alloc::Global;
 
 /// The note of a node for which nothing is looked up, given the notes of the nodes before it.
 pub(crate) fn bare_note(
+    alloc: Global,
     site: &Site<'_>,
     types: &mut Types,
     notes: &NoteList,
@@ -51,6 +52,7 @@ pub(crate) fn bare_note(
         Bare::Contract => Ok(line_note(&context)),
         Bare::Returned => Ok(returned_note(&context)),
         Bare::Test => Ok(test_note(&context)),
+        Bare::Thrown => thrown_note(alloc, site, types, notes, spot),
     }
 }
 

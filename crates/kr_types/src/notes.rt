@@ -1,14 +1,6 @@
 // The notes of all nodes of a file in order: the parts of a node come before it.
 ghost use Rattle.std.specs.Prelude.{◌≡◌, ◌<◌, ◌+◌, ℕ, [], IfOk, OnOk, length};
-ghost use Rattle.kr_ast.specs.Arena.{IsForest, tree_in};
-ghost use Rattle.kr_types_meaning.specs.Typing.{judged};
-ghost use Rattle.kr_types_meaning.specs.Noting.{kept, note_at};
-ghost use Rattle.kr_classes_names.specs.Types.{Extends};
-ghost use Rattle.kr_types_expressions.specs.Notes.{AreNotesWithin, shown_notes};
-ghost use Rattle.kr_classes_members.specs.Shown.{table_in};
-ghost use Rattle.kr_types_scopes.specs.Settings.{Setting, class_there};
-ghost use Rattle.kr_types_resolving.specs.declared.meaning.Meaning.TheVariants.{Nothing};
-ghost use Rattle.kr_types_resolving.specs.Shown.{IsMeant, meaning_at};
+ghost use Rattle.kr_types.specs.Vocabulary.{AreNotesWithin, class_there, Extends, IsForest, IsMeant, judged, kept, meaning_at, note_at, Nothing, Setting, shown_notes, table_in, tree_in};
 ghost use Rattle.kr_types.specs.Kinds.{IsOfBare, IsOfNamed};
 ghost use Rattle.kr_types.specs.Sites.{AreKept, IsMeantBy, IsSite, IsSpot, IsSpotNote, scope_of, tree_there};
 
@@ -79,6 +71,7 @@ fn add_note(
 /// Keeps the note of a node for which nothing is looked up.
 #[inline(always)]
 fn add_bare(
+    alloc: Global,
     site: &Site<'_>,
     types: &mut Types,
     noted: &mut Noted,
@@ -94,7 +87,7 @@ fn add_bare(
     ensures kept { OnOk result (AreKept site.now types.new noted.new) }
     ensures count { OnOk result (length noted.new.notes ≡ spot.at + 1) }
 {
-    let note = bare_note(site, types, &noted.notes, kind, spot)?;
+    let note = bare_note(alloc, site, types, &noted.notes, kind, spot)?;
     noted.notes.push(note)?;
     noted.meanings.push(Meaning::Nothing)?;
     Ok(())
@@ -172,7 +165,7 @@ fn add_node(
             });
             add_note(site, types, noted, spot, note)
         }
-        Group::Bare(kind) => add_bare(site, types, noted, kind, spot),
+        Group::Bare(kind) => add_bare(alloc, site, types, noted, kind, spot),
         Group::Named(kind) => add_named(alloc, site, types, noted, kind, site.spot(at)),
     }
 }

@@ -1,12 +1,6 @@
 // A program that breaks no rule, and the facts known of its nodes.
 ghost use Rattle.std.specs.Prelude.{◌≡◌, ◌<◌, length, Some, slice_get, IfSome, option_map};
-ghost use Rattle.kr_ast.specs.Arena.{tree_in};
-ghost use Rattle.kr_ast.specs.declared.node.Entry.{Entry as NodeEntry};
-ghost use Rattle.kr_types_meaning.specs.Typing.{judged, type_in};
-ghost use Rattle.kr_ast.specs.Files.{file_at};
-ghost use Rattle.kr_classes_members.specs.Shown.{table_in};
-ghost use Rattle.kr_classes_names.specs.Types.{count, type_at};
-ghost use Rattle.kr_types_resolving.specs.Shown.{IsMeaningWithin, IsMeant};
+ghost use Rattle.kr_types.specs.Vocabulary.{count, file_at, IsMeaningWithin, IsMeant, judged, NodeEntry, table_in, tree_in, type_at, type_in};
 ghost use Rattle.kr_types.specs.Programs.{IsProgram, all_entries, scope_there};
 ghost use Rattle.kr_types.specs.declared.program.TypedFile.{TypedFile as Typed};
 

@@ -1,14 +1,6 @@
 // The context for the notes of a file's nodes.
 ghost use Rattle.std.specs.Prelude.{◌≡◌, ◌<◌, IfSome, IsTrue, length, option_map, slice_index_or};
-ghost use Rattle.kr_classes_members.specs.Shown.{IsMethod, method_shown, table_in};
-ghost use Rattle.kr_classes_members.specs.Rosters.{IsRoster, all_methods, method_numbered};
-ghost use Rattle.kr_types_scopes.specs.Settings.{class_there};
-ghost use Rattle.kr_types_scopes.specs.Scoped.{AreScopes, nowhere};
-ghost use Rattle.kr_types_meaning.specs.Noting.{note_at};
-ghost use Rattle.kr_classes_names.specs.Shown.{AreHeads};
-ghost use Rattle.kr_types_judging.specs.Shown.{IsNoteWithin, note_shown};
-ghost use Rattle.kr_types_expressions.specs.Links.{IsLinked};
-ghost use Rattle.kr_types_expressions.specs.Notes.{AreNotesWithin, IsRestBelow, shown_notes, typed_in};
+ghost use Rattle.kr_types.specs.Vocabulary.{all_methods, AreHeads, AreNotesWithin, AreScopes, class_there, IsLinked, IsMethod, IsNoteWithin, IsRestBelow, IsRoster, method_numbered, method_shown, note_at, note_shown, nowhere, shown_notes, table_in, typed_in};
 ghost use Rattle.kr_types.specs.Programs.{setting_in};
 ghost use Rattle.kr_types.specs.Sites.{IsInside, scope_here, IsSpot, tree_there};
 

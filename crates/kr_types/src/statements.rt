@@ -21,6 +21,11 @@ pub(crate) fn plain_note(context: &Context<'_, '_>) -> Note
             let x = context.part(statements);
             one_part_note(x)
         }
+        Node::Try { body, catches } => {
+            let x = context.part(body);
+            let y = context.part(catches);
+            two_parts_note(x, y)
+        }
         Node::ExpressionStatement { expression } => {
             let x = context.part(expression);
             one_part_note(x)

@@ -1,9 +1,6 @@
 // Notes of types as they are written.
 ghost use Rattle.std.specs.Prelude.{◌≡◌, List, length, IfOk};
-ghost use Rattle.kr_ast.specs.Arena.{tree_in, tree_of};
-ghost use Rattle.kr_classes_names.specs.Types.{Extends};
-ghost use Rattle.kr_types_judging.specs.declared.notes.Note.{Note as NoteKept};
-ghost use Rattle.kr_types_expressions.specs.Notes.{AreNotesWithin};
+ghost use Rattle.kr_types.specs.Vocabulary.{AreNotesWithin, Extends, NoteKept, tree_in, tree_of};
 ghost use Rattle.kr_types.specs.Sites.{IsSite, IsSpot, IsSpotNote, tree_there};
 ghost use Rattle.kr_types.specs.Kinds.{IsType, IsTypeName};
 

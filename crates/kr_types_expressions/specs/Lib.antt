@@ -2,3 +2,4 @@ pub mod Constructors
 pub mod Links
 pub mod Notes
 pub mod Parts
+pub mod Vocabulary

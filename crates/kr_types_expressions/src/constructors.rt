@@ -2,12 +2,7 @@
 ghost use Rattle.std.specs.Prelude.{◌≡◌, ◌<◌, ℕ, List, All, IfOk, IfSome, length, map, option_map};
 ghost use Rattle.kr_types_meaning.specs.Rules as rules;
 ghost use Rattle.kr_types_meaning.specs.Noting as noting;
-ghost use Rattle.kr_types_scopes.specs.Settings.{Setting, class_there, scope_in};
-ghost use Rattle.kr_types_scopes.specs.declared.within.Binding.{Binding};
-ghost use Rattle.kr_classes_members.specs.Shown.{table_in};
-ghost use Rattle.kr_classes_names.specs.Types.{Extends, count, type_at};
-ghost use Rattle.kr_types_judging.specs.Classes.{AreClassTypes};
-ghost use Rattle.kr_types_judging.specs.Shown.{HasNoRest, IsNoteWithin, IsVerdictWithin, note_shown, verdict_shown};
+ghost use Rattle.kr_types_expressions.specs.Vocabulary.{AreClassTypes, Binding, class_there, count, Extends, HasNoRest, IsNoteWithin, IsVerdictWithin, note_shown, scope_in, Setting, table_in, type_at, verdict_shown};
 ghost use Rattle.kr_types_expressions.specs.Constructors.{AreSingle};
 ghost use Rattle.kr_types_expressions.specs.Notes.{AreNotesWithin, IsRestBelow, typed_in};
 ghost use Rattle.kr_types_expressions.specs.Parts.{with_list, with_one_and_list, with_two};

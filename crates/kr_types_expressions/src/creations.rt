@@ -1,15 +1,7 @@
 // Rules on creations and constructors: T26, T27, T34, T39.
 ghost use Rattle.std.specs.Prelude.{◌≡◌, ◌<◌, List, Some, IfOk, length, map, All, slice_get};
-ghost use Rattle.kr_ast.specs.Arena.{Arena};
-ghost use Rattle.kr_classes_table.specs.Table.{constructor_parameters};
 ghost use Rattle.kr_types_meaning.specs.Rules as rules;
-ghost use Rattle.kr_types_meaning.specs.Scopes.{Scope, super_parameters};
-ghost use Rattle.kr_types_scopes.specs.Settings.{Setting, class_there, scope_in};
-ghost use Rattle.kr_types_scopes.specs.declared.within.Binding.{Binding};
-ghost use Rattle.kr_classes_members.specs.Shown.{IsConstructor, table_in};
-ghost use Rattle.kr_classes_names.specs.Types.{Extends, count, type_at};
-ghost use Rattle.kr_types_judging.specs.Classes.{AreClassTypes};
-ghost use Rattle.kr_types_judging.specs.Shown.{IsVerdictWithin, verdict_shown};
+ghost use Rattle.kr_types_expressions.specs.Vocabulary.{AreClassTypes, Arena, Binding, class_there, constructor_parameters, count, Extends, IsConstructor, IsVerdictWithin, Scope, scope_in, Setting, super_parameters, table_in, type_at, verdict_shown};
 ghost use Rattle.kr_types_expressions.specs.Constructors.{AreSingle, IsSingle};
 
 use kr_base::NoMemory;

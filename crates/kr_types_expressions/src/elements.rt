@@ -1,9 +1,7 @@
 // The notes of array elements, from those of their parts.
 ghost use Rattle.std.specs.Prelude.{◌≡◌, ◌<◌, ℕ, IfSome, option_map};
 ghost use Rattle.kr_types_meaning.specs.Rules as rules;
-ghost use Rattle.kr_types_meaning.specs.Noting.{two};
-ghost use Rattle.kr_classes_names.specs.Types.{count, type_at};
-ghost use Rattle.kr_types_judging.specs.Shown.{HasNoRest, IsNoteWithin, IsVerdictWithin, note_shown, verdict_shown};
+ghost use Rattle.kr_types_expressions.specs.Vocabulary.{count, HasNoRest, IsNoteWithin, IsVerdictWithin, note_shown, two, type_at, verdict_shown};
 ghost use Rattle.kr_types_expressions.specs.Parts.{with_two};
 
 use crate::parts::part_type;

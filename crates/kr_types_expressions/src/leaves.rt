@@ -1,15 +1,7 @@
 // The notes of typed nodes without parts.
 ghost use Rattle.std.specs.Prelude.{◌≡◌, ℕ, List};
-ghost use Rattle.kr_ast.specs.Arena.{Arena};
-ghost use Rattle.kr_classes_table.specs.Numbers.{Bits32, Bits64};
-ghost use Rattle.kr_classes_table.specs.Types.{BooleanType, NullType};
 ghost use Rattle.kr_types_meaning.specs.Rules as rules;
-ghost use Rattle.kr_types_meaning.specs.Noting.{leaf};
-ghost use Rattle.kr_types_scopes.specs.Settings.{Setting, scope_in};
-ghost use Rattle.kr_types_scopes.specs.declared.within.Binding.{Binding};
-ghost use Rattle.kr_classes_members.specs.Shown.{table_in};
-ghost use Rattle.kr_classes_members.specs.Kept.{AreMembers};
-ghost use Rattle.kr_types_judging.specs.Shown.{HasNoRest, IsNoteWithin, note_shown};
+ghost use Rattle.kr_types_expressions.specs.Vocabulary.{AreMembers, Arena, Binding, Bits32, Bits64, BooleanType, HasNoRest, IsNoteWithin, leaf, note_shown, NullType, scope_in, Setting, table_in};
 
 use kr_base::Place;
 use kr_classes_members::Members;

@@ -1,10 +1,8 @@
 // The notes of lists, from those of the first part and of the rest; the types of a list's values.
 ghost use Rattle.std.specs.Prelude.{◌≡◌, ◌<◌, ℕ, [], IfOk, IfSome, None, All, length, map, option_map};
 ghost use Rattle.kr_types_meaning.specs.Rules as rules;
-ghost use Rattle.kr_types_meaning.specs.Typing.{joined, type_in};
 ghost use Rattle.kr_types_meaning.specs.Noting as noting;
-ghost use Rattle.kr_classes_names.specs.Types.{TypeList, count, type_at};
-ghost use Rattle.kr_types_judging.specs.Shown.{HasNoRest, IsKnownWithin, IsNoteWithin, known_shown, note_shown};
+ghost use Rattle.kr_types_expressions.specs.Vocabulary.{count, HasNoRest, IsKnownWithin, IsNoteWithin, joined, known_shown, note_shown, type_at, type_in, TypeList};
 ghost use Rattle.kr_types_expressions.specs.Links.{IsLinked};
 ghost use Rattle.kr_types_expressions.specs.Notes.{AreNotesWithin, IsRestBelow, typed_in};
 ghost use Rattle.kr_types_expressions.specs.Parts.{values_in};

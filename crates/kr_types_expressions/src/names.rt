@@ -1,18 +1,7 @@
 // T3 and T5 on names and `this`, and their notes.
 ghost use Rattle.std.specs.Prelude.{◌≡◌, ◌<◌, ℕ, List, IfOk, IfSome, length};
-ghost use Rattle.kr_classes_table.specs.Constants.{Known};
 ghost use Rattle.kr_types_meaning.specs.Rules as rules;
-ghost use Rattle.kr_types_meaning.specs.Scopes.{meant};
-ghost use Rattle.kr_types_meaning.specs.Noting.{leaf};
-ghost use Rattle.kr_types_scopes.specs.Settings.{Setting, setting, class_there, scope_in};
-ghost use Rattle.kr_types_scopes.specs.declared.within.Binding.{Binding};
-ghost use Rattle.kr_types_scopes.specs.Scoped.{AreScopes, scope_at};
-ghost use Rattle.kr_classes_names.specs.Shown.{AreHeads};
-ghost use Rattle.kr_ast.specs.Files.{file_at};
-ghost use Rattle.kr_classes_members.specs.Shown.{table_in};
-ghost use Rattle.kr_classes_names.specs.Types.{Extends};
-ghost use Rattle.kr_types_judging.specs.Classes.{AreClassTypes};
-ghost use Rattle.kr_types_judging.specs.Shown.{HasNoRest, IsNoteWithin, IsVerdictWithin, note_shown, verdict_shown};
+ghost use Rattle.kr_types_expressions.specs.Vocabulary.{AreClassTypes, AreHeads, AreScopes, Binding, class_there, Extends, file_at, HasNoRest, IsNoteWithin, IsVerdictWithin, Known, leaf, meant, note_shown, scope_at, scope_in, Setting, setting, table_in, verdict_shown};
 
 use kr_ast::{Node, Tree, tree_of};
 use kr_base::{NoMemory, Place};

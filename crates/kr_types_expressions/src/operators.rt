@@ -1,14 +1,7 @@
 // The notes of operators, from those of their parts.
 ghost use Rattle.std.specs.Prelude.{◌≡◌, ◌<◌, ℕ, List, IfSome, option_map};
-ghost use Rattle.kr_ast.specs.Arena.{Arena};
 ghost use Rattle.kr_types_meaning.specs.Rules as rules;
-ghost use Rattle.kr_types_meaning.specs.Noting.{one, two};
-ghost use Rattle.kr_types_scopes.specs.Settings.{Setting, scope_in};
-ghost use Rattle.kr_types_scopes.specs.declared.within.Binding.{Binding};
-ghost use Rattle.kr_classes_members.specs.Shown.{table_in};
-ghost use Rattle.kr_classes_members.specs.Kept.{AreMembers};
-ghost use Rattle.kr_classes_names.specs.Types.{count, type_at};
-ghost use Rattle.kr_types_judging.specs.Shown.{HasNoRest, IsNoteWithin, IsVerdictWithin, note_shown, verdict_shown};
+ghost use Rattle.kr_types_expressions.specs.Vocabulary.{AreMembers, Arena, Binding, count, HasNoRest, IsNoteWithin, IsVerdictWithin, note_shown, one, scope_in, Setting, table_in, two, type_at, verdict_shown};
 ghost use Rattle.kr_types_expressions.specs.Parts.{with_one, with_two};
 
 use crate::parts::part_type;

@@ -1,9 +1,7 @@
 // The facts known of parts.
 ghost use Rattle.std.specs.Prelude.{◌≡◌, ◌<◌, ℕ, IfSome, option_map};
 ghost use Rattle.kr_types_meaning.specs.Rules as rules;
-ghost use Rattle.kr_types_meaning.specs.Typing.{type_in};
-ghost use Rattle.kr_classes_names.specs.Types.{TypeList, count, type_at};
-ghost use Rattle.kr_types_judging.specs.Shown.{IsKnownWithin, known_shown};
+ghost use Rattle.kr_types_expressions.specs.Vocabulary.{count, IsKnownWithin, known_shown, type_at, type_in, TypeList};
 
 use kr_classes_table::TypeId;
 use kr_types_judging::{Known, Typed};

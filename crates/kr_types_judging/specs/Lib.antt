@@ -1,4 +1,5 @@
-pub mod Numbers
-pub mod Classes
-pub mod Shown
 pub mod Arguments
+pub mod Classes
+pub mod Numbers
+pub mod Shown
+pub mod Vocabulary

@@ -1,7 +1,7 @@
 -- To be believed: the numbers of the typing rules.
 use Rattle.std.specs.Prelude.{ℕ}
 use Rattle.kr_types_judging.specs.declared.rules.TypingRule.{TypingRule}
-use Rattle.kr_types_judging.specs.declared.rules.TypingRule.TheVariants.{UnknownType, UnknownName, RepeatedLocal, StaticCode, NumberTooLarge, Arithmetic, Shift, Comparison, Equality, Bitwise, Logical, Negation, Sign, Conditional, Assignment, CompoundAssignment, Step, Target, Cast, InstanceOf, FieldAccess, ElementAccess, Call, CollectionCall, Creation, ArrayLength, Condition, LocalValue, Return, Jump, NoResult, SuperCall, SuperConstructor, FieldValue, ConstantValue, StaticField, ContractValue, ContractWrite, ContractPlace}
+use Rattle.kr_types_judging.specs.declared.rules.TypingRule.TheVariants.{UnknownType, UnknownName, RepeatedLocal, StaticCode, NumberTooLarge, Arithmetic, Shift, Comparison, Equality, Bitwise, Logical, Negation, Sign, Conditional, Assignment, CompoundAssignment, Step, Target, Cast, InstanceOf, FieldAccess, ElementAccess, Call, CollectionCall, Creation, ArrayLength, Condition, LocalValue, Return, Jump, NoResult, SuperCall, SuperConstructor, FieldValue, ConstantValue, StaticField, ContractValue, ContractWrite, ContractPlace, Throw, Catch, Signals}
 
 abbrev pub rule_number : TypingRule → ℕ
 rule_number UnknownType = 1
@@ -43,3 +43,6 @@ rule_number StaticField = 37
 rule_number ContractValue = 38
 rule_number ContractWrite = 39
 rule_number ContractPlace = 40
+rule_number Throw = 41
+rule_number Catch = 42
+rule_number Signals = 43

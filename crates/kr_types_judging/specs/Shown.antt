@@ -1,8 +1,10 @@
 -- Between crates: the facts that the code knows of nodes, as the typing rules have them.
-use Rattle.std.specs.Prelude.{◌≡◌, ℕ, ◌<◌, Bool, true, ◌&&◌, ◌||◌, not, if◌then◌else◌, List, [], Option, Some, None}
-use Rattle.kr_ast.specs.Arena.{Arena}
+use Rattle.std.specs.Prelude.{◌≡◌, ℕ, ◌<◌, Bool, true, ◌&&◌, ◌||◌, not, if◌then◌else◌, List, [], Option, Some, None, map, codes}
+use Rattle.kr_base.specs.Places.{nowhere}
+use Rattle.kr_ast.specs.Arena.{Arena, root}
+use Rattle.kr_ast.specs.Tree.{NamedType}
 use Rattle.kr_classes_table.specs.Types.{JavaType, is_collection, is_known, is_reference, is_void}
-use Rattle.kr_classes_table.specs.Table.{Table, are_related, is_assignable}
+use Rattle.kr_classes_table.specs.Table.{Table, are_related, headings_of, is_assignable, type_named}
 use Rattle.kr_classes_table.specs.Rules as table
 use Rattle.kr_types_meaning.specs.Promotion.{are_numbers}
 use Rattle.kr_types_meaning.specs.Rules as rules
@@ -15,7 +17,7 @@ use Rattle.kr_types_scopes.specs.declared.within.Binding.{Binding}
 use Rattle.kr_classes_members.specs.Shown.{table_in}
 use Rattle.kr_classes_members.specs.Kept.{AreMembers}
 use Rattle.kr_classes_members.specs.declared.members.Members.{Members}
-use Rattle.kr_classes_names.specs.Types.{TypeList, type_at, count}
+use Rattle.kr_classes_names.specs.Types.{TypeList, IsTypeNumber, type_at, count}
 use Rattle.kr_types_judging.specs.Numbers.{rule_number}
 use Rattle.kr_types_judging.specs.declared.known.Typed.{Typed}
 use Rattle.kr_types_judging.specs.declared.known.Typed.TheVariants as typed
@@ -105,3 +107,7 @@ returned t to (Some from) = goes_into t to from
 abbrev pub constant_says : Table → JavaType → Bool → Bool → Option JavaType → rules.Judgement
 constant_says t to is_final has_value from =
     if is_known to then rules.ask (initial_goes_into t to from) 35 (rules.ask has_value 36 (rules.ask (is_final && rules.is_simple to) 37 rules.fine)) else rules.fine
+
+-- the number of the type that `Throwable` means
+abbrev pub IsThrowable : List Arena → TypeList → ℕ → Type 0
+IsThrowable files l n = IsTypeNumber l n (type_named (headings_of (map root files)) (NamedType nowhere (codes "Throwable")))

@@ -1,9 +1,6 @@
 // Whether arguments fit parameters, both walked at once.
 ghost use Rattle.std.specs.Prelude.{◌≡◌, ◌<◌, ◌∷◌, [], IfSome, MatchOption, length, map, All};
-ghost use Rattle.kr_ast.specs.Arena.{tree_in};
-ghost use Rattle.kr_ast.specs.Files.{file_at};
-ghost use Rattle.kr_classes_members.specs.Shown.{headings_in, table_in};
-ghost use Rattle.kr_classes_names.specs.Types.{count, type_at};
+ghost use Rattle.kr_types_judging.specs.Vocabulary.{count, file_at, headings_in, table_in, tree_in, type_at};
 ghost use Rattle.kr_types_judging.specs.Classes.{AreClassTypes};
 ghost use Rattle.kr_types_judging.specs.Arguments.{arguments_go_into, listed_types, parameter_types_in};
 

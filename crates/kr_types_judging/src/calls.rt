@@ -1,12 +1,7 @@
 // Rules on calls: T5, T24, T25, T32, T33.
 ghost use Rattle.std.specs.Prelude.{◌≡◌, ◌<◌, ◌||◌, not, IfSome, List, map, All, option_map};
-ghost use Rattle.kr_classes_table.specs.Types.{is_void};
 ghost use Rattle.kr_types_meaning.specs.Rules as rules;
-ghost use Rattle.kr_types_scopes.specs.Settings.{Setting, role_of, scope_in};
-ghost use Rattle.kr_types_scopes.specs.declared.within.Binding.{Binding};
-ghost use Rattle.kr_classes_members.specs.Shown.{IsMethod, method_shown, table_in};
-ghost use Rattle.kr_classes_names.specs.Types.{IsTypeNumber, count, type_at};
-ghost use Rattle.kr_classes_names.specs.Numbers.{AreNodeTypes};
+ghost use Rattle.kr_types_judging.specs.Vocabulary.{AreNodeTypes, Binding, count, is_void, IsMethod, IsTypeNumber, method_shown, role_of, scope_in, Setting, table_in, type_at};
 ghost use Rattle.kr_types_judging.specs.Classes.{AreClassTypes};
 ghost use Rattle.kr_types_judging.specs.Shown.{IsVerdictWithin, verdict_shown};
 

@@ -1,8 +1,7 @@
 // Rules on calls of collections, and on creations of arrays: T25, T27, T39.
 ghost use Rattle.std.specs.Prelude.{◌≡◌, ◌<◌, ◌||◌, ◌&&◌, not, map, All, bytes_eq, codes};
-ghost use Rattle.kr_classes_table.specs.Types.{is_collection, is_element, is_reference};
 ghost use Rattle.kr_types_meaning.specs.Rules as rules;
-ghost use Rattle.kr_classes_names.specs.Types.{count, type_at};
+ghost use Rattle.kr_types_judging.specs.Vocabulary.{count, is_collection, is_element, is_reference, type_at};
 ghost use Rattle.kr_types_judging.specs.Shown.{IsVerdictWithin, Says, verdict_shown};
 
 use crate::known::Judgement;

@@ -1,15 +1,7 @@
 // Rules on results and declared types: T4, T29, T30, T35 to T38.
 ghost use Rattle.std.specs.Prelude.{◌≡◌, ◌<◌, ◌||◌, ◌&&◌, not, List, IfSome, option_map};
-ghost use Rattle.kr_ast.specs.Arena.{Arena};
-ghost use Rattle.kr_classes_table.specs.Types.{is_known, is_void};
 ghost use Rattle.kr_types_meaning.specs.Rules as rules;
-ghost use Rattle.kr_types_scopes.specs.Settings.{Setting, part_of, scope_in, type_there};
-ghost use Rattle.kr_types_scopes.specs.declared.within.Binding.{Binding};
-ghost use Rattle.kr_ast.specs.Files.{file_at};
-ghost use Rattle.kr_classes_members.specs.Shown.{table_in};
-ghost use Rattle.kr_classes_members.specs.Kept.{AreMembers};
-ghost use Rattle.kr_classes_names.specs.Types.{IsTypeNumber, count, type_at};
-ghost use Rattle.kr_classes_names.specs.Numbers.{AreNodeTypes};
+ghost use Rattle.kr_types_judging.specs.Vocabulary.{AreMembers, Arena, AreNodeTypes, Binding, count, file_at, is_known, is_void, IsTypeNumber, part_of, scope_in, Setting, table_in, type_at, type_there};
 ghost use Rattle.kr_types_judging.specs.Shown.{IsVerdictWithin, constant_says, initial_goes_into, returned, verdict_shown};
 
 use crate::known::Judgement;

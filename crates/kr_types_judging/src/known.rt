@@ -69,6 +69,17 @@ impl Judgement {
         }
     }
 
+    /// The verdict `rest`, unless this one is a broken rule.
+    pub fn and(self, rest: Judgement) -> Judgement
+        ensures within { (l : TypeList) → IsVerdictWithin l rest → IsVerdictWithin l result }
+        ensures says { (l : TypeList) → verdict_shown l result ≡ rules.then_rule (verdict_shown l self) (verdict_shown l rest) }
+    {
+        match self {
+            Judgement::Breaks(rule) => Judgement::Breaks(rule),
+            Judgement::Fits(_) => rest,
+        }
+    }
+
     /// No fault if the test holds; else this rule is broken.
     pub fn fine_if(test: bool, rule: TypingRule) -> Judgement
         ensures within { (l : TypeList) → IsVerdictWithin l result }

@@ -14,6 +14,7 @@ mod operators;
 mod relations;
 mod rules;
 mod statements;
+mod throws;
 mod writes;
 
 pub use arguments::arguments_fit;
@@ -36,4 +37,5 @@ pub use operators::{
 pub use relations::{is_assignable, is_int};
 pub use rules::TypingRule;
 pub use statements::{condition_rule, contract_rule, jump_rule, old_rule};
+pub use throws::{caught_rule, throw_rule};
 pub use writes::{assignment_rule, compound_rule, is_code, step_rule};

@@ -1,12 +1,7 @@
 // Rules on names and on parts of objects and arrays: T3, T5, T22, T23.
 ghost use Rattle.std.specs.Prelude.{◌≡◌, ◌<◌, List, option_map};
 ghost use Rattle.kr_types_meaning.specs.Rules as rules;
-ghost use Rattle.kr_types_meaning.specs.Scopes.{FieldName};
-ghost use Rattle.kr_types_scopes.specs.Settings.{Setting, scope_in};
-ghost use Rattle.kr_types_scopes.specs.declared.within.Binding.{Binding};
-ghost use Rattle.kr_classes_members.specs.Shown.{field_shown, table_in};
-ghost use Rattle.kr_classes_names.specs.Types.{IsTypeNumber, count, type_at};
-ghost use Rattle.kr_classes_names.specs.Numbers.{AreNodeTypes};
+ghost use Rattle.kr_types_judging.specs.Vocabulary.{AreNodeTypes, Binding, count, field_shown, FieldName, IsTypeNumber, scope_in, Setting, table_in, type_at};
 ghost use Rattle.kr_types_judging.specs.Classes.{AreClassTypes};
 ghost use Rattle.kr_types_judging.specs.Shown.{IsVerdictWithin, verdict_shown};
 

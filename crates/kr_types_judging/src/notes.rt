@@ -1,9 +1,7 @@
 // The note of a node: the facts known of it, and the first broken node in it.
 ghost use Rattle.std.specs.Prelude.{◌≡◌, ℕ};
 ghost use Rattle.kr_types_meaning.specs.Rules as rules;
-ghost use Rattle.kr_classes_table.specs.Rules.{is_before as comes_before, sooner};
-ghost use Rattle.kr_types_meaning.specs.Noting.{concluded, plain};
-ghost use Rattle.kr_classes_names.specs.Types.{TypeList};
+ghost use Rattle.kr_types_judging.specs.Vocabulary.{comes_before, concluded, plain, sooner, TypeList};
 ghost use Rattle.kr_types_judging.specs.Shown.{HasNoRest, IsNoteWithin, IsVerdictWithin, fault_shown, least_shown, note_shown, verdict_shown};
 
 use crate::known::{Judgement, Known, Typed};

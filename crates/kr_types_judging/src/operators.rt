@@ -1,8 +1,7 @@
 // Rules on types, literals, `this` and operators: T1, T5 to T15, T20, T21.
 ghost use Rattle.std.specs.Prelude.{◌≡◌, ◌<◌, IfSome, option_map};
-ghost use Rattle.kr_classes_table.specs.Numbers.{Bits32, Bits64};
 ghost use Rattle.kr_types_meaning.specs.Rules as rules;
-ghost use Rattle.kr_classes_names.specs.Types.{count, type_at};
+ghost use Rattle.kr_types_judging.specs.Vocabulary.{Bits32, Bits64, count, type_at};
 ghost use Rattle.kr_types_judging.specs.Numbers.{rule_number};
 ghost use Rattle.kr_types_judging.specs.Shown.{IsVerdictWithin, Says, verdict_shown};
 

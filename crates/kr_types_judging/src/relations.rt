@@ -1,14 +1,9 @@
 // Which types go into which (Java Language Specification 5).
 ghost use Rattle.std.specs.Prelude.{◌≡◌, ◌<◌, ◌&&◌, ◌||◌, not, IfSome, List, option_map, if◌then◌else◌};
-ghost use Rattle.kr_ast.specs.Arena.{Arena};
-ghost use Rattle.kr_classes_table.specs.Numbers.{is_same_width};
-ghost use Rattle.kr_classes_table.specs.Types.{NumberType, ClassType, SetType, ListType, InferredType, is_collection, is_element, is_same, is_void};
 ghost use Rattle.kr_classes_table.specs.Table as table;
 ghost use Rattle.kr_types_meaning.specs.Promotion as promotion;
 ghost use Rattle.kr_types_meaning.specs.Rules as rules;
-ghost use Rattle.kr_classes_members.specs.Shown.{table_in};
-ghost use Rattle.kr_classes_members.specs.Kept.{AreMembers};
-ghost use Rattle.kr_classes_names.specs.Types.{count, type_at};
+ghost use Rattle.kr_types_judging.specs.Vocabulary.{AreMembers, Arena, ClassType, count, InferredType, is_collection, is_element, is_same, is_same_width, is_void, ListType, NumberType, SetType, table_in, type_at};
 ghost use Rattle.kr_types_judging.specs.Shown.{are_comparable, are_related_references, cast_fits, goes_into};
 
 use kr_classes_members::Members;

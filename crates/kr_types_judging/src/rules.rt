@@ -2,7 +2,7 @@
 ghost use Rattle.std.specs.Prelude.{◌≡◌};
 ghost use Rattle.kr_types_judging.specs.Numbers.{rule_number};
 
-/// A typing rule (T1 to T40, docs/LANGUAGE.md), by what it asks. The grammar leaves nothing for T2.
+/// A typing rule (T1 to T43, docs/LANGUAGE.md), by what it asks. The grammar leaves nothing for T2.
 #[derive(Clone, Copy, PartialEq, Eq)]
 pub enum TypingRule {
     /// T1: a type names a class, or a collection of one.
@@ -77,12 +77,18 @@ pub enum TypingRule {
     ConstantValue,
     /// T37: a static field is a constant.
     StaticField,
-    /// T38: `\result` and `\old` are in `ensures`.
+    /// T38: `\result` is in `ensures`, `\old` there or in `signals`.
     ContractValue,
     /// T39: a contract writes nothing.
     ContractWrite,
     /// T40: a contract belongs to an instance method.
     ContractPlace,
+    /// T41: what is thrown is throwable.
+    Throw,
+    /// T42: a caught class is throwable.
+    Catch,
+    /// T43: the class of `signals` is throwable.
+    Signals,
 }
 
 impl TypingRule {
@@ -131,6 +137,9 @@ impl TypingRule {
             TypingRule::ContractValue => 38,
             TypingRule::ContractWrite => 39,
             TypingRule::ContractPlace => 40,
+            TypingRule::Throw => 41,
+            TypingRule::Catch => 42,
+            TypingRule::Signals => 43,
         }
     }
 }

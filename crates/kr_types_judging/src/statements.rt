@@ -1,8 +1,7 @@
 // Rules on statements and contracts: T28, T31, T38, T40.
 ghost use Rattle.std.specs.Prelude.{◌≡◌, ◌<◌};
 ghost use Rattle.kr_types_meaning.specs.Rules as rules;
-ghost use Rattle.kr_types_scopes.specs.Settings.{part_of};
-ghost use Rattle.kr_classes_names.specs.Types.{count, type_at};
+ghost use Rattle.kr_types_judging.specs.Vocabulary.{count, part_of, type_at};
 ghost use Rattle.kr_types_judging.specs.Shown.{IsVerdictWithin, Says, verdict_shown};
 
 use crate::known::Judgement;
@@ -19,6 +18,16 @@ pub(crate) fn is_ensuring(part: Part) -> bool
 {
     match part {
         Part::Ensuring => true,
+        _ => false,
+    }
+}
+
+/// Whether it comes after the body.
+fn is_after_body(part: Part) -> bool
+    ensures { result ≡ rules.is_after_body (part_of part) }
+{
+    match part {
+        Part::Ensuring | Part::Signalling => true,
         _ => false,
     }
 }
@@ -53,14 +62,14 @@ pub fn jump_rule(types: &Types, members: &Members, here: Within) -> Judgement
     Judgement::fine_if(here.is_in_loop, TypingRule::Jump)
 }
 
-/// T38: `\old` only in `ensures`, and not in `\old`.
+/// T38: `\old` only in `ensures` and `signals`, and not in `\old`.
 pub fn old_rule(types: &Types, members: &Members, here: Within, whole: TypeId) -> Judgement
     requires { whole < count types.now }
     ensures within { IsVerdictWithin types.now result }
     ensures says { Says members.now types.now here result (λ s. rules.old_rule s (type_at types.now whole)) }
 {
     Judgement::value_if(
-        is_ensuring(here.part) && !here.is_in_old,
+        is_after_body(here.part) && !here.is_in_old,
         TypingRule::ContractValue,
         whole,
     )

@@ -1,8 +1,7 @@
 // Rules on writes: T16 to T19, T39.
 ghost use Rattle.std.specs.Prelude.{◌≡◌, ◌<◌};
 ghost use Rattle.kr_types_meaning.specs.Rules as rules;
-ghost use Rattle.kr_types_scopes.specs.Settings.{part_of};
-ghost use Rattle.kr_classes_names.specs.Types.{count, type_at};
+ghost use Rattle.kr_types_judging.specs.Vocabulary.{count, part_of, type_at};
 ghost use Rattle.kr_types_judging.specs.Shown.{IsVerdictWithin, Says, typed_shown, verdict_shown};
 
 use crate::known::{Judgement, Typed};

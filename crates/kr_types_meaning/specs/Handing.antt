@@ -2,7 +2,7 @@
 use Rattle.std.specs.Prelude.{ℕ, zero, suc}
 use Rattle.kr_ast.specs.Tree as trees
 use Rattle.kr_ast.specs.Tree.{Tree}
-use Rattle.kr_types_meaning.specs.Scopes.{Scope, Requiring, Ensuring, Locals, after, value, statement, in_loop, in_contract, in_old, in_class, static_if, declaring, field_kind, bind_as}
+use Rattle.kr_types_meaning.specs.Scopes.{Scope, Requiring, Ensuring, Signalling, Locals, after, value, statement, in_loop, in_contract, in_old, in_class, static_if, declaring, field_kind, bind_as}
 use Rattle.kr_types_meaning.specs.Typing.{operand}
 
 -- the first part of two, or the second
@@ -22,6 +22,11 @@ for_part zero s = s
 for_part (suc zero) s = s
 for_part (suc (suc zero)) s = statement s
 for_part (suc (suc (suc j))) s = in_loop s
+
+-- a part of a `signals`, in the scope after what it declares
+abbrev pub signals_part : ℕ → Scope → Scope
+signals_part zero s = s
+signals_part (suc j) s = in_contract Signalling s
 
 -- the scope of part j
 abbrev pub handed : Scope → Tree → ℕ → Scope
@@ -48,6 +53,7 @@ handed s (trees.ExpressionStatement p e) j = statement s
 handed s (trees.While p c a) j = second j s (in_loop s)
 handed s (trees.Do p a c) j = second j (in_loop s) s
 handed s (trees.For p i c u a) j = for_part j (second j s (after s i))
+handed s (trees.Catch p d b) j = second j s (after s d)
 handed s (trees.Class p n e ms) j = second j s (in_class n s)
 handed s (trees.Field p st fi t ds) j = second j s (static_if st (declaring (field_kind st fi) t s))
 handed s (trees.Method p st n g b) j = second j (static_if st s) (after (static_if st s) g)
@@ -55,4 +61,5 @@ handed s (trees.Signature p r ps cs) j = third j s (after s (trees.Signature p r
 handed s (trees.Constructor p ps call b) j = second j s (after s ps)
 handed s (trees.Requires p e) j = in_contract Requiring s
 handed s (trees.Ensures p e) j = in_contract Ensuring s
+handed s (trees.Signals p d e) j = signals_part j (second j s (after s d))
 handed s _ j = s

@@ -9,3 +9,4 @@ pub mod Laws
 pub mod Texts
 pub mod Examples
 pub mod Meanings
+pub mod Exceptions

@@ -8,8 +8,8 @@ use Rattle.kr_classes_table.specs.Numbers.{Bits32, Bits64}
 use Rattle.kr_classes_table.specs.Types.{JavaType, BooleanType, NullType, InferredType}
 use Rattle.kr_classes_table.specs.Table.{applied, field_named, method_named}
 use Rattle.kr_classes_table.specs.Rules.{Fault, least, sooner}
-use Rattle.kr_types_meaning.specs.Scopes.{Scope, written, in_class, meant, class_before, method_meant}
-use Rattle.kr_types_meaning.specs.Rules.{Typed, Untyped, Value, Values, Judgement, Fits, Breaks, type_rule, diamond_rule, array_rule, number_rule, this_rule, name_rule, unary_rule, operator_rule, choice_rule, cast_rule, instance_rule, assignment_rule, compound_rule, step_rule, access_rule, constant_rule, element_rule, call_rule, static_rule, super_rule, object_call_rule, creation_rule, array_creation_rule, result_value_rule, old_rule, contract_rule, condition_rule, return_rule, jump_rule, declaration_rule, parameter_rule, super_constructor_rule, implied_rule}
+use Rattle.kr_types_meaning.specs.Scopes.{Scope, written, caught_type, in_class, meant, class_before, method_meant}
+use Rattle.kr_types_meaning.specs.Rules.{Typed, Untyped, Value, Values, Judgement, Fits, Breaks, type_rule, diamond_rule, array_rule, number_rule, this_rule, name_rule, unary_rule, operator_rule, choice_rule, cast_rule, instance_rule, assignment_rule, compound_rule, step_rule, access_rule, constant_rule, element_rule, call_rule, static_rule, super_rule, object_call_rule, creation_rule, array_creation_rule, result_value_rule, old_rule, contract_rule, condition_rule, return_rule, jump_rule, throw_rule, caught_rule, then_rule, declaration_rule, parameter_rule, super_constructor_rule, implied_rule}
 use Rattle.kr_types_meaning.specs.Typing.{Judged, on_one, on_two, on_list, on_maybe, joined, has_constructor, class_rule}
 use Rattle.kr_ast.specs.declared.node.Node.{Node}
 use Rattle.kr_ast.specs.Arena.{parts}
@@ -54,6 +54,9 @@ plain l = note Untyped l
 
 abbrev pub test : Place → Note → Option Fault → Note
 test p c more = concluded p (on_one condition_rule c.typed) (sooner c.least more)
+
+abbrev pub signals : Place → Scope → Tree → Note → Note → Note
+signals p s d x y = concluded p (on_one (λ t. then_rule (contract_rule s t) (caught_rule s 43 (caught_type s d))) y.typed) (sooner x.least y.least)
 
 abbrev pub both : Note → Note → Note
 both x y = note (joined x.typed y.typed) (sooner x.least y.least)
@@ -112,6 +115,9 @@ noted s (trees.IfElse p c a b) look = test p (look 0) (sooner (look 1).least (lo
 noted s (trees.While p c a) look = test p (look 0) (look 1).least
 noted s (trees.Do p a c) look = test p (look 1) (look 0).least
 noted s (trees.For p i c u a) look = test p (look 1) (sooner (sooner (look 0).least (look 2).least) (look 3).least)
+noted s (trees.Throw p e) look = one p (throw_rule s) (look 0)
+noted s (trees.Try p b cs) look = plain (sooner (look 0).least (look 1).least)
+noted s (trees.Catch p d b) look = concluded p (caught_rule s 42 (caught_type s d)) (sooner (look 0).least (look 1).least)
 noted s (trees.ConstructorCall p es) look = list p (super_constructor_rule s) (look 0)
 noted s (trees.Class p n e ms) look = concluded p (class_rule (has_constructor (in_class n s)) (in_class n s)) (look 1).least
 noted s (trees.Field p st fi t ds) look = plain (sooner (look 0).least (look 1).least)
@@ -121,6 +127,7 @@ noted s (trees.Parameter p t n) look = concluded p (parameter_rule s n) (look 0)
 noted s (trees.Constructor p ps call b) look = concluded p (on_maybe (λ t. implied_rule s) (look 1).typed) (sooner (sooner (look 0).least (look 1).least) (look 2).least)
 noted s (trees.Requires p e) look = one p (contract_rule s) (look 0)
 noted s (trees.Ensures p e) look = one p (contract_rule s) (look 0)
+noted s (trees.Signals p d e) look = signals p s d (look 0) (look 1)
 
 -- the parts of a node, in order
 abbrev pub parts_of : Tree → List Tree
@@ -154,6 +161,9 @@ parts_of (trees.IfElse p a b c) = a ∷ b ∷ c ∷ []
 parts_of (trees.While p a b) = a ∷ b ∷ []
 parts_of (trees.Do p a b) = a ∷ b ∷ []
 parts_of (trees.For p a b c d) = a ∷ b ∷ c ∷ d ∷ []
+parts_of (trees.Throw p a) = a ∷ []
+parts_of (trees.Try p a b) = a ∷ b ∷ []
+parts_of (trees.Catch p a b) = a ∷ b ∷ []
 parts_of (trees.ConstructorCall p a) = a ∷ []
 parts_of (trees.Class p n a b) = a ∷ b ∷ []
 parts_of (trees.Field p st fi a b) = a ∷ b ∷ []
@@ -163,6 +173,7 @@ parts_of (trees.Parameter p a n) = a ∷ []
 parts_of (trees.Constructor p a b c) = a ∷ b ∷ c ∷ []
 parts_of (trees.Requires p a) = a ∷ []
 parts_of (trees.Ensures p a) = a ∷ []
+parts_of (trees.Signals p a b) = a ∷ b ∷ []
 parts_of _ = []
 
 -- the note at an index, and that of a part of a node

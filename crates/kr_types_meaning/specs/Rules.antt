@@ -2,6 +2,8 @@
 -- 15).
 use Rattle.std.specs.Prelude.{ℕ, Bool, true, false, ◌&&◌, ◌||◌, not, List, [], ◌∷◌, nat_lt, bytes_eq, if◌then◌else◌, Option, Some, None, option_and_then, is_some, codes}
 use Rattle.kr_base.specs.declared.place.Place.{Place}
+use Rattle.kr_base.specs.Places.{nowhere}
+use Rattle.kr_ast.specs.Tree.{NamedType}
 use Rattle.kr_ast.specs.declared.node.UnaryOperator.{UnaryOperator}
 use Rattle.kr_ast.specs.declared.node.UnaryOperator.TheVariants.{Not}
 use Rattle.kr_ast.specs.declared.node.BinaryOperator.{BinaryOperator}
@@ -13,7 +15,7 @@ use Rattle.kr_classes_table.specs.Constants.{value_at}
 use Rattle.kr_types_meaning.specs.declared.operators.OperatorKind.{OperatorKind}
 use Rattle.kr_types_meaning.specs.declared.operators.OperatorKind.TheVariants.{Arithmetic, Shift, Comparison, Equality, Bitwise, Logical}
 use Rattle.kr_types_meaning.specs.Promotion.{promoted, promoted_alone, is_number, are_numbers}
-use Rattle.kr_types_meaning.specs.Scopes.{Scope, Role, AsStatement, UnderMinus, Part, Code, Ensuring, Declaring, Locals, Fields, Constants, Meant, LocalName, FieldName, NoName, meant, super_class, super_parameters}
+use Rattle.kr_types_meaning.specs.Scopes.{Scope, Role, AsStatement, UnderMinus, Part, Code, Ensuring, Signalling, Declaring, Locals, Fields, Constants, Meant, LocalName, FieldName, NoName, meant, super_class, super_parameters, written}
 
 -- ---- the facts known of a node
 
@@ -77,6 +79,12 @@ is_code part = false
 abbrev pub is_ensuring : Part → Bool
 is_ensuring Ensuring = true
 is_ensuring part = false
+
+-- whether it comes after the body
+abbrev pub is_after_body : Part → Bool
+is_after_body Ensuring = true
+is_after_body Signalling = true
+is_after_body part = false
 
 abbrev pub is_under_minus : Role → Bool
 is_under_minus UnderMinus = true
@@ -315,9 +323,9 @@ array_creation_rule s t n = ask (is_int n) 27 (ask (is_code s.part) 39 (Fits (Va
 abbrev pub result_value_rule : Scope → Judgement
 result_value_rule s = ask (is_ensuring s.part && not (is_void s.result) && not s.is_in_old) 38 (gives s.result)
 
--- T38: `\old` only in `ensures`, and not in `\old`
+-- T38: `\old` only in `ensures` and `signals`, and not in `\old`
 abbrev pub old_rule : Scope → JavaType → Judgement
-old_rule s t = ask (is_ensuring s.part && not s.is_in_old) 38 (Fits (Value t))
+old_rule s t = ask (is_after_body s.part && not s.is_in_old) 38 (Fits (Value t))
 
 -- T28: boolean; T40: before instance methods only
 abbrev pub contract_rule : Scope → JavaType → Judgement
@@ -341,6 +349,23 @@ return_rule s (Some t) = ask (takes s s.result t) 30 fine
 -- T31: in a loop
 abbrev pub jump_rule : Scope → Judgement
 jump_rule s = ask s.is_in_loop 31 fine
+
+-- the class of all that is thrown
+abbrev pub throwable : Scope → JavaType
+throwable s = written s (NamedType nowhere (codes "Throwable"))
+
+-- T41: what is thrown is of class Throwable or one below it
+abbrev pub throw_rule : Scope → JavaType → Judgement
+throw_rule s t = ask (is_assignable s.table t (throwable s)) 41 fine
+
+-- T42 of `catch`, T43 of `signals`: the class is Throwable or one below it
+abbrev pub caught_rule : Scope → ℕ → JavaType → Judgement
+caught_rule s r t = ask (not (is_known t) || is_assignable s.table t (throwable s)) r fine
+
+-- a rule that is looked at where the one before it isn't broken
+abbrev pub then_rule : Judgement → Judgement → Judgement
+then_rule (Breaks r) v = Breaks r
+then_rule (Fits t) v = v
 
 abbrev pub initial_fits : Scope → Option JavaType → Bool
 initial_fits s None = true

@@ -21,6 +21,7 @@ pub data Part : Type 0 where
   Code : Part
   Requiring : Part
   Ensuring : Part
+  Signalling : Part
 
 -- the kind of item that a declarator declares
 pub data Declaring : Type 0 where
@@ -66,6 +67,11 @@ scope_of table values class = record {
 
 abbrev pub written : Scope → Tree → JavaType
 written s type = type_named s.table.headings type
+
+-- the type that a `catch` or a `signals` names
+abbrev pub caught_type : Scope → Tree → JavaType
+caught_type s (trees.Parameter p t n) = written s t
+caught_type s t = written s t
 
 -- ---- scopes that a node hands to its parts
 
@@ -115,6 +121,10 @@ after s (trees.Declarator p n e) = bind_as s.declaring n s
 after s (trees.Parameter p t n) = bind_local n (written s t) s
 after s (trees.Signature p r ps cs) = record (after s ps) { result = written s r }
 after s _ = s
+
+-- the scope of the condition of a `signals`, by what it declares
+abbrev pub in_signals : Tree → Scope → Scope
+in_signals d s = in_contract Signalling (after s d)
 
 -- ---- what names mean
 

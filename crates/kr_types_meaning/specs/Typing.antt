@@ -11,8 +11,8 @@ use Rattle.kr_classes_table.specs.Types.{JavaType, BooleanType, NullType, Inferr
 use Rattle.kr_classes_table.specs.Table.{Table, applied, class_at, table_of, field_named, method_named}
 use Rattle.kr_classes_table.specs.Rules.{Fault, least, class_fault}
 use Rattle.kr_classes_table.specs.Constants.{values_of}
-use Rattle.kr_types_meaning.specs.Scopes.{Scope, Requiring, Ensuring, Locals, scope_of, written, in_class, static_if, value, statement, under_minus, in_loop, in_contract, in_old, declaring, field_kind, bind_as, after, meant, class_before, method_meant}
-use Rattle.kr_types_meaning.specs.Rules.{Typed, Untyped, Value, Variable, Values, Judgement, Fits, Breaks, fine, type_rule, diamond_rule, array_rule, number_rule, this_rule, name_rule, unary_rule, operator_rule, choice_rule, cast_rule, instance_rule, assignment_rule, compound_rule, step_rule, access_rule, constant_rule, element_rule, call_rule, static_rule, super_rule, object_call_rule, creation_rule, array_creation_rule, result_value_rule, old_rule, contract_rule, condition_rule, return_rule, jump_rule, declaration_rule, parameter_rule, super_constructor_rule, implied_rule}
+use Rattle.kr_types_meaning.specs.Scopes.{Scope, Requiring, Ensuring, Locals, scope_of, written, caught_type, in_class, static_if, value, statement, under_minus, in_loop, in_contract, in_signals, in_old, declaring, field_kind, bind_as, after, meant, class_before, method_meant}
+use Rattle.kr_types_meaning.specs.Rules.{Typed, Untyped, Value, Variable, Values, Judgement, Fits, Breaks, fine, type_rule, diamond_rule, array_rule, number_rule, this_rule, name_rule, unary_rule, operator_rule, choice_rule, cast_rule, instance_rule, assignment_rule, compound_rule, step_rule, access_rule, constant_rule, element_rule, call_rule, static_rule, super_rule, object_call_rule, creation_rule, array_creation_rule, result_value_rule, old_rule, contract_rule, condition_rule, return_rule, jump_rule, throw_rule, caught_rule, then_rule, declaration_rule, parameter_rule, super_constructor_rule, implied_rule}
 
 -- the judgement of a node, and the broken nodes in it
 pub record Judged : Type 0 where
@@ -73,6 +73,10 @@ plain below = record { typed = Untyped; faults = below }
 
 abbrev pub test : Place → Judged → List Fault → Judged
 test p c more = judge p (on_one condition_rule c.typed) (c.faults ++ more)
+
+-- a `signals` clause, with what it declares and its condition
+abbrev pub signals : Place → Scope → Tree → Judged → Judged → Judged
+signals p s d x y = judge p (on_one (λ t. then_rule (contract_rule s t) (caught_rule s 43 (caught_type s d))) y.typed) (x.faults ++ y.faults)
 
 abbrev pub joined : Typed → Typed → Typed
 joined (Value t) (Values ts) = Values (t ∷ ts)
@@ -152,6 +156,9 @@ judged s (trees.While p c a) = test p (judged s c) (judged (in_loop s) a).faults
 judged s (trees.Do p a c) = test p (judged s c) (judged (in_loop s) a).faults
 judged s (trees.For p i c u a) =
     test p (judged (after s i) c) ((judged s i).faults ++ (judged (statement (after s i)) u).faults ++ (judged (in_loop (after s i)) a).faults)
+judged s (trees.Throw p e) = one p (throw_rule s) (judged s e)
+judged s (trees.Try p b cs) = plain ((judged s b).faults ++ (judged s cs).faults)
+judged s (trees.Catch p d b) = judge p (caught_rule s 42 (caught_type s d)) ((judged s d).faults ++ (judged (after s d) b).faults)
 judged s (trees.ConstructorCall p es) = list p (super_constructor_rule s) (judged s es)
 -- declarations
 judged s (trees.Class p n e ms) = judge p (class_rule (has_constructor (in_class n s)) (in_class n s)) (judged (in_class n s) ms).faults
@@ -163,6 +170,7 @@ judged s (trees.Constructor p ps call b) =
     judge p (on_maybe (λ t. implied_rule s) (judged (after s ps) call).typed) ((judged s ps).faults ++ (judged (after s ps) call).faults ++ (judged (after s ps) b).faults)
 judged s (trees.Requires p e) = one p (contract_rule s) (judged (in_contract Requiring s) e)
 judged s (trees.Ensures p e) = one p (contract_rule s) (judged (in_contract Ensuring s) e)
+judged s (trees.Signals p d e) = signals p s d (judged s d) (judged (in_signals d s) e)
 
 -- ---- whole programs
 

@@ -1,6 +1,7 @@
 // Theorems on the typing rules.
 ghost use Rattle.kr_types_meaning.specs.Laws.{WellTypedLaw, TypesLaw};
 ghost use Rattle.kr_types_meaning.specs.Examples.{Worked};
+ghost use Rattle.kr_types_meaning.specs.Exceptions.{Worked as Exceptions};
 ghost use Rattle.kr_types_meaning.specs.Meanings.{Meanings};
 
 /// A program is well typed exactly where none of its nodes is the first broken one.
@@ -25,4 +26,10 @@ pub fn worked_examples()
 #[tactic(auto, using(crate::proofs::Meanings::meanings))]
 pub fn worked_meanings()
     ensures { Meanings }
+{}
+
+/// Sources with `throw`, `try` and `signals`, and the first rule that each breaks.
+#[tactic(auto, using(crate::proofs::Exceptions::worked))]
+pub fn worked_exceptions()
+    ensures { Exceptions }
 {}

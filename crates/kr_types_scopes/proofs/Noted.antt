@@ -8,8 +8,8 @@ use Rattle.kr_ast.specs.Tree.{Tree}
 use Rattle.kr_classes_table.specs.Types.{JavaType}
 use Rattle.kr_classes_table.specs.Rules.{Fault, is_before, sooner, least}
 use Rattle.kr_classes_table.specs.Table.{applied, method_named}
-use Rattle.kr_types_meaning.specs.Scopes.{Scope, written, class_before, method_meant}
-use Rattle.kr_types_meaning.specs.Rules.{Typed, Untyped, Judgement, Fits, Breaks, type_rule, array_rule, unary_rule, operator_rule, choice_rule, cast_rule, instance_rule, assignment_rule, compound_rule, step_rule, access_rule, element_rule, call_rule, static_rule, super_rule, object_call_rule, creation_rule, array_creation_rule, old_rule, contract_rule, condition_rule, return_rule, declaration_rule, super_constructor_rule, implied_rule}
+use Rattle.kr_types_meaning.specs.Scopes.{Scope, written, class_before, method_meant, caught_type}
+use Rattle.kr_types_meaning.specs.Rules.{Typed, Untyped, Judgement, Fits, Breaks, type_rule, array_rule, unary_rule, operator_rule, choice_rule, cast_rule, instance_rule, assignment_rule, compound_rule, step_rule, access_rule, element_rule, call_rule, static_rule, super_rule, object_call_rule, creation_rule, array_creation_rule, old_rule, contract_rule, condition_rule, return_rule, declaration_rule, super_constructor_rule, implied_rule, throw_rule, caught_rule, then_rule}
 use Rattle.kr_types_meaning.specs.Typing as typing
 use Rattle.kr_types_meaning.specs.Typing.{Judged, judge, judged, on_one, on_two, on_list, on_maybe}
 use Rattle.kr_types_meaning.specs.Noting.{Note, note, kept, concluded, one, two, three, one_and_list, list, maybe, plain, test, both, field_of, method_of, noted, parts_of}
@@ -164,6 +164,9 @@ module _ (s : Scope) (look : ℕ → Note) where
   noted_is (trees.Do p a c) h = test_is p (known (trees.Do p a c) h 1 c refl) (only (known (trees.Do p a c) h 0 a refl))
   noted_is (trees.For p i c u a) h =
       test_is p (known (trees.For p i c u a) h 1 c refl) (beside (beside (only (known (trees.For p i c u a) h 0 i refl)) (only (known (trees.For p i c u a) h 2 u refl))) (only (known (trees.For p i c u a) h 3 a refl)))
+  noted_is (trees.Throw p e) h = one_is p (throw_rule s) (known (trees.Throw p e) h 0 e refl)
+  noted_is (trees.Try p b cs) h = plain_is (beside (only (known (trees.Try p b cs) h 0 b refl)) (only (known (trees.Try p b cs) h 1 cs refl)))
+  noted_is (trees.Catch p d b) h = judge_is p refl (beside (only (known (trees.Catch p d b) h 0 d refl)) (only (known (trees.Catch p d b) h 1 b refl)))
   noted_is (trees.ConstructorCall p es) h = list_is p (super_constructor_rule s) (known (trees.ConstructorCall p es) h 0 es refl)
   noted_is (trees.Class p n e ms) h = judge_is p refl (only (known (trees.Class p n e ms) h 1 ms refl))
   noted_is (trees.Field p st fi t ds) h = plain_is (beside (only (known (trees.Field p st fi t ds) h 0 t refl)) (only (known (trees.Field p st fi t ds) h 1 ds refl)))
@@ -175,3 +178,6 @@ module _ (s : Scope) (look : ℕ → Note) where
       (beside (beside (only (known (trees.Constructor p ps call b) h 0 ps refl)) (only (known (trees.Constructor p ps call b) h 1 call refl))) (only (known (trees.Constructor p ps call b) h 2 b refl)))
   noted_is (trees.Requires p e) h = one_is p (contract_rule s) (known (trees.Requires p e) h 0 e refl)
   noted_is (trees.Ensures p e) h = one_is p (contract_rule s) (known (trees.Ensures p e) h 0 e refl)
+  noted_is (trees.Signals p d e) h =
+      judge_is p (ap (on_one (λ t. then_rule (contract_rule s t) (caught_rule s 43 (caught_type s d)))) (typed_is (known (trees.Signals p d e) h 1 e refl)))
+      (beside (only (known (trees.Signals p d e) h 0 d refl)) (only (known (trees.Signals p d e) h 1 e refl)))

@@ -31,14 +31,17 @@ after_stays s text look p (nodes.Parameter a n) c l g d m = absurd (m a n refl)
 after_stays s text look p _ c l g d m = refl
 
 pub plain_of : (n : Node) → ((a b : ℕ) → n ≡ nodes.Cons a b → ⊥) → ((x : Name) (a : ℕ) → n ≡ nodes.Declarator x a → ⊥) → ((a b c d : ℕ) → n ≡ nodes.For a b c d → ⊥)
-    → ((st : _) (x : Name) (a b : ℕ) → n ≡ nodes.Method st x a b → ⊥) → ((a b c : ℕ) → n ≡ nodes.Signature a b c → ⊥) → ((a b c : ℕ) → n ≡ nodes.Constructor a b c → ⊥) → IsPlain n
-plain_of (nodes.Cons a b) c d f m s k = c a b refl
-plain_of (nodes.Declarator x a) c d f m s k = d x a refl
-plain_of (nodes.For x y z u) c d f m s k = f x y z u refl
-plain_of (nodes.Method st x a b) c d f m s k = m st x a b refl
-plain_of (nodes.Signature x y z) c d f m s k = s x y z refl
-plain_of (nodes.Constructor x y z) c d f m s k = k x y z refl
-plain_of _ c d f m s k = tt
+    → ((st : _) (x : Name) (a b : ℕ) → n ≡ nodes.Method st x a b → ⊥) → ((a b c : ℕ) → n ≡ nodes.Signature a b c → ⊥) → ((a b c : ℕ) → n ≡ nodes.Constructor a b c → ⊥)
+    → ((a b : ℕ) → n ≡ nodes.Catch a b → ⊥) → ((a b : ℕ) → n ≡ nodes.Signals a b → ⊥) → IsPlain n
+plain_of (nodes.Cons a b) c d f m s k t u = c a b refl
+plain_of (nodes.Declarator x a) c d f m s k t u = d x a refl
+plain_of (nodes.For x y z w) c d f m s k t u = f x y z w refl
+plain_of (nodes.Method st x a b) c d f m s k t u = m st x a b refl
+plain_of (nodes.Signature x y z) c d f m s k t u = s x y z refl
+plain_of (nodes.Constructor x y z) c d f m s k t u = k x y z refl
+plain_of (nodes.Catch a b) c d f m s k t u = t a b refl
+plain_of (nodes.Signals a b) c d f m s k t u = u a b refl
+plain_of _ c d f m s k t u = tt
 
 -- which part it is
 pub second_first : (j : ℕ) (s t : Scope) → j ≡ 0 → second j s t ≡ s
@@ -76,6 +79,8 @@ plain_handed g at s p (nodes.For a b c d) j t e h = absurd h
 plain_handed g at s p (nodes.Method x n a b) j t e h = absurd h
 plain_handed g at s p (nodes.Signature a b c) j t e h = absurd h
 plain_handed g at s p (nodes.Constructor a b c) j t e h = absurd h
+plain_handed g at s p (nodes.Catch a b) j t e h = absurd h
+plain_handed g at s p (nodes.Signals a b) j t e h = absurd h
 plain_handed g at s p (nodes.ObjectCreation a b) j t e h = refl
 plain_handed g at s p (nodes.ArrayCreation a b) j t e h = refl
 plain_handed g at s p (nodes.Cast a b) j t e h = refl

@@ -45,6 +45,7 @@ abbrev pub part_of : Part → typing.Part
 part_of parts.Code = typing.Code
 part_of parts.Requiring = typing.Requiring
 part_of parts.Ensuring = typing.Ensuring
+part_of parts.Signalling = typing.Signalling
 
 abbrev pub role_of : Role → typing.Role
 role_of roles.AsValue = typing.AsValue

@@ -43,6 +43,8 @@ IsPlain (nodes.For a b c d) = ⊥
 IsPlain (nodes.Method x n a b) = ⊥
 IsPlain (nodes.Signature a b c) = ⊥
 IsPlain (nodes.Constructor a b c) = ⊥
+IsPlain (nodes.Catch a b) = ⊥
+IsPlain (nodes.Signals a b) = ⊥
 IsPlain _ = Unit {0}
 
 -- one binding more, of that name and type node, upon those of a scope

@@ -4,14 +4,14 @@ ghost use Rattle.kr_ast.specs.Arena.{tree_in};
 ghost use Rattle.kr_types_meaning.specs.Scopes.{after};
 ghost use Rattle.kr_types_scopes.specs.declared.within.Binding.{Binding};
 ghost use Rattle.kr_types_scopes.specs.Settings.{Setting, IsChain, scope_in};
-ghost use Rattle.kr_types_meaning.specs.Handing.{handed, second, third, for_part};
+ghost use Rattle.kr_types_meaning.specs.Handing.{handed, second, third, for_part, signals_part};
 ghost use Rattle.kr_types_scopes.specs.Tasks.{IsStep, HandsPlainly};
 
 use crate::after::after;
 use crate::bindings::bind_declared;
 use crate::change::{apply, first_change, rest_change};
 use crate::tasks::Tasks;
-use crate::within::{Binding, Role, Within};
+use crate::within::{Binding, Part, Role, Within};
 use kr_ast::{Node, Tree};
 use kr_base::NoMemory;
 
@@ -73,6 +73,17 @@ fn in_for(here: &mut Within, position: u8)
     }
 }
 
+/// Turns a scope into that of a part of a `signals` clause, after what it declares.
+fn in_signals(here: &mut Within, position: u8)
+    ensures top { here.new.top ≡ here.old.top }
+    ensures scope { (g : Setting) (bs : List Binding) → scope_in g bs here.new ≡ signals_part position (scope_in g bs here.old) }
+{
+    if position > 0 {
+        here.part = Part::Signalling;
+        here.role = Role::AsValue;
+    }
+}
+
 /// Turns a scope into that of a part of a node that declares no local.
 fn plainly(here: &mut Within, at: u32, node: Node, position: u8)
     ensures top { here.new.top ≤ here.old.top }
@@ -120,6 +131,14 @@ pub(crate) fn hand_on(
             after_first(tree, bindings, tasks, here, signature, position)
         }
         Node::Signature { .. } => after_signature(tree, bindings, tasks, here, node, position),
+        Node::Catch { declared, .. } => {
+            after_first(tree, bindings, tasks, here, declared, position)
+        }
+        Node::Signals { declared, .. } => {
+            after_first(tree, bindings, tasks, here, declared, position)?;
+            in_signals(here, position);
+            Ok(())
+        }
         Node::Constructor { parameters, .. } => {
             after_first(tree, bindings, tasks, here, parameters, position)
         }

@@ -65,7 +65,7 @@ pub(crate) fn stays(tree: &Tree, role: Role, node: u32, position: u8) -> bool
         Node::Cons { first, .. } => position == 0 || leaves_scope(tree.entry(first).node),
         Node::Declarator { .. } | Node::For { .. } | Node::Method { .. } => false,
         Node::Signature { .. } => position < 2,
-        Node::Constructor { .. } => position == 0,
+        Node::Constructor { .. } | Node::Catch { .. } | Node::Signals { .. } => position == 0,
         _ => stays_plainly(above, position, role),
     }
 }

@@ -10,6 +10,7 @@ pub enum Part {
     Code,
     Requiring,
     Ensuring,
+    Signalling,
 }
 
 /// The role of an expression: a value, a statement, or the operand of a unary minus.

@@ -1,16 +1,7 @@
 // The notes of classes and constructors with an implicit call of the superclass's constructor.
 ghost use Rattle.std.specs.Prelude.{◌≡◌, ℕ};
-ghost use Rattle.kr_classes_table.specs.Rules.{sooner};
 ghost use Rattle.kr_types_meaning.specs.Rules as rules;
-ghost use Rattle.kr_types_meaning.specs.Scopes.{Scope, in_class};
-ghost use Rattle.kr_types_meaning.specs.Typing.{class_rule, has_constructor, on_maybe};
-ghost use Rattle.kr_types_meaning.specs.Noting.{concluded};
-ghost use Rattle.kr_classes_names.specs.Shown.{AreHeads};
-ghost use Rattle.kr_classes_members.specs.Shown.{table_in};
-ghost use Rattle.kr_types_judging.specs.Classes.{AreClassTypes};
-ghost use Rattle.kr_types_judging.specs.Shown.{HasNoRest, IsNoteWithin, IsVerdictWithin, note_shown, verdict_shown};
-ghost use Rattle.kr_types_expressions.specs.Constructors.{AreSingle};
-ghost use Rattle.kr_types_expressions.specs.Links.{IsLinked};
+ghost use Rattle.kr_types_statements.specs.Vocabulary.{AreClassTypes, AreHeads, AreSingle, class_rule, concluded, has_constructor, HasNoRest, in_class, IsLinked, IsNoteWithin, IsVerdictWithin, note_shown, on_maybe, Scope, sooner, table_in, verdict_shown};
 
 use crate::parts::maybe_type;
 use kr_ast::Tree;

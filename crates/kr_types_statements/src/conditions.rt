@@ -1,9 +1,7 @@
 // The notes of statements with a condition, from those of their parts.
 ghost use Rattle.std.specs.Prelude.{◌≡◌, ℕ};
-ghost use Rattle.kr_classes_table.specs.Rules.{sooner};
 ghost use Rattle.kr_types_meaning.specs.Rules as rules;
-ghost use Rattle.kr_types_meaning.specs.Noting.{test};
-ghost use Rattle.kr_types_judging.specs.Shown.{HasNoRest, IsNoteWithin, note_shown};
+ghost use Rattle.kr_types_statements.specs.Vocabulary.{HasNoRest, IsNoteWithin, note_shown, sooner, test};
 
 use kr_base::Place;
 use kr_classes_names::Types;

@@ -1,20 +1,7 @@
 // The notes of declarators and parameters.
 ghost use Rattle.std.specs.Prelude.{◌≡◌, ◌<◌, ℕ, List, Option, IfSome, length, option_map, is_some};
-ghost use Rattle.kr_ast.specs.Arena.{Arena};
-ghost use Rattle.kr_classes_table.specs.Constants.{Known, value_at};
 ghost use Rattle.kr_types_meaning.specs.Rules as rules;
-ghost use Rattle.kr_types_meaning.specs.Scopes.{meant};
-ghost use Rattle.kr_types_meaning.specs.Noting.{concluded, maybe};
-ghost use Rattle.kr_types_scopes.specs.Settings.{declaring_of, setting};
-ghost use Rattle.kr_types_scopes.specs.Scoped.{AreScopes, scope_at};
-ghost use Rattle.kr_ast.specs.Files.{file_at};
-ghost use Rattle.kr_classes_members.specs.Shown.{table_in};
-ghost use Rattle.kr_classes_members.specs.Kept.{AreMembers};
-ghost use Rattle.kr_classes_names.specs.Types.{count, type_at};
-ghost use Rattle.kr_classes_constants.specs.Kept.{AreValues};
-ghost use Rattle.kr_types_judging.specs.Classes.{AreClassTypes};
-ghost use Rattle.kr_types_judging.specs.Shown.{HasNoRest, IsNoteWithin, IsVerdictWithin, note_shown, verdict_shown};
-ghost use Rattle.kr_types_expressions.specs.Links.{IsLinked};
+ghost use Rattle.kr_types_statements.specs.Vocabulary.{AreClassTypes, AreMembers, Arena, AreScopes, AreValues, concluded, count, declaring_of, file_at, HasNoRest, IsLinked, IsNoteWithin, IsVerdictWithin, Known, maybe, meant, note_shown, scope_at, setting, table_in, type_at, value_at, verdict_shown};
 ghost use Rattle.kr_types_statements.specs.Declared.{declares};
 ghost use Rattle.kr_types_statements.specs.Maybe.{types_in, with_maybe};
 

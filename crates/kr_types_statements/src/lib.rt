@@ -7,6 +7,7 @@ mod declarators;
 mod parts;
 mod plain;
 mod results;
+mod throws;
 mod types;
 mod writes;
 
@@ -15,5 +16,6 @@ pub use conditions::{for_note, if_else_note, if_then_note};
 pub use declarators::{declarator_note, parameter_note};
 pub use plain::{one_part_note, three_parts_note, two_parts_note};
 pub use results::{result_note, return_note};
+pub use throws::{catch_note, signals_note, throw_note};
 pub use types::{array_type_note, diamond_type_note, generic_type_note, named_type_note};
 pub use writes::{assignment_note, compound_note, step_note};

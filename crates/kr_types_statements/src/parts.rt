@@ -1,11 +1,7 @@
 // The facts known of a part that may be absent.
 ghost use Rattle.std.specs.Prelude.{◌≡◌, ◌<◌, ℕ, Option, IfSome};
-ghost use Rattle.kr_classes_table.specs.Types.{JavaType};
 ghost use Rattle.kr_types_meaning.specs.Rules as rules;
-ghost use Rattle.kr_types_meaning.specs.Typing.{on_maybe};
-ghost use Rattle.kr_classes_names.specs.Types.{TypeList, count};
-ghost use Rattle.kr_types_judging.specs.Shown.{IsKnownWithin, known_shown};
-ghost use Rattle.kr_types_expressions.specs.Links.{IsLinked};
+ghost use Rattle.kr_types_statements.specs.Vocabulary.{count, IsKnownWithin, IsLinked, JavaType, known_shown, on_maybe, TypeList};
 ghost use Rattle.kr_types_statements.specs.Maybe.{types_in, with_maybe};
 
 use kr_classes_table::TypeId;

@@ -1,10 +1,7 @@
 // Nodes without a rule of their own: the first broken node of their parts.
 ghost use Rattle.std.specs.Prelude.{◌≡◌, ℕ};
-ghost use Rattle.kr_classes_table.specs.Rules.{sooner};
 ghost use Rattle.kr_types_meaning.specs.Rules as rules;
-ghost use Rattle.kr_types_meaning.specs.Noting.{plain};
-ghost use Rattle.kr_classes_names.specs.Types.{TypeList};
-ghost use Rattle.kr_types_judging.specs.Shown.{HasNoRest, IsNoteWithin, note_shown};
+ghost use Rattle.kr_types_statements.specs.Vocabulary.{HasNoRest, IsNoteWithin, note_shown, plain, sooner, TypeList};
 
 use kr_types_judging::{Note, earlier, plain};
 

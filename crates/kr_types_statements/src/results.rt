@@ -1,18 +1,7 @@
 // The notes of `return` and `\result`.
 ghost use Rattle.std.specs.Prelude.{◌≡◌, ◌<◌, ℕ, List, IfSome};
-ghost use Rattle.kr_ast.specs.Arena.{Arena};
 ghost use Rattle.kr_types_meaning.specs.Rules as rules;
-ghost use Rattle.kr_types_meaning.specs.Noting.{leaf, maybe};
-ghost use Rattle.kr_types_scopes.specs.Settings.{Setting, scope_in, type_there};
-ghost use Rattle.kr_types_scopes.specs.declared.within.Binding.{Binding};
-ghost use Rattle.kr_ast.specs.Files.{file_at};
-ghost use Rattle.kr_classes_members.specs.Shown.{table_in};
-ghost use Rattle.kr_classes_members.specs.Kept.{AreMembers};
-ghost use Rattle.kr_classes_names.specs.Types.{count, type_at};
-ghost use Rattle.kr_classes_names.specs.Numbers.{AreNodeTypes};
-ghost use Rattle.kr_types_judging.specs.Classes.{AreClassTypes};
-ghost use Rattle.kr_types_judging.specs.Shown.{HasNoRest, IsNoteWithin, IsVerdictWithin, note_shown, verdict_shown};
-ghost use Rattle.kr_types_expressions.specs.Links.{IsLinked};
+ghost use Rattle.kr_types_statements.specs.Vocabulary.{AreClassTypes, AreMembers, Arena, AreNodeTypes, Binding, count, file_at, HasNoRest, IsLinked, IsNoteWithin, IsVerdictWithin, leaf, maybe, note_shown, scope_in, Setting, table_in, type_at, type_there, verdict_shown};
 ghost use Rattle.kr_types_statements.specs.Maybe.{types_in, with_maybe};
 
 use crate::parts::maybe_type;

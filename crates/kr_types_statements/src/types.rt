@@ -1,16 +1,7 @@
 // The notes of types as written.
 ghost use Rattle.std.specs.Prelude.{◌≡◌, ◌<◌, ℕ, IfOk, IfSome, option_map};
-ghost use Rattle.kr_ast.specs.Arena.{tree_in};
-ghost use Rattle.kr_classes_table.specs.Table.{applied};
 ghost use Rattle.kr_types_meaning.specs.Rules as rules;
-ghost use Rattle.kr_types_meaning.specs.Scopes.{Scope, written};
-ghost use Rattle.kr_types_meaning.specs.Noting.{leaf, one};
-ghost use Rattle.kr_ast.specs.Files.{file_at};
-ghost use Rattle.kr_classes_members.specs.Shown.{table_in};
-ghost use Rattle.kr_classes_names.specs.Types.{Extends, count, type_at};
-ghost use Rattle.kr_classes_names.specs.Numbers.{AreNodeTypes};
-ghost use Rattle.kr_types_judging.specs.Shown.{HasNoRest, IsNoteWithin, IsVerdictWithin, note_shown, verdict_shown};
-ghost use Rattle.kr_types_expressions.specs.Parts.{with_one};
+ghost use Rattle.kr_types_statements.specs.Vocabulary.{applied, AreNodeTypes, count, Extends, file_at, HasNoRest, IsNoteWithin, IsVerdictWithin, leaf, note_shown, one, Scope, table_in, tree_in, type_at, verdict_shown, with_one, written};
 
 use kr_ast::Tree;
 use kr_base::{NoMemory, Place};

@@ -15,7 +15,6 @@ import com.sun.source.tree.NewArrayTree;
 import com.sun.source.tree.NewClassTree;
 import com.sun.source.tree.ReturnTree;
 import com.sun.source.tree.StatementTree;
-import com.sun.source.tree.ThrowTree;
 import com.sun.source.tree.Tree;
 import com.sun.source.tree.UnaryTree;
 import com.sun.source.util.TreeScanner;
@@ -102,6 +101,7 @@ final class Checks {
 
         @Override
         public Void visitNewClass(NewClassTree tree, Void nothing) {
+            if (program.element(tree) instanceof ExecutableElement maker && Thrown.dropsArguments(program, maker)) return null;
             checkMembers(tree, program.type(tree), Program.classOf(program.element(tree)).getSimpleName().toString());
             for (ExpressionTree argument : tree.getArguments()) if (!program.isOwn(program.element(tree))) warnOfOrder(tree, aliases.collection(argument));
             return super.visitNewClass(tree, nothing);
@@ -110,6 +110,7 @@ final class Checks {
         @Override
         public Void visitMethodInvocation(MethodInvocationTree tree, Void nothing) {
             ExecutableElement called = (ExecutableElement) program.element(tree);
+            if (called != null && called.getKind() == ElementKind.CONSTRUCTOR && Thrown.dropsArguments(program, called)) return null;
             if (called != null && !program.isOwn(called)) {
                 ExpressionTree receiver = kinds.receiver(tree);
                 if (called.getSimpleName().contentEquals("iterator") && receiver != null) {
@@ -151,11 +152,6 @@ final class Checks {
         public Void visitUnary(UnaryTree tree, Void nothing) {
             if (tree.getKind().toString().matches("(PRE|POST)FIX.*")) writes.add(Program.bare(tree.getExpression()));
             return super.visitUnary(tree, nothing);
-        }
-
-        @Override
-        public Void visitThrow(ThrowTree tree, Void nothing) {
-            return null;
         }
 
         @Override

@@ -5,11 +5,13 @@ import com.sun.source.tree.ExpressionTree;
 import com.sun.source.tree.IfTree;
 import com.sun.source.tree.MethodTree;
 import com.sun.source.tree.StatementTree;
+import com.sun.source.tree.Tree;
 import com.sun.source.tree.VariableTree;
 import java.util.ArrayList;
 import java.util.LinkedHashMap;
 import java.util.List;
 import java.util.Map;
+import java.util.regex.MatchResult;
 import java.util.regex.Matcher;
 import java.util.regex.Pattern;
 import javax.lang.model.element.Element;
@@ -25,7 +27,10 @@ final class Clauses {
     private static final String BLOCK = "if (false /*korat$contract*/) {";
     private static final String RESULT = "korat$result";
     private static final String OLD = "korat$old";
-    private static final Pattern LINE = Pattern.compile("(//@\\s*(?:requires|ensures)\\b)(.*?);(?=\\s*(?://|$))", Pattern.MULTILINE);
+    private static final String THROWN = "korat$thrown";
+    private static final Pattern LINE = Pattern.compile("(//@\\s*(?:requires|ensures|signals)\\b)(.*?);(?=\\s*(?://|$))", Pattern.MULTILINE);
+    /** The class of an exception, and its name. */
+    private static final Pattern SIGNALS = Pattern.compile("\\s*\\(\\s*([\\p{L}\\p{N}_$.\\s]*?[\\p{L}\\p{N}_$])(?:\\s+([\\p{L}\\p{N}_$]+))?\\s*\\)");
     /** The clauses as they are rewritten, in the order of the source. */
     private final List<String> rewritten = new ArrayList<>();
 
@@ -37,7 +42,8 @@ final class Clauses {
         MethodTree tree = method == null ? null : program.trees.getTree(method);
         if (tree == null || tree.getBody() == null) return texts;
         Program.Source source = program.source(tree);
-        List<String> clauses = LINE.matcher(Contracts.gap(program, tree)).results().map(line -> line.group(2)).toList();
+        List<MatchResult> lines = LINE.matcher(Contracts.gap(program, tree)).results().toList();
+        List<String> clauses = lines.stream().map(line -> line.group(2)).toList();
         if (clauses.isEmpty() || clauses.stream().anyMatch(clause -> clause.contains("/*"))) return texts;
         StringBuilder block = new StringBuilder(" " + BLOCK);
         if (method.getReturnType().getKind() != TypeKind.VOID) {
@@ -47,8 +53,12 @@ final class Clauses {
         }
         int[] olds = {0};
         for (int at = 0; at < clauses.size(); at++) {
-            String text = withOlds(clauses.get(at).replace("\\result", RESULT), block, olds);
-            block.append(" boolean korat$clause").append(at).append(" = ").append(text.strip()).append(";");
+            String text = clauses.get(at).replace("\\result", RESULT);
+            Matcher signals = SIGNALS.matcher(text);
+            boolean thrown = lines.get(at).group(1).endsWith("signals") && signals.lookingAt();
+            text = withOlds(thrown ? text.substring(signals.end()) : text, block, olds);
+            if (thrown) block.append(" { ").append(signals.group(1)).append(" ").append(signals.group(2) == null ? THROWN : signals.group(2)).append(" = null;");
+            block.append(" boolean korat$clause").append(at).append(" = ").append(text.strip()).append(thrown ? "; }" : ";");
         }
         int open = program.start(tree.getBody()) + 1;
         Map<String, String> result = new LinkedHashMap<>(texts);
@@ -94,11 +104,33 @@ final class Clauses {
         for (StatementTree first : method.getBody().getStatements()) {
             if (!(first instanceof IfTree block) || !isBlock(program, block)) break;
             for (StatementTree statement : ((BlockTree) block.getThenStatement()).getStatements()) {
-                VariableTree variable = (VariableTree) statement;
+                VariableTree variable = condition(statement);
                 if (!variable.getName().contentEquals(RESULT)) found.add(variable.getInitializer());
             }
         }
         return found;
+    }
+
+    /** The variable of a clause; of `signals` it comes after that of the exception. */
+    private static VariableTree condition(StatementTree statement) {
+        return (VariableTree) (statement instanceof BlockTree signals ? signals.getStatements().get(1) : statement);
+    }
+
+    /** The classes that the `signals` clauses of a block name. */
+    static List<Tree> signalled(IfTree tree) {
+        List<Tree> found = new ArrayList<>();
+        for (StatementTree statement : ((BlockTree) tree.getThenStatement()).getStatements()) {
+            if (statement instanceof BlockTree signals) found.add(((VariableTree) signals.getStatements().get(0)).getType());
+        }
+        return found;
+    }
+
+    /** The class of the exception and its name, of `signals`. */
+    private static String head(StatementTree statement, Rewriter rewriter) {
+        if (!(statement instanceof BlockTree signals)) return "";
+        VariableTree thrown = (VariableTree) signals.getStatements().get(0);
+        String name = thrown.getName().contentEquals(THROWN) ? "" : " " + thrown.getName();
+        return "(" + rewriter.exception(thrown.getType()) + name + ") ";
     }
 
     static boolean isBlock(Program program, IfTree tree) {
@@ -109,7 +141,7 @@ final class Clauses {
     void take(IfTree tree, Rewriter rewriter, Expressions expressions, Program program, Library library) {
         Map<String, String> olds = new LinkedHashMap<>();
         for (StatementTree statement : ((BlockTree) tree.getThenStatement()).getStatements()) {
-            VariableTree variable = (VariableTree) statement;
+            VariableTree variable = condition(statement);
             String name = variable.getName().toString();
             if (name.equals(RESULT)) continue;
             boolean old = name.startsWith(OLD);
@@ -120,7 +152,7 @@ final class Clauses {
                         "let it call a method of the class that says it");
             }
             if (old) olds.put(name, "\\old(" + text + ")");
-            else rewritten.add(shown(text, olds));
+            else rewritten.add(head(statement, rewriter) + shown(text, olds));
         }
     }
 

@@ -1,13 +1,17 @@
 package adapt;
 
 import com.sun.source.tree.AssertTree;
+import com.sun.source.tree.CaseTree;
+import com.sun.source.tree.CatchTree;
 import com.sun.source.tree.ExpressionTree;
 import com.sun.source.tree.MethodInvocationTree;
 import com.sun.source.tree.NewClassTree;
+import com.sun.source.tree.SwitchExpressionTree;
 import com.sun.source.tree.ThrowTree;
 import com.sun.source.tree.Tree;
-import com.sun.source.tree.TryTree;
+import com.sun.source.tree.UnionTypeTree;
 import com.sun.source.util.TreeScanner;
+import java.util.List;
 import javax.lang.model.element.ExecutableElement;
 import javax.lang.model.element.TypeElement;
 import javax.lang.model.type.TypeKind;
@@ -32,26 +36,43 @@ final class Exceptions extends TreeScanner<Void, Void> {
     }
 
     private void warn(Tree tree, String exception) {
-        notes.warn(program.place(tree), "korat's verdict is `trap ArithmeticException` where Java throws " + exception);
+        warn(tree, "ArithmeticException", exception);
+    }
+
+    private void warn(Tree tree, String kind, String exception) {
+        notes.warn(program.place(tree), "korat's verdict is `trap " + kind + "` where Java throws " + exception);
     }
 
     @Override
     public Void visitThrow(ThrowTree thrown, Void nothing) {
-        warn(thrown, program.type(thrown.getExpression()).toString());
-        return null;
+        ExpressionTree made = Program.bare(thrown.getExpression());
+        if (program.parent(thrown) instanceof CaseTree one && program.parent(one) instanceof SwitchExpressionTree) warn(thrown, program.type(made).toString());
+        else if (made instanceof NewClassTree && Thrown.isError(program, program.type(made))) warnOfError(thrown, program.type(made).toString());
+        else if (made instanceof NewClassTree && Thrown.replaced(program, program.type(made)) != null)
+            warn(thrown, Thrown.nearest(program, (TypeElement) program.types.asElement(program.type(made))), program.type(made).toString());
+        return super.visitThrow(thrown, nothing);
     }
 
     @Override
     public Void visitAssert(AssertTree test, Void nothing) {
-        warn(test, "an AssertionError");
+        warnOfError(test, "an AssertionError");
         return super.visitAssert(test, nothing);
     }
 
+    private void warnOfError(Tree tree, String error) {
+        warn(tree, reach.error(), error);
+    }
+
     @Override
-    public Void visitTry(TryTree tree, Void nothing) {
-        if (reach.isIdleTry(tree)) notes.warn(program.place(tree),
-                "where repOk ends by an exception after the method, korat's verdict is `check-trap`, and Java's `repOk`");
-        return super.visitTry(tree, nothing);
+    public Void visitCatch(CatchTree tree, Void nothing) {
+        Tree declared = tree.getParameter().getType();
+        List<? extends Tree> types = declared instanceof UnionTypeTree union ? union.getTypeAlternatives() : List.of(declared);
+        for (Tree type : types) {
+            TypeElement replaced = Thrown.replaced(program, program.type(type));
+            if (replaced != null && !Thrown.isOfMachine(program, replaced))
+                notes.warn(program.place(type), "korat's `catch` takes each " + Thrown.nearest(program, replaced) + " where Java's takes " + replaced.getSimpleName());
+        }
+        return super.visitCatch(tree, nothing);
     }
 
     @Override
@@ -65,6 +86,7 @@ final class Exceptions extends TreeScanner<Void, Void> {
 
     @Override
     public Void visitNewClass(NewClassTree made, Void nothing) {
+        if (program.element(made) instanceof ExecutableElement maker && Thrown.dropsArguments(program, maker)) return null;
         boolean sized = program.element(made) instanceof ExecutableElement maker && !program.isOwn(maker) && !maker.getParameters().isEmpty()
                 && maker.getParameters().get(0).asType().getKind() == TypeKind.INT;
         if (sized && Numbers.of(program, made.getArguments().get(0)) <= 0 && !made.getArguments().get(0).toString().equals("0"))

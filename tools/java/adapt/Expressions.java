@@ -708,6 +708,7 @@ final class Expressions extends SimpleTreeVisitor<String, Void> {
         if (tree.getClassBody() != null) return anonymous(tree);
         ExecutableElement constructor = (ExecutableElement) program.element(tree);
         TypeElement type = Program.classOf(constructor);
+        if (Thrown.dropsArguments(program, constructor)) return exception(tree);
         if (!program.isOwn(type)) return calls.newCollection(tree, type);
         String arguments = arguments(constructor, tree.getArguments());
         if (outers.isExtended(type)) {
@@ -717,6 +718,11 @@ final class Expressions extends SimpleTreeVisitor<String, Void> {
         String name = rewriter.type(tree, kinds.kind(program.type(tree)));
         return names.hasSeveral(type) ? "new " + name + "()." + names.of(constructor) + "(" + arguments + ")" : "new " + name
                 + "(" + arguments + ")";
+    }
+
+    private String exception(NewClassTree tree) {
+        if (!tree.getArguments().isEmpty()) notes.changed(program.place(tree), "the arguments of `new " + program.text(tree.getIdentifier()) + "` are gone: korat has no messages");
+        return "new " + rewriter.exception(tree.getIdentifier()) + "()";
     }
 
     private String anonymous(NewClassTree tree) {
@@ -739,7 +745,7 @@ final class Expressions extends SimpleTreeVisitor<String, Void> {
     String chained(MethodInvocationTree call) {
         ExecutableElement called = (ExecutableElement) program.element(call);
         ExecutableElement from = program.methodAround(call);
-        if (!program.isOwn(called) || program.trees.getTree(called) == null) return ";";
+        if (!program.isOwn(called) || program.trees.getTree(called) == null || Thrown.dropsArguments(program, called)) return ";";
         String arguments = arguments(called, call.getArguments());
         if (outers.isExtended(Program.classOf(called))) {
             String around = String.join(", ", rewriter.carried().names(Program.classOf(called)));

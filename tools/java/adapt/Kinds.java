@@ -35,6 +35,7 @@ import javax.lang.model.type.IntersectionType;
 import javax.lang.model.type.TypeKind;
 import javax.lang.model.type.TypeMirror;
 import javax.lang.model.type.TypeVariable;
+import javax.lang.model.type.UnionType;
 import javax.lang.model.type.WildcardType;
 
 /**
@@ -320,6 +321,7 @@ final class Kinds {
                 WildcardType wild = (WildcardType) type;
                 return wild.getExtendsBound() != null ? kind(wild.getExtendsBound()) : wild.getSuperBound() != null
                         ? kind(wild.getSuperBound()) : "?";
+            case UNION: return kind(((UnionType) type).getAlternatives().get(0));
             case INTERSECTION: return kind(((IntersectionType) type).getBounds().get(0));
             default: return "?" + type;
         }
@@ -340,6 +342,8 @@ final class Kinds {
         if (program.isOwn(element)) {
             return element.getKind() == ElementKind.ENUM ? "#" + name : program.nameOf(element);
         }
+        String thrown = Thrown.nearest(program, element);
+        if (thrown != null) return thrown;
         String whole = element.getQualifiedName().toString();
         if (Set.of("java.lang.Integer", "java.lang.Short", "java.lang.Byte", "java.lang.Character").contains(whole))
                 return "int";

@@ -10,20 +10,18 @@ import com.sun.source.tree.EnhancedForLoopTree;
 import com.sun.source.tree.ExpressionStatementTree;
 import com.sun.source.tree.ExpressionTree;
 import com.sun.source.tree.IdentifierTree;
+import com.sun.source.tree.IfTree;
 import com.sun.source.tree.LambdaExpressionTree;
-import com.sun.source.tree.LiteralTree;
 import com.sun.source.tree.MemberSelectTree;
 import com.sun.source.tree.MethodInvocationTree;
 import com.sun.source.tree.MethodTree;
 import com.sun.source.tree.NewArrayTree;
 import com.sun.source.tree.NewClassTree;
 import com.sun.source.tree.ReturnTree;
-import com.sun.source.tree.StatementTree;
-import com.sun.source.tree.ThrowTree;
 import com.sun.source.tree.Tree;
 import com.sun.source.tree.TreeVisitor;
-import com.sun.source.tree.TryTree;
 import com.sun.source.tree.UnaryTree;
+import com.sun.source.tree.UnionTypeTree;
 import com.sun.source.tree.VariableTree;
 import com.sun.source.util.TreeScanner;
 import java.util.ArrayList;
@@ -60,7 +58,6 @@ final class Reach {
     private final List<NewClassTree> collections = new ArrayList<>();
     ExecutableElement predicate;
     ExecutableElement tested;
-    private boolean predicateIsCalled;
 
     Reach(Program program, Kinds kinds, Finitization fin, Notes notes) {
         this.program = program;
@@ -79,7 +76,8 @@ final class Reach {
         if (predicate == null) return;
         for (TypeElement type : program.classes.values()) {
             String name = program.nameOf(type);
-            if (name.matches("HashSet|LinkedList|Object|BoxedInt|BoxedLong|BoxedBoolean")) notes.refuse(program.place(program.trees.getTree(type)),
+            boolean taken = Thrown.PREDEFINED.stream().anyMatch(one -> one.endsWith("." + name));
+            if (taken || name.matches("HashSet|LinkedList|Object|BoxedInt|BoxedLong|BoxedBoolean")) notes.refuse(program.place(program.trees.getTree(type)),
                     "a class named " + name + ", which korat or Adapt has another one for", "rename it");
         }
         fin.objects().forEach((name, count) -> refuseAbstract(program.classes.get(name), count));
@@ -391,16 +389,33 @@ final class Reach {
 
     // ---- the code
 
-    /** Whether a `try` says what the predicate says anyway: a run that ends by an exception counts as false. */
-    boolean isIdleTry(TryTree tree) {
-        return tree.getCatches().stream().allMatch(Reach::givesFalse) && tree.getFinallyBlock() == null && tree.getResources().isEmpty()
-                && predicate.equals(program.methodAround(tree)) && !predicateIsCalled;
-    }
+    /**
+     * The class of korat's that stands for an error: one that Java takes without `throws`, unless that one is caught where Java's
+     * error isn't. The clauses of a contract count as catches.
+     */
+    String error() {
+        Set<String> caught = new HashSet<>();
+        TreeScanner<Void, Void> clauses = new TreeScanner<>() {
+            @Override
+            public Void visitCatch(CatchTree tree, Void nothing) {
+                Tree declared = tree.getParameter().getType();
+                if (declared instanceof UnionTypeTree union) union.getTypeAlternatives().forEach(this::add);
+                else add(declared);
+                return super.visitCatch(tree, nothing);
+            }
 
-    private static boolean givesFalse(CatchTree tree) {
-        List<? extends StatementTree> statements = tree.getBlock().getStatements();
-        return statements.size() == 1 && statements.get(0) instanceof ReturnTree back
-                && back.getExpression() instanceof LiteralTree literal && Boolean.FALSE.equals(literal.getValue());
+            @Override
+            public Void visitIf(IfTree tree, Void nothing) {
+                if (Clauses.isBlock(program, tree)) Clauses.signalled(tree).forEach(this::add);
+                return super.visitIf(tree, nothing);
+            }
+
+            private void add(Tree type) {
+                if (program.types.asElement(program.type(type)) instanceof TypeElement element && !program.isOwn(element)) caught.add(Thrown.nearest(program, element));
+            }
+        };
+        for (Tree code : trees()) clauses.scan(code, null);
+        return caught.contains("Exception") || caught.contains("RuntimeException") ? "Throwable" : "RuntimeException";
     }
 
     static boolean isPrint(ExpressionStatementTree tree) {
@@ -500,6 +515,10 @@ final class Reach {
         public Void visitNewClass(NewClassTree tree, Void nothing) {
             ExecutableElement constructor = (ExecutableElement) program.element(tree);
             keepType(program.type(tree));
+            if (tree.getClassBody() == null && Thrown.dropsArguments(program, constructor)) {
+                make(Program.classOf(constructor));
+                return null;
+            }
             if (program.isOwn(constructor) && tree.getClassBody() == null) {
                 flowArguments(constructor, tree.getArguments());
                 reach(constructor);
@@ -520,8 +539,8 @@ final class Reach {
         @Override
         public Void visitMethodInvocation(MethodInvocationTree tree, Void nothing) {
             ExecutableElement method = (ExecutableElement) program.element(tree);
+            if (method != null && method.getKind() == ElementKind.CONSTRUCTOR && Thrown.dropsArguments(program, method)) return null;
             if (program.isOwn(method)) {
-                if (method.equals(predicate)) predicateIsCalled = true;
                 flowArguments(method, tree.getArguments());
                 if (method.isVarArgs()) creations.add(tree);
             } else if (method != null) {
@@ -544,18 +563,16 @@ final class Reach {
         }
 
         @Override
-        public Void visitThrow(ThrowTree tree, Void nothing) {
-            return null;
-        }
-
-        @Override
         public Void visitAssert(AssertTree tree, Void nothing) {
             return scan(tree.getCondition(), nothing);
         }
 
         @Override
-        public Void visitTry(TryTree tree, Void nothing) {
-            return isIdleTry(tree) ? scan(tree.getBlock(), nothing) : super.visitTry(tree, nothing);
+        public Void visitCatch(CatchTree tree, Void nothing) {
+            Tree type = tree.getParameter().getType();
+            List<? extends Tree> types = type instanceof UnionTypeTree union ? union.getTypeAlternatives() : List.of(type);
+            types.forEach(one -> keepType(program.type(one)));
+            return scan(tree.getBlock(), nothing);
         }
 
         @Override

@@ -168,6 +168,14 @@ final class Rewriter {
         return kind.replace(name, kinds.qualified(name));
     }
 
+    /** A class of exceptions, as the subset has it. */
+    String exception(Tree at) {
+        String name = type(at, kinds.kind(program.type(at)));
+        TypeElement replaced = Thrown.replaced(program, program.type(at));
+        if (replaced != null) notes.changed(program.place(at), replaced.getSimpleName() + " became " + name + ", the nearest class of korat's above it");
+        return name;
+    }
+
     private String refusedType(Tree at, String type) {
         boolean ofLibrary = program.type(at) instanceof DeclaredType declared && !program.isOwn(declared.asElement());
         boolean parameter = type.length() <= 1 || Character.isUpperCase(type.charAt(0)) && !ofLibrary
@@ -195,7 +203,7 @@ final class Rewriter {
             text.append(gap(source.text().substring(at, program.start(tree))));
             String name = tree.getQualifiedIdentifier().toString();
             boolean kept = !tree.isStatic()
-                    && Set.of("java.util.*", "java.util.HashSet", "java.util.LinkedList").contains(name);
+                    && Set.of("java.util.*", "java.util.HashSet", "java.util.LinkedList", "java.util.NoSuchElementException").contains(name);
             text.append(kept ? program.text(tree) : "");
             at = program.end(tree);
         }
@@ -208,11 +216,12 @@ final class Rewriter {
         return withImports(text, source.unit()).replaceAll("(?m)^[ \\t]+$", "");
     }
 
-    /** Imports of the two collections, where they were others. */
+    /** Imports of the two collections and the exception, where they were others. */
     private String withImports(String text, CompilationUnitTree unit) {
         StringBuilder imports = new StringBuilder();
-        for (String name : List.of("HashSet", "LinkedList")) {
-            if (text.contains(name + "<") && !text.contains("import java.util." + name)
+        for (String name : List.of("HashSet", "LinkedList", "NoSuchElementException")) {
+            boolean used = text.contains(name.endsWith("Exception") ? name : name + "<");
+            if (used && !text.contains("import java.util." + name)
                     && !text.contains("import java.util.*")) imports.append("import java.util.").append(name).append("; ");
         }
         int at = unit.getPackage() == null ? 0 : program.end(unit.getPackage());
@@ -412,14 +421,16 @@ final class Rewriter {
         List<TypeElement> interfaces = type.getInterfaces().stream().map(t -> (TypeElement) program.types.asElement(t))
                 .filter(reach.kept::contains).filter(this::isUsed).toList();
         boolean own = above != null && program.isOwn(above);
+        boolean thrown = above != null && !own && Thrown.nearest(program, above) != null;
         List<TypeElement> missing = interfaces.stream().filter(face -> !own || !program.isBelow(above, face))
                 .filter(face -> interfaces.stream().noneMatch(other -> other != face && program.isBelow(other, face))).toList();
-        if (missing.size() > 1 || own && !missing.isEmpty()) {
+        if (missing.size() > 1 || (own || thrown) && !missing.isEmpty()) {
             refused(tree.getImplementsClause().isEmpty() ? tree : tree.getImplementsClause().get(0),
-                    type.getSimpleName() + " would need two superclasses, " + (own ? above.getSimpleName() + ", " : "")
+                    type.getSimpleName() + " would need two superclasses, " + (own || thrown ? above.getSimpleName() + ", " : "")
                     + missing, "let it extend one class");
         }
         if (own) return " extends " + above.getSimpleName();
+        if (thrown) return " extends " + exception(tree.getExtendsClause());
         return missing.isEmpty() ? "" : " extends " + missing.get(0).getSimpleName();
     }
 

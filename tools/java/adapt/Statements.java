@@ -6,6 +6,7 @@ import com.sun.source.tree.AssignmentTree;
 import com.sun.source.tree.BlockTree;
 import com.sun.source.tree.BreakTree;
 import com.sun.source.tree.CaseTree;
+import com.sun.source.tree.CatchTree;
 import com.sun.source.tree.CompoundAssignmentTree;
 import com.sun.source.tree.ContinueTree;
 import com.sun.source.tree.DoWhileLoopTree;
@@ -28,6 +29,7 @@ import com.sun.source.tree.SynchronizedTree;
 import com.sun.source.tree.ThrowTree;
 import com.sun.source.tree.Tree;
 import com.sun.source.tree.TryTree;
+import com.sun.source.tree.UnionTypeTree;
 import com.sun.source.tree.VariableTree;
 import com.sun.source.tree.WhileLoopTree;
 import com.sun.source.tree.YieldTree;
@@ -37,6 +39,7 @@ import java.util.ArrayList;
 import java.util.HashMap;
 import java.util.List;
 import java.util.Map;
+import java.util.stream.Collectors;
 import javax.lang.model.element.Element;
 import javax.lang.model.element.ElementKind;
 import javax.lang.model.element.ExecutableElement;
@@ -500,24 +503,39 @@ final class Statements extends SimpleTreeVisitor<String, Void> {
 
     @Override
     public String visitThrow(ThrowTree tree, Void nothing) {
-        if (!program.lambdasAround(tree).isEmpty()) return rewriter.refused(tree, "`throw` in a lambda", "write a method in its place");
-        notes.changed(program.place(tree), "`throw` became a trap, which counts as false too");
-        String text = trap(program.methodAround(tree));
-        return text.startsWith("if") ? "{ " + text + " }" : text;
+        ExpressionTree made = Program.bare(tree.getExpression());
+        if (!(made instanceof NewClassTree) || !Thrown.isError(program, program.type(made))) return rewriter.plain(tree);
+        notes.changed(program.place(tree), "the error became a " + reach.error() + ", which counts as false too");
+        return "throw new " + reach.error() + "();";
     }
 
     @Override
     public String visitAssert(AssertTree tree, Void nothing) {
-        if (!program.lambdasAround(tree).isEmpty()) return rewriter.refused(tree, "`assert` in a lambda", "write a method in its place");
         notes.changed(program.place(tree), "`assert` became a test");
-        return "if (!(" + expressions.value(tree.getCondition(), "boolean") + ")) { " + trap(program.methodAround(tree)) + " }";
+        String text = "if (!(" + expressions.value(tree.getCondition(), "boolean") + ")) throw new " + reach.error() + "();";
+        return program.parent(tree) instanceof IfTree ? "{ " + text + " }" : text;
     }
 
     @Override
     public String visitTry(TryTree tree, Void nothing) {
-        if (!reach.isIdleTry(tree)) return rewriter.refused(tree, "`try`", "write a test of what may go wrong in its place");
-        notes.changed(program.place(tree), "`try` is gone: a run that ends by an exception counts as false");
-        return rewriter.of(tree.getBlock());
+        if (!tree.getResources().isEmpty()) return rewriter.refused(tree, "`try` with resources", "write them into the block");
+        if (tree.getFinallyBlock() != null) return rewriter.refused(tree.getFinallyBlock(), "`finally`", "write it where the block and each `catch` end");
+        Map<Tree, String> clauses = new HashMap<>();
+        tree.getCatches().forEach(clause -> clauses.put(clause, clauses(clause)));
+        boolean none = clauses.values().stream().allMatch(String::isEmpty);
+        return none ? rewriter.of(tree.getBlock()) : rewriter.composed(tree, clauses);
+    }
+
+    /** A `catch` for each of its classes; none of errors that no code of korat's catches. */
+    private String clauses(CatchTree tree) {
+        Tree declared = tree.getParameter().getType();
+        List<? extends Tree> types = declared instanceof UnionTypeTree union ? union.getTypeAlternatives() : List.of(declared);
+        List<? extends Tree> kept = types.stream().filter(type -> !Thrown.isOfMachine(program, (TypeElement) program.types.asElement(program.type(type)))).toList();
+        if (kept.size() < types.size()) notes.changed(program.place(tree), "the `catch` of an error of the machine is gone: no code of korat's catches one");
+        if (kept.size() > 1) notes.changed(program.place(tree), "the `catch` became one for each of its classes");
+        String body = kept.isEmpty() ? "" : rewriter.of(tree.getBlock());
+        List<String> names = kept.stream().map(rewriter::exception).distinct().toList();
+        return names.stream().map(name -> "catch (" + name + " " + tree.getParameter().getName() + ") " + body).collect(Collectors.joining(" "));
     }
 
     @Override

@@ -85,7 +85,7 @@ public final class After {
         int differing = 0;
         for (TestRow row : rows.stream().sorted(Comparator.comparingInt(TestRow::size)).toList()) {
             String here = called.verdict(row);
-            if (!agrees(row.verdict(), here)) {
+            if (!agrees(row.verdict(), here, called)) {
                 out.println("differs " + row.text() + ": here " + here);
                 differing++;
             }
@@ -117,6 +117,9 @@ public final class After {
         if (verdict.startsWith("ensures ")) {
             int number = Integer.parseInt(verdict.substring(8));
             return number <= contract.ensures.size() ? ": `" + contract.ensures.get(number - 1) + "` is false after the call" : "";
+        } else if (verdict.startsWith("signals ")) {
+            int number = Integer.parseInt(verdict.substring(8));
+            return number <= contract.signals.size() ? ": `" + contract.signals.get(number - 1) + "` is false of the exception" : "";
         } else if (verdict.equals("repOk")) {
             return ": the structure isn't valid after the call";
         } else if (verdict.startsWith("check-trap")) {
@@ -125,10 +128,11 @@ public final class After {
         return verdict.equals("spent") ? ": the call doesn't end, or needs more fuel" : "";
     }
 
-    /** Whether two verdicts say the same. An exception that the subset doesn't have is another one there. */
-    private static boolean agrees(String row, String here) {
+    /** Whether two verdicts say the same. An exception that the subset doesn't have is another one there, or one of a class above it. */
+    private static boolean agrees(String row, String here, Called called) {
         boolean traps = row.startsWith("trap ") && here.startsWith("trap ") || row.startsWith("check-trap ") && here.startsWith("check-trap ");
-        boolean foreign = row.endsWith("ArithmeticException") || row.endsWith("NoReturn") || row.endsWith("ArrayTooLong");
+        boolean foreign = row.endsWith("ArithmeticException") || row.endsWith("NoReturn") || row.endsWith("ArrayTooLong")
+                || called.threw(row.substring(row.lastIndexOf(' ') + 1));
         return row.equals(here) || traps && foreign;
     }
 }

@@ -62,7 +62,7 @@ final class Called {
         model.sources.steps(steps);
         try {
             int answer = (int) run.invoke(root, arguments);
-            return answer == 0 ? "pass" : answer < 0 ? "repOk" : "ensures " + answer;
+            return answer == 0 ? "pass" : answer < 0 ? "repOk" : answer > Contract.SIGNALS ? "signals " + (answer - Contract.SIGNALS) : "ensures " + answer;
         } catch (InvocationTargetException ended) {
             thrown = ended.getCause();
             String kind = thrown.getClass().getSimpleName();
@@ -106,6 +106,16 @@ final class Called {
             arguments[at] = model.converted(run.getParameterTypes()[at], known, name);
         }
         return arguments;
+    }
+
+    /** Whether the exception is of a class of this name, or of one below it. */
+    boolean threw(String name) {
+        for (Class<?> type = thrown == null ? null : thrown.getClass(); type != null; type = type.getSuperclass()) {
+            if (type.getSimpleName().equals(name)) {
+                return true;
+            }
+        }
+        return false;
     }
 
     /** Where the exception was thrown, of the sources' own classes. */

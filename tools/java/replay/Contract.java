@@ -23,8 +23,13 @@ final class Contract {
     static final int CALL = 1;
     static final int PREDICATE = 2;
     static final int CLAUSES = 3;
-    private static final Pattern LINE = Pattern.compile("//@\\s*(requires|ensures)\\b(.*?);(?=\\s*(?://|$))");
+    /** What the added method answers where a clause of `signals` doesn't hold is this and the clause's number; of `ensures` the number. */
+    static final int SIGNALS = 1_000_000;
+    static final String THROWN = "korat$thrown";
+    private static final Pattern LINE = Pattern.compile("//@\\s*(requires|ensures|signals)\\b(.*?);(?=\\s*(?://|$))");
+    private static final Pattern HEAD = Pattern.compile("\\(\\s*([\\p{L}\\p{N}_$.\\s]*?[\\p{L}\\p{N}_$])(?:\\s+([\\p{L}\\p{N}_$]+))?\\s*\\)");
     final List<String> ensures = new ArrayList<>();
+    final List<String> signals = new ArrayList<>();
     final List<String> parameters = new ArrayList<>();
     final Map<Path, String> texts = new LinkedHashMap<>();
 
@@ -56,21 +61,24 @@ final class Contract {
         texts.put(source.file(), text.substring(0, end) + added(method) + text.substring(end));
     }
 
-    /** Takes the `ensures` lines directly before a place. */
+    /** Takes the `ensures` and `signals` lines directly before a place. */
     private void read(String text, int start) {
         List<String> before = text.substring(0, start).lines().toList();
         for (int at = before.size() - 1; at >= 0; at--) {
             String line = before.get(at).strip();
-            List<String> clauses = LINE.matcher(line).results().filter(clause -> clause.group(1).equals("ensures"))
-                    .map(clause -> clause.group(2).strip()).toList();
-            ensures.addAll(0, clauses);
-            if (clauses.isEmpty() && !line.isEmpty() && !line.startsWith("//") && !line.startsWith("*") && !line.startsWith("/*") && !line.startsWith("@")) {
+            ensures.addAll(0, clauses(line, "ensures"));
+            signals.addAll(0, clauses(line, "signals"));
+            if (clauses(line, "ensures").isEmpty() && !line.isEmpty() && !line.startsWith("//") && !line.startsWith("*") && !line.startsWith("/*") && !line.startsWith("@")) {
                 return;
             }
         }
     }
 
-    private String added(ExecutableElement method) {
+    private static List<String> clauses(String line, String word) {
+        return LINE.matcher(line).results().filter(clause -> clause.group(1).equals(word)).map(clause -> clause.group(2).strip()).toList();
+    }
+
+    private String added(ExecutableElement method) throws Fault {
         String declared = method.getParameters().stream().map(parameter -> parameter.asType() + " " + parameter.getSimpleName())
                 .collect(Collectors.joining(", "));
         StringBuilder olds = new StringBuilder();
@@ -80,11 +88,34 @@ final class Contract {
             String clause = withOlds(ensures.get(at), olds, count).replace("\\result", "korat$result");
             clauses.append(" if (!(").append(clause).append(")) return ").append(at + 1).append(";");
         }
+        String caught = caught(olds, count);
         boolean answers = method.getReturnType().getKind() != TypeKind.VOID;
         String call = method.getSimpleName() + "(" + String.join(", ", parameters) + ");";
         return " static int " + PART + "; int " + RUN + "(" + declared + ") throws Throwable { " + PART + " = " + OLDS + ";" + olds
-                + " " + PART + " = " + CALL + "; " + (answers ? "var korat$result = " : "") + call
-                + " " + PART + " = " + PREDICATE + "; if (!repOk()) return -1; " + PART + " = " + CLAUSES + ";" + clauses + " return 0; }";
+                + (caught.isEmpty() ? "" : " try {") + " " + PART + " = " + CALL + "; " + (answers ? "var korat$result = " : "") + call
+                + JUDGED + clauses + " return 0; }" + (caught.isEmpty() ? "" : caught + " }");
+    }
+
+    private static final String JUDGED = " " + PART + " = " + PREDICATE + "; if (!repOk()) return -1; " + PART + " = " + CLAUSES + ";";
+
+    /** What is done with an exception of the method: each clause of `signals` whose class it has is tested; without one it is thrown on. */
+    private String caught(StringBuilder olds, int[] count) throws Fault {
+        StringBuilder fits = new StringBuilder();
+        StringBuilder clauses = new StringBuilder();
+        for (int at = 0; at < signals.size(); at++) {
+            Matcher head = HEAD.matcher(signals.get(at));
+            if (!head.lookingAt()) {
+                throw new Fault("`signals" + signals.get(at) + "` begins with no class");
+            }
+            String is = THROWN + " instanceof " + head.group(1);
+            fits.append(at > 0 ? " || " : "").append(is);
+            String clause = withOlds(signals.get(at).substring(head.end()).strip(), olds, count);
+            String named = head.group(2) == null ? "" : head.group(1) + " " + head.group(2) + " = (" + head.group(1) + ") " + THROWN + "; ";
+            clauses.append(" if (" + is + ") { " + named + "if (!(" + clause + ")) return " + (SIGNALS + at + 1) + "; }");
+        }
+        String ended = THROWN + " instanceof VirtualMachineError || " + THROWN + ".getClass().getName().startsWith(\"replayed.\")";
+        return signals.isEmpty() ? "" : " catch (Throwable " + THROWN + ") { if (" + PART + " != " + CALL + " || " + ended + " || !(" + fits + ")) throw " + THROWN + ";"
+                + JUDGED + clauses + " return 0; }";
     }
 
     /** A clause whose `\old(..)` are variables, which are set before the call. */

@@ -1,17 +1,20 @@
 package replay;
 
+import com.sun.source.tree.BlockTree;
 import com.sun.source.tree.IfTree;
 import com.sun.source.tree.LiteralTree;
 import com.sun.source.tree.MethodTree;
 import com.sun.source.tree.ParenthesizedTree;
 import com.sun.source.tree.ReturnTree;
 import com.sun.source.tree.StatementTree;
+import com.sun.source.tree.TryTree;
 import com.sun.source.tree.UnaryTree;
 import com.sun.source.tree.VariableTree;
 import com.sun.source.util.TreePath;
 import java.io.ByteArrayInputStream;
 import java.io.IOException;
 import java.nio.charset.StandardCharsets;
+import java.util.ArrayList;
 import java.util.List;
 import java.util.Map;
 import javax.lang.model.element.ExecutableElement;
@@ -97,7 +100,7 @@ final class ContractTests {
         String text = new String(given, StandardCharsets.UTF_8);
         String last = text.stripTrailing().lines().reduce((before, line) -> line).orElse("");
         String first = text.lines().findFirst().orElse("");
-        return last.contains(" failing ") || first.matches("[0-9.]+ (pass|ensures|repOk|trap|check-trap|spent) .*");
+        return last.contains(" failing ") || first.matches("[0-9.]+ (pass|ensures|signals|repOk|trap|check-trap|spent) .*");
     }
 
     String text(byte[] given) throws Fault, IOException {
@@ -121,14 +124,17 @@ final class ContractTests {
         Clause clause = new Clause(program, path);
         StringBuilder olds = new StringBuilder();
         StringBuilder clauses = new StringBuilder();
-        for (StatementTree statement : ((MethodTree) path.getLeaf()).getBody().getStatements()) {
+        List<StatementTree> statements = new ArrayList<>(((MethodTree) path.getLeaf()).getBody().getStatements());
+        String caught = "";
+        if (statements.get(statements.size() - 1) instanceof TryTree judging) {
+            statements.addAll(judging.getBlock().getStatements());
+            caught = caught(judging.getCatches().get(0).getBlock().getStatements(), clause);
+        }
+        for (StatementTree statement : statements) {
             if (statement instanceof VariableTree old && old.getName().toString().startsWith("korat$old")) {
                 olds.append("        var " + old.getName() + " = " + clause.text(old.getInitializer()) + ";\n");
-            } else if (statement instanceof IfTree judged && ((ReturnTree) judged.getThenStatement()).getExpression() instanceof LiteralTree number
-                    && (int) number.getValue() > 0) {
-                UnaryTree negated = (UnaryTree) ((ParenthesizedTree) judged.getCondition()).getExpression();
-                String line = contract.ensures.get((int) number.getValue() - 1).replace("\\", "\\\\").replace("\"", "\\\"");
-                clauses.append("        assertTrue(" + clause.text(negated.getExpression()) + ", \"" + line + "\");\n");
+            } else if (statement instanceof IfTree judged && numberOf(judged) > 0) {
+                clauses.append("        " + assertion(judged, contract.ensures.get(numberOf(judged) - 1), clause));
             }
         }
         StringBuilder declared = new StringBuilder("Object subject");
@@ -138,10 +144,45 @@ final class ContractTests {
             arguments.append(", " + parameter.getSimpleName());
         }
         String cast = Clause.castOf(result);
-        String kept = result.getKind() == TypeKind.VOID ? "" : "var korat$result = " + (cast.isEmpty() ? "" : "(" + cast + ") ");
-        return "    private static void test(" + declared + ") throws Throwable {\n" + olds
-                + "        " + kept + "call(subject, \"" + name + "\"" + arguments + ");\n"
-                + "        assertTrue(repOk(subject), \"repOk is false\");\n" + clauses + "    }\n";
+        boolean answers = result.getKind() != TypeKind.VOID;
+        String call = (cast.isEmpty() ? "" : "(" + cast + ") ") + "call(subject, \"" + name + "\"" + arguments + ");\n";
+        String called = caught.isEmpty() ? "        " + (answers ? "var korat$result = " : "") + call
+                : (answers ? "        " + (cast.isEmpty() ? "Object" : cast) + " korat$result;\n" : "")
+                + "        try {\n            " + (answers ? "korat$result = " : "") + call + "        } catch (Throwable korat$thrown) {\n" + caught + "            return;\n        }\n";
+        return "    private static void test(" + declared + ") throws Throwable {\n" + olds + called + VALID + clauses + "    }\n";
+    }
+
+    private static final String VALID = "        assertTrue(repOk(subject), \"repOk is false\");\n";
+
+    /** The number that the added method answers where a clause doesn't hold; 0 of other statements. */
+    private static int numberOf(IfTree tree) {
+        return tree.getThenStatement() instanceof ReturnTree back && back.getExpression() instanceof LiteralTree number ? (int) number.getValue() : 0;
+    }
+
+    private static String assertion(IfTree judged, String line, Clause clause) throws Fault {
+        UnaryTree negated = (UnaryTree) ((ParenthesizedTree) judged.getCondition()).getExpression();
+        return "assertTrue(" + clause.text(negated.getExpression()) + ", \"" + line.replace("\\", "\\\\").replace("\"", "\\\"") + "\");\n";
+    }
+
+    /** What a test does with an exception of the method, as the added method does it. */
+    private String caught(List<? extends StatementTree> statements, Clause clause) throws Fault {
+        StringBuilder fits = new StringBuilder();
+        StringBuilder clauses = new StringBuilder();
+        for (StatementTree statement : statements) {
+            if (!(statement instanceof IfTree judged) || !(judged.getThenStatement() instanceof BlockTree block)) {
+                continue;
+            }
+            List<? extends StatementTree> parts = block.getStatements();
+            IfTree last = (IfTree) parts.get(parts.size() - 1);
+            String is = clause.text(((ParenthesizedTree) judged.getCondition()).getExpression());
+            fits.append(fits.length() > 0 ? " || " : "").append(is);
+            clauses.append("            if (" + is + ") {\n");
+            if (parts.size() > 1) {
+                clauses.append("                Object " + ((VariableTree) parts.get(0)).getName() + " = korat$thrown;\n");
+            }
+            clauses.append("                " + assertion(last, "signals " + contract.signals.get(numberOf(last) - Contract.SIGNALS - 1), clause) + "            }\n");
+        }
+        return "            if (!(" + fits + ")) {\n                throw korat$thrown;\n            }\n    " + VALID + clauses;
     }
 
     private String test(TestRow row) throws Fault {

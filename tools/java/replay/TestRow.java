@@ -15,7 +15,7 @@ import java.util.regex.Pattern;
 /** A row of a test: its key, verdict and arguments as the row writes them, and the structure before the call. */
 record TestRow(String key, String verdict, String arguments, Structure structure, String text) {
     private static final Pattern ROW = Pattern.compile(
-            "([0-9.]+) (pass|ensures [0-9]+|repOk|trap [A-Za-z]+|check-trap [A-Za-z]+|spent) (?:\\(([^ ]*)\\) )?(.*)");
+            "([0-9.]+) (pass|ensures [0-9]+|signals [0-9]+|repOk|trap [^ ]+|check-trap [^ ]+|spent) (?:\\(([^ ]*)\\) )?(.*)");
 
     private static final Pattern END = Pattern.compile("valid [0-9]+ failing [0-9]+ tried [0-9]+|more [0-9.]+|spent [0-9.]+|out of memory");
 

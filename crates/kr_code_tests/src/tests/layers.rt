@@ -1,5 +1,5 @@
 // Two small files, and what is made of their members.
-ghost use Rattle.std.specs.Prelude.{◌≡◌, ◌<◌, IfOk, length};
+ghost use Rattle.std.specs.Prelude.{◌<◌, length};
 ghost use Rattle.kr_classes_members.specs.Kept.{AreMembers};
 ghost use Rattle.kr_classes_names.specs.Shown.{AreHeads};
 
@@ -8,7 +8,7 @@ use kr_ast::Tree;
 use kr_base::NoMemory;
 use kr_classes_members::Members;
 use kr_classes_names::Heads;
-use kr_sources::{Unread, tree_of};
+use kr_sources::{Unread, two_trees};
 use std::alloc::Global;
 
 /// The layers under test.
@@ -23,12 +23,14 @@ fn members_fit(
     alloc: Global,
     layer: Layer,
     trees: &[Tree],
+    heads: &Heads,
     members: &Members,
 ) -> Result<bool, NoMemory>
-    requires { AreMembers trees.now members.now }
+    requires heads { AreHeads trees.now heads.now }
+    requires members { AreMembers trees.now members.now }
 {
     match layer {
-        Layer::Tables => tables::fit(alloc, trees, members),
+        Layer::Tables => tables::fit(alloc, trees, heads, members),
         Layer::Runnable => runnable::methods_fit(alloc, trees, members),
         Layer::Created => runnable::classes_fit(alloc, members),
     }
@@ -38,7 +40,7 @@ fn heads_fit(alloc: Global, layer: Layer, trees: &[Tree], heads: &Heads) -> Resu
     requires { AreHeads trees.now heads.now }
 {
     let members = Members::read(alloc, trees, heads)?;
-    members_fit(alloc, layer, trees, &members)
+    members_fit(alloc, layer, trees, heads, &members)
 }
 
 fn trees_fit(alloc: Global, layer: Layer, trees: &[Tree]) -> Result<bool, NoMemory>
@@ -48,23 +50,8 @@ fn trees_fit(alloc: Global, layer: Layer, trees: &[Tree]) -> Result<bool, NoMemo
     heads_fit(alloc, layer, trees, &heads)
 }
 
-fn both(alloc: Global, first: Tree, second: Tree) -> Result<Vec<Tree>, NoMemory>
-    ensures { IfOk result (λ trees. length trees.items ≡ 2) }
-{
-    Ok(vec![in alloc; first, second]?)
-}
-
-/// The trees of two files.
-fn files(alloc: Global, first: &str, second: &str) -> Result<Vec<Tree>, Unread>
-    ensures { IfOk result (λ trees. length trees.items ≡ 2) }
-{
-    let first = tree_of(alloc, 0, first)?;
-    let second = tree_of(alloc, 1, second)?;
-    Ok(both(alloc, first, second)?)
-}
-
 fn fits(alloc: Global, layer: Layer, first: &str, second: &str) -> Result<bool, Unread> {
-    let trees = files(alloc, first, second)?;
+    let trees = two_trees(alloc, first, second)?;
     Ok(trees_fit(alloc, layer, &trees)?)
 }
 

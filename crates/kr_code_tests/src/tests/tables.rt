@@ -3,11 +3,12 @@ ghost use Rattle.std.specs.Prelude.{◌≡◌, ◌∷◌, [], IfOk, codes, map};
 ghost use Rattle.kr_code.specs.Tables.{row_items};
 ghost use Rattle.kr_classes_members.specs.Kept.{AreMembers};
 ghost use Rattle.kr_classes_members.specs.Rosters.{IsRoster};
+ghost use Rattle.kr_classes_names.specs.Shown.{AreHeads};
 
 use kr_ast::Tree;
 use kr_base::NoMemory;
 use kr_classes_members::{Members, Roster};
-use kr_classes_names::{TypeForm, Types};
+use kr_classes_names::{Heads, TypeForm, Types};
 use kr_code_bodies::Tables;
 use std::alloc::Global;
 
@@ -40,6 +41,11 @@ fn instances_fit(tables: &Tables, above: u32, below: u32, array: u32) -> bool {
         && tables.array_types.as_slice() == [Some(array)].as_slice()
 }
 
+/// No class has the name of a trap's.
+fn traps_fit(tables: &Tables) -> bool {
+    tables.trap_classes.as_slice() == [None, None, None, None, None, None].as_slice()
+}
+
 fn methods_fit(tables: &Tables) -> bool {
     has_row(&tables.dispatch, 0, &[Some(0), Some(1)])
         && has_row(&tables.dispatch, 1, &[None, Some(1)])
@@ -69,10 +75,12 @@ fn two_names(alloc: Global, second: &[u8]) -> Result<Vec<Vec<u8>>, NoMemory>
 fn tables_fit(
     alloc: Global,
     trees: &[Tree],
+    heads: &Heads,
     members: &Members,
     roster: &Roster,
     types: &mut Types,
 ) -> Result<bool, NoMemory>
+    requires heads { AreHeads trees.now heads.now }
     requires members { AreMembers trees.now members.now }
     requires roster { IsRoster trees.now roster.now }
 {
@@ -80,27 +88,49 @@ fn tables_fit(
     let below = types.number(TypeForm::Class(1))?;
     let array = types.number(TypeForm::Array(below))?;
     let names = two_names(alloc, b"second")?;
-    let tables = Tables::read(alloc, trees, members, types, roster, &[array], &names)?;
-    Ok(fields_fit(&tables) && instances_fit(&tables, above, below, array) && methods_fit(&tables))
+    let tables = Tables::read(
+        alloc,
+        trees,
+        heads,
+        members,
+        types,
+        roster,
+        &[array],
+        &names,
+    )?;
+    Ok(
+        fields_fit(&tables)
+            && instances_fit(&tables, above, below, array)
+            && methods_fit(&tables)
+            && traps_fit(&tables),
+    )
 }
 
 fn roster_fits(
     alloc: Global,
     trees: &[Tree],
+    heads: &Heads,
     members: &Members,
     roster: &Roster,
 ) -> Result<bool, NoMemory>
+    requires heads { AreHeads trees.now heads.now }
     requires members { AreMembers trees.now members.now }
     requires roster { IsRoster trees.now roster.now }
 {
     let mut types = Types::new(alloc)?;
-    tables_fit(alloc, trees, members, roster, &mut types)
+    tables_fit(alloc, trees, heads, members, roster, &mut types)
 }
 
 /// `Above` with the field `first` and the method `run`, and below it `Below` with the field `second` and the method `run`.
-pub fn fit(alloc: Global, trees: &[Tree], members: &Members) -> Result<bool, NoMemory>
-    requires { AreMembers trees.now members.now }
+pub fn fit(
+    alloc: Global,
+    trees: &[Tree],
+    heads: &Heads,
+    members: &Members,
+) -> Result<bool, NoMemory>
+    requires heads { AreHeads trees.now heads.now }
+    requires members { AreMembers trees.now members.now }
 {
     let roster = Roster::read(alloc, members)?;
-    roster_fits(alloc, trees, members, &roster)
+    roster_fits(alloc, trees, heads, members, &roster)
 }

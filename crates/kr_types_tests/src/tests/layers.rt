@@ -1,5 +1,5 @@
 // Two small files, and each layer's answers.
-ghost use Rattle.std.specs.Prelude.{◌≡◌, ◌<◌, IfOk, length};
+ghost use Rattle.std.specs.Prelude.{◌<◌, length};
 ghost use Rattle.kr_classes_members.specs.Kept.{AreMembers};
 ghost use Rattle.kr_classes_names.specs.Shown.{AreHeads};
 
@@ -10,7 +10,7 @@ use kr_ast::Tree;
 use kr_base::NoMemory;
 use kr_classes_members::Members;
 use kr_classes_names::Heads;
-use kr_sources::{Unread, tree_of};
+use kr_sources::{Unread, two_trees};
 use std::alloc::Global;
 
 /// A layer to test.
@@ -67,23 +67,8 @@ fn trees_fit(alloc: Global, layer: Layer, trees: &[Tree]) -> Result<bool, NoMemo
     heads_fit(alloc, layer, trees, &heads)
 }
 
-fn pair(alloc: Global, first: Tree, second: Tree) -> Result<Vec<Tree>, NoMemory>
-    ensures { IfOk result (λ trees. length trees.items ≡ 2) }
-{
-    Ok(vec![in alloc; first, second]?)
-}
-
-/// The trees of two files.
-fn files(alloc: Global, first: &str, second: &str) -> Result<Vec<Tree>, Unread>
-    ensures { IfOk result (λ trees. length trees.items ≡ 2) }
-{
-    let first = tree_of(alloc, 0, first)?;
-    let second = tree_of(alloc, 1, second)?;
-    Ok(pair(alloc, first, second)?)
-}
-
 fn fits(alloc: Global, layer: Layer, first: &str, second: &str) -> Result<bool, Unread> {
-    let trees = files(alloc, first, second)?;
+    let trees = two_trees(alloc, first, second)?;
     Ok(trees_fit(alloc, layer, &trees)?)
 }
 

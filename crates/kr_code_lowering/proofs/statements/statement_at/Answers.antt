@@ -17,4 +17,4 @@ returns-in_default-clause-does c = λ names.
     let s = c.args.site in
     let e = c.entry-entry.result in
     no_statement_does p c.requires.program s e c.entry-entry.ensures names c.args.links.now
-    (no_other_statement (arena_at p s).text (tree_in (arena_at p s)) e.place e.node (sym c.is_plain.ensures ∙ c.if-is_plain.false) c.in_default.not-Block c.in_default.not-Local c.in_default.not-For c.in_default.not-Return)
+    (no_other_statement (arena_at p s).text (tree_in (arena_at p s)) e.place e.node (sym c.is_plain.ensures ∙ c.if-is_plain.false) c.in_default.not-Block c.in_default.not-Try c.in_default.not-Local c.in_default.not-For c.in_default.not-Return)

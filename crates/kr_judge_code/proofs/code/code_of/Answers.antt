@@ -31,4 +31,4 @@ returns c =
     let by_arrays = subst (λ (xs : List ℕ). AreTabled p.trees.items types (map (type_at types) xs) listed t) c.as_slice-arrays.ensures.value by_trees in
     let tabled = subst (λ (ns : List (List ℕ)). AreTabled p.trees.items types (map (type_at types) problem.arrays.items) ns t) c.as_slice.ensures.all by_arrays in
     compiled problem names r.nodes.items c.add_call.new.nodes.items c.bodies_of.new.nodes.items r.links c.bodies_of.new.links t _ are c.in_ok-nodes.ensures.count c.in_ok-add_call.ensures c.in_ok-made.ensures.nodes refl c.in_ok-made.ensures.links c.into_vec.ensures.all
-    c.in_ok-made.ensures.methods c.in_ok-made.ensures.classes (λ b. c.in_ok-made.ensures.made problem.arrays.items names (final_of problem names) _ b refl refl refl refl) tabled (record { positions = refl; spots = refl; dispatch = refl; instances = refl; array_types = refl }) c.in_ok-end_before_others.ensures
+    c.in_ok-made.ensures.methods c.in_ok-made.ensures.classes (λ b. c.in_ok-made.ensures.made problem.arrays.items names (final_of problem names) _ b refl refl refl refl) tabled (record { positions = refl; spots = refl; dispatch = refl; instances = refl; array_types = refl; trap_classes = refl }) c.in_ok-end_before_others.ensures

@@ -7,8 +7,11 @@ use Rattle.kr_classes_members.specs.Rosters.{method_numbered}
 use Rattle.kr_code_members.specs.Nodes.{table, run_program}
 use Rattle.kr_classes_names.specs.Types.{type_at}
 use Rattle.kr_mean.specs.Code.{Node, code}
-use Rattle.kr_mean.specs.Runs.{ensures_of, requires_of}
-use Rattle.kr_pure.proofs.Entered.{entered_same}
+use Rattle.kr_mean.specs.Runs.{requires_of}
+use Rattle.kr_mean.specs.Purity.{conditions_after}
+use Rattle.kr_pure.specs.declared.conditions.Side.TheVariants as sides
+use Rattle.kr_pure.specs.Entries.{side_nodes}
+use Rattle.kr_pure.proofs.Entered.{entered_same, required_same}
 use Rattle.kr_pure.proofs.roots.add_contract.Goals as goal
 
 two_sides : (f : Node → List Node) (before xs ys : List Node) → (before ++ flat_map f xs) ++ flat_map f ys ≡ before ++ flat_map f ((xs ++ []) ++ (ys ++ []))
@@ -25,5 +28,8 @@ returns-in_ok-add_side-in-Some c =
     let m = method_numbered (table p) c.in-Some.method in
     let f : Node → List Node = λ e. code e.scope e.tree in
     λ before.
-    let same = two_sides f before (requires_of mean m) (ensures_of mean m) ∙ ap (λ (ms : List Method). before ++ flat_map f (flat_map (requires_of mean) ms ++ flat_map (ensures_of mean) ms)) (c.in-Some.ensures.shown c.args.problem.now c.requires.subject) in
-    IfOk-weaker c.add_side-in-Some.result _ _ (λ done k h. entered_same p _ _ c.add_side-in-Some.new.entries.items same (k (c.in_ok-add_side-in-Some.ensures before arrays h))) (c.add_side-in-Some.ensures (before ++ flat_map f (requires_of mean m)) arrays)
+    let same =
+    two_sides f before (side_nodes mean sides.Required m) (conditions_after mean m)
+    ∙ ap (λ (ns : List Node). before ++ flat_map f ((ns ++ []) ++ (conditions_after mean m ++ []))) (required_same mean m)
+    ∙ ap (λ (ms : List Method). before ++ flat_map f (flat_map (requires_of mean) ms ++ flat_map (conditions_after mean) ms)) (c.in-Some.ensures.shown c.args.problem.now c.requires.subject) in
+    IfOk-weaker c.add_side-in-Some.result _ _ (λ done k h. entered_same p _ _ c.add_side-in-Some.new.entries.items same (k (c.in_ok-add_side-in-Some.ensures before arrays h))) (c.add_side-in-Some.ensures (before ++ flat_map f (side_nodes mean sides.Required m)) arrays)

@@ -11,7 +11,7 @@ returns-in_err-row_front g c =
     let text = structure_text (posed c.args.prepared.now.problem) c.args.row.now.structure in
     writes_exit c.from_residual.result c.from_residual.ensures.0
     (stopped_early (text ++ codes "\n") c.in_err-row_front.ensures
-    (append_assoc (cut_text c.args.row.now.key ++ codes " " ++ verdict_text c.args.row.now.verdict) text (codes "\n")))
+    (append_assoc (cut_text c.args.row.now.key ++ codes " " ++ verdict_text (posed c.args.prepared.now.problem).program.table.headings c.args.row.now.verdict) text (codes "\n")))
 
 pub returns-in_err-structure_text : goal.returns-in_err-structure_text
 returns-in_err-structure_text g c =

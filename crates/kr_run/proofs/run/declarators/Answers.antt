@@ -42,3 +42,9 @@ returns-in-Leave c = subst (λ (t : Statement). IsTicked t) (sym c.in-Leave.is) 
 
 pub returns-in-Return : goal.returns-in-Return
 returns-in-Return c = subst (λ (t : Statement). IsTicked t) (sym c.in-Return.is) (λ code d s. refl)
+
+pub returns-in-Throw : goal.returns-in-Throw
+returns-in-Throw c = subst (λ (t : Statement). IsTicked t) (sym c.in-Throw.is) (λ code d s. refl)
+
+pub returns-in-Try : goal.returns-in-Try
+returns-in-Try c = subst (λ (t : Statement). IsTicked t) (sym c.in-Try.is) (λ code d s. refl)

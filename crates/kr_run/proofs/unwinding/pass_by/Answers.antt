@@ -20,7 +20,7 @@ frames-preserved-in-Nothing c =
     let before = c.args.world.now in
     let top = c.frames.stack in
     let on : IsOnTop c.in-Some.top.now top = c.in-Some.ensures in
-    let passes : PassesBy c.in-Some.top.now c.args.by c.in-Some-past.ends = c.in-Some-past.ensures in
+    let passes : PassesBy c.args.code.now c.in-Some.top.now c.args.by c.in-Some-past.ends = c.in-Some-past.ensures in
     goes c.args.code.now top _ c.in-Some.top.now c.args.by c.in-Some-past.ends w _ before (λ d x. out_passing c.args.code.now d c.args.stack.now c.args.by (state_at before x)) on c.drop_top.ensures passes (λ x a. a) (λ x k. k) refl
     (λ x. sym (ap (λ (e : Ends). state_behind e (locals_on top) (state_at w x)) c.in-Nothing.is))
     c.frames.invariant
@@ -31,7 +31,7 @@ frames-preserved-in-Scope c =
     let before = c.args.world.now in
     let top = c.frames.stack in
     let on : IsOnTop c.in-Some.top.now top = c.in-Some.ensures in
-    let passes : PassesBy c.in-Some.top.now c.args.by c.in-Some-past.ends = c.in-Some-past.ensures in
+    let passes : PassesBy c.args.code.now c.in-Some.top.now c.args.by c.in-Some-past.ends = c.in-Some-past.ensures in
     goes c.args.code.now top _ c.in-Some.top.now c.args.by c.in-Some-past.ends w _ before (λ d x. out_passing c.args.code.now d c.args.stack.now c.args.by (state_at before x)) on c.drop_top-in-Scope.ensures passes (λ x a. a)
     (λ x k. record { allowed = k.allowed; frozen_before = k.frozen_before; same = k.same; long = k.long })
     refl
@@ -47,7 +47,7 @@ frames-preserved c =
     let before = c.args.world.now in
     let top = c.frames.stack in
     let on : IsOnTop c.in-Some.top.now top = c.in-Some.ensures in
-    let passes : PassesBy c.in-Some.top.now c.args.by c.in-Some-past.ends = c.in-Some-past.ensures in
+    let passes : PassesBy c.args.code.now c.in-Some.top.now c.args.by c.in-Some-past.ends = c.in-Some-past.ensures in
     goes c.args.code.now top _ c.in-Some.top.now c.args.by c.in-Some-past.ends w _ before (λ d x. out_passing c.args.code.now d c.args.stack.now c.args.by (state_at before x)) on c.in_ok-take_locals-in-Body.ensures.rest passes (λ x a. a)
     (λ x k. record { allowed = k.allowed; frozen_before = k.frozen_before; same = k.same; long = k.long })
     refl

@@ -1,8 +1,4 @@
-use Rattle.kr_mean.specs.Steps.{collect}
-use Rattle.kr_code.specs.Collections.{name_of}
-use Rattle.kr_code.specs.Doing.{Doing}
-use Rattle.kr_code.specs.Tables.{listed}
-use Rattle.kr_run_known.proofs.Going.{as_kind, only_value}
+use Rattle.kr_run_known.proofs.Going.{as_kind}
 use Rattle.kr_run_known.proofs.levels.parts_in.Goals as goal
 
 pub returns-in-OwnField : goal.returns-in-OwnField
@@ -26,16 +22,8 @@ returns-in-And g c = as_kind c.args.code.now c.args.world.now c.args.fuel c.and_
 pub returns-in-Or : goal.returns-in-Or
 returns-in-Or g c = as_kind c.args.code.now c.args.world.now c.args.fuel c.or_of.result _ _ c.in-Or.is c.or_of.ensures
 
-pub returns-then-arguments-eq0 : goal.returns-then-arguments-eq0
-returns-then-arguments-eq0 g c = as_kind c.args.code.now c.args.world.now c.args.fuel c.call_of.result _ _ c.in-CallCollection.is c.call_of.ensures
-
-pub returns-in-Some : goal.returns-in-Some
-returns-in-Some g c =
-    let code = c.args.code.now in
-    let w = c.args.world.now in
-    let call = c.in-CallCollection in
-    as_kind code w c.args.fuel c.call_with.result _ _ call.is
-    (only_value code w c.args.fuel c.call_with.result (λ (d : Doing). d.value call.object) (collect (name_of call.call)) (listed code call.arguments) c.in-Some.argument c.in-Some.ensures c.call_with.ensures)
+pub returns-in-CallCollection : goal.returns-in-CallCollection
+returns-in-CallCollection g c = as_kind c.args.code.now c.args.world.now c.args.fuel c.called.result _ _ c.in-CallCollection.is c.called.ensures
 
 pub returns-in-Convert : goal.returns-in-Convert
 returns-in-Convert g c = as_kind c.args.code.now c.args.world.now c.args.fuel c.look.result _ _ c.in-Convert.is c.look.ensures

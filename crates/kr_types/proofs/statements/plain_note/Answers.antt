@@ -10,6 +10,11 @@ returns-in-Block c =
     let l = c.args.context.now.types.now in
     of_one c.args.context.now.site l c.args.context.now.notes.now c.args.context.now.spot (λ v x. noting.plain x.least) _ _ _ _ _ refl c.in-Block.is (c.one_part_note.ensures.within l) c.one_part_note.ensures.no_rest (c.one_part_note.ensures.shown l (typed_in l c.args.context.now.notes.now)) c.part-x.ensures.shown refl
 
+pub returns-in-Try : goal.returns-in-Try
+returns-in-Try c =
+    let l = c.args.context.now.types.now in
+    of_two c.args.context.now.site l c.args.context.now.notes.now c.args.context.now.spot (λ v x y. noting.plain (sooner x.least y.least)) _ _ _ _ _ _ _ refl c.in-Try.is (c.two_parts_note.ensures.within l) c.two_parts_note.ensures.no_rest (c.two_parts_note.ensures.shown l (typed_in l c.args.context.now.notes.now)) c.part-x-in-Try.ensures.shown c.part-y.ensures.shown refl
+
 pub returns-in-ExpressionStatement : goal.returns-in-ExpressionStatement
 returns-in-ExpressionStatement c =
     let l = c.args.context.now.types.now in
@@ -18,7 +23,7 @@ returns-in-ExpressionStatement c =
 pub returns-in-Local : goal.returns-in-Local
 returns-in-Local c =
     let l = c.args.context.now.types.now in
-    of_two c.args.context.now.site l c.args.context.now.notes.now c.args.context.now.spot (λ v x y. noting.plain (sooner x.least y.least)) _ _ _ _ _ _ _ refl c.in-Local.is (c.two_parts_note.ensures.within l) c.two_parts_note.ensures.no_rest (c.two_parts_note.ensures.shown l (typed_in l c.args.context.now.notes.now)) c.part-x-in-Local.ensures.shown c.part-y.ensures.shown refl
+    of_two c.args.context.now.site l c.args.context.now.notes.now c.args.context.now.spot (λ v x y. noting.plain (sooner x.least y.least)) _ _ _ _ _ _ _ refl c.in-Local.is (c.two_parts_note-in-Local.ensures.within l) c.two_parts_note-in-Local.ensures.no_rest (c.two_parts_note-in-Local.ensures.shown l (typed_in l c.args.context.now.notes.now)) c.part-x-in-Local.ensures.shown c.part-y-in-Local.ensures.shown refl
 
 pub returns-in-Field : goal.returns-in-Field
 returns-in-Field c =

@@ -15,7 +15,7 @@ returns-in_default c =
           (λ t v.
           let g = setting t v tree in
           c.plainly.ensures.handed t v tree old c.entry-entry.result.place c.entry-entry.ensures.tree
-          (plain_of c.entry-entry.result.node c.in_default.not-Cons c.in_default.not-Declarator c.in_default.not-For c.in_default.not-Method c.in_default.not-Signature c.in_default.not-Constructor)
+          (plain_of c.entry-entry.result.node c.in_default.not-Cons c.in_default.not-Declarator c.in_default.not-For c.in_default.not-Method c.in_default.not-Signature c.in_default.not-Constructor c.in_default.not-Catch c.in_default.not-Signals)
           ∙ sym (ap (λ x. handed (scope_in g old c.args.here.now) x c.args.position) c.entry-entry.ensures.tree));
       none = c.requires.none;
     }

@@ -15,4 +15,5 @@ returns c =
       dispatch = c.in_ok-dispatch.ensures;
       instances = c.in_ok-instances.ensures files arrays c.requires.members;
       array_types = c.in_ok-array_types.ensures files;
+      traps = c.in_ok-trap_classes.ensures files arrays c.requires.heads;
     }

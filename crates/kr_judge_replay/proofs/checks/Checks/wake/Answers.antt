@@ -21,6 +21,6 @@ returns-clause-woken c =
       task_is = refl;
       count_is = refl;
       stack = c.in_ok-copy_from.ensures.alike;
-      world = record { this = s.this; locals = s.locals; result = s.result; olds = s.olds; made = s.made; fuel = s.fuel };
+      world = record { this = s.this; locals = s.locals; result = s.result; olds = s.olds; thrown = s.thrown; made = s.made; fuel = s.fuel };
       reads_are = c.truncate.ensures ∙ ap (λ (ps : List SlotPlace). take x.count ps) c.in_ok-resume.ensures.reads;
     }

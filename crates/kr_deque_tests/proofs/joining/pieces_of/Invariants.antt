@@ -1,5 +1,0 @@
-use Rattle.kr_deque_hands.specs.Pieces.{AllAhead, spans_of}
-use Rattle.kr_deque_tests.proofs.joining.pieces_of.Given as goal
-
-abbrev pub invariant-loop-name : goal.invariant-loop-name
-invariant-loop-name g l = AllAhead (spans_of l.pieces.items)

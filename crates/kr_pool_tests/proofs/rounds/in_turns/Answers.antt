@@ -1,8 +1,0 @@
-use Rattle.std.proofs.Common.{List, ℕ, sym, subst, ◌∙◌}
-use Rattle.kr_core.specs.Openings.{AreInside}
-use Rattle.kr_core.proofs.Cuts.{cuts_inside}
-use Rattle.kr_pool_tests.proofs.rounds.in_turns.Goals as goal
-
-pub start_in_turns-requires-clause-inside : goal.start_in_turns-requires-clause-inside
-start_in_turns-requires-clause-inside g c κs within =
-    subst (λ (cuts : List (List ℕ)). AreInside cuts c.in_ok-span.span) (sym (c.as_slice.ensures.value ∙ c.in_ok-cuts.ensures)) (cuts_inside c.in_ok-span.span c.args.workers)

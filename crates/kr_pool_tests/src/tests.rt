@@ -1,0 +1,10 @@
+// Tests of each pool.
+mod gates;
+mod joining;
+mod keys;
+mod listing;
+mod pools;
+mod rounds;
+mod spans;
+mod surveys;
+mod taking;

@@ -1,0 +1,3 @@
+class A {
+//@ signals (Exception e) \result == 1;
+int m() { return 1; } }

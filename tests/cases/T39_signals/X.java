@@ -1,0 +1,3 @@
+class A { int v;
+//@ signals (Exception e) v++ == 1;
+void m() { } }

@@ -1,0 +1,3 @@
+class A {
+//@ signals (Exception e) true;
+static void m() { } }

@@ -1,0 +1,3 @@
+class A {
+//@ signals (A a) true;
+void m() { } }

@@ -1,0 +1,3 @@
+class A {
+//@ signals (A a) 1;
+void m() { } }

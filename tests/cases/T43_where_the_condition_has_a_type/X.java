@@ -1,0 +1,3 @@
+class A {
+//@ signals (A a) b == 1;
+void m() { } }

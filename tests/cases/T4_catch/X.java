@@ -1,0 +1,1 @@
+class A { void m(int e) { try { } catch (Exception e) { } } }

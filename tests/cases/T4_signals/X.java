@@ -1,0 +1,3 @@
+class A {
+//@ signals (Exception e) true;
+void m(int e) { } }

@@ -1,0 +1,1 @@
+class Cell { int v; boolean repOk() { try { if (v == 0) throw new Low(); if (v == 1) throw new High(); return 1 / (v - 2) == 0; } catch (Low e) { return v == 0; } catch (High e) { return v == 1; } catch (Throwable t) { return t instanceof ArithmeticException; } } static class High extends RuntimeException { } static class Low extends High { } }

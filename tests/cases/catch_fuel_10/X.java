@@ -1,0 +1,1 @@
+class Cell { int v; boolean repOk() { try { throw new IllegalStateException(); } catch (IllegalStateException e) { return true; } } }

@@ -1,0 +1,1 @@
+class Cell { int v; boolean repOk() { int n = 0; while (true) { try { n = n + 1; if (n == 2) throw new Exception(); if (n > 2) break; continue; } catch (Exception e) { if (v == 1) break; continue; } } return n == v + 1; } }

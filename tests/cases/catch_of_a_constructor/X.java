@@ -1,0 +1,1 @@
+class Cell { int v; boolean repOk() { try { new Odd(v); return true; } catch (IllegalArgumentException e) { return false; } } static class Odd { Odd(int n) { if (n % 2 == 1) throw new IllegalArgumentException(); } } }

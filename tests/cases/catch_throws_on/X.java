@@ -1,0 +1,1 @@
+class Cell { int v; boolean repOk() { try { try { throw new IllegalStateException(); } catch (IllegalStateException e) { if (v == 1) throw e; throw new Exception(); } catch (Exception e) { return v == 0; } } catch (RuntimeException e) { return true; } catch (Exception e) { return v == 2; } } }

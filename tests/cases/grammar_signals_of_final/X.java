@@ -1,0 +1,3 @@
+class A {
+//@ signals (final Exception e) true;
+void m() { } }

@@ -1,0 +1,3 @@
+class A {
+//@ signals Exception true;
+void m() { } }

@@ -1,0 +1,1 @@
+class A { void m() { try (A a = null) { } catch (Exception e) { } } }

@@ -1,0 +1,3 @@
+class Cell { int v; boolean repOk() { return true; }
+  //@ signals (IllegalStateException e) v == 1;
+  void take() { if (v == 0) throw null; v = v - 1; } }
