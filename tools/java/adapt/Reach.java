@@ -390,7 +390,7 @@ final class Reach {
     // ---- the code
 
     /**
-     * The class of korat's that stands for an error: one that Java takes without `throws`, unless that one is caught where Java's
+     * The class of korat's in place of an error: one that Java takes without `throws`, unless that one is caught where Java's
      * error isn't. The clauses of a contract count as catches.
      */
     String error() {
