@@ -7,6 +7,7 @@
     cases      every call in tests/cases, shared in five ways at random
     domains    two to four object domains of one class at random, against all renamings that keep each domain
     limits     from, to and limit at random: inside segments, at a window's end, at the last row and beside it
+    windows    windows of 1 to 5 rows, 3 to 9 workers, from, to and limit at random: each of 160 calls ends within 20 seconds
     mutated    finitizations of examples/ with characters or lines changed at random
     cut        a source cut at each byte, one that never ends, a long one, and a spent entry at many places of a listing
     checked    a trace checked in little memory, and into a full device
@@ -43,21 +44,21 @@ def count(good, what):
         print("failed:", what, flush=True)
 
 
-def run(words, folder, **more):
+def run(words, folder, seconds=SECONDS, **more):
     """Status, output and error output of a call; the status is `hangs` where it doesn't end."""
     more.setdefault("stdout", subprocess.PIPE)
     try:
-        ended = subprocess.run([KORAT, *words], cwd=folder, stdin=subprocess.DEVNULL, stderr=subprocess.PIPE, timeout=SECONDS, **more)
+        ended = subprocess.run([KORAT, *words], cwd=folder, stdin=subprocess.DEVNULL, stderr=subprocess.PIPE, timeout=seconds, **more)
     except subprocess.TimeoutExpired:
         return "hangs", b"", b""
     return ended.returncode, ended.stdout, ended.stderr
 
 
-def compare(words, folder, ways, name):
+def compare(words, folder, ways, name, seconds=SECONDS):
     """One worker's call, and the same shared in each of the ways: the same bytes and status."""
     one = run(words, folder)
     for way in ways:
-        many = run([words[0], *way, *words[1:]], folder)
+        many = run([words[0], *way, *words[1:]], folder, seconds)
         shown = " ".join([words[0], *way, *words[1:]])[:200]
         count(many == one, f"{name}: {shown}: {many[0]}, and not {one[0]}; {len(many[1])} bytes of {len(one[1])}; {many[2][:80]}")
     return one
@@ -181,6 +182,20 @@ def limits():
             keys = [row.split(" ")[0] for row in rows]
             for _ in range(10 if keys else 0):
                 compare([words[0], *some_span(keys), *words[1:]], folder, CHANCE.sample(WAYS, 4), os.path.basename(folder[:-1]))
+
+
+def windows():
+    folder, asked = TOP + "/examples/binary-search-tree/", []
+    for words in (["list", "fin.toml", "SearchTree.java"], ["test", "fin.toml", "rotateRight", "SearchTree.java"]):
+        asked += [(folder, [words[0], "--to", "0.1.2.3.0.0.0.0.3.0.1.2.0", *words[1:]], [["--workers", "7", "--window", "2"]] * 40)]
+    for folder, sources, methods in CHANCE.sample(list(examples()), 8):
+        words = CHANCE.choice(calls_of(sources, methods))
+        keys = [row.split(" ")[0] for row in run(words, folder)[1].decode().split("\n")[:-2]]
+        for _ in range(5 if keys else 0):
+            ways = [["--workers", str(CHANCE.randint(3, 9)), "--window", str(CHANCE.randint(1, 5))] for _ in range(2)]
+            asked += [(folder, [words[0], *some_span(keys), *words[1:]], ways)]
+    for folder, words, ways in asked:
+        compare(words, folder, ways, os.path.basename(folder[:-1]), 20)
 
 
 def changed(text):
@@ -444,7 +459,7 @@ def idle():
                   f"four candidates by {workers} workers: {busy:.2f} s and {most} KB, where one takes {seconds:.2f} s and {memory} KB")
 
 
-PARTS = {part.__name__: part for part in (equal, cases, domains, limits, mutated, cut, checked, pipes, full, memory, stack, size, signals, waiting, idle)}
+PARTS = {part.__name__: part for part in (equal, cases, domains, limits, windows, mutated, cut, checked, pipes, full, memory, stack, size, signals, waiting, idle)}
 
 if __name__ == "__main__":
     asked = sys.argv[1:] or list(PARTS)

@@ -9,7 +9,7 @@ use Rattle.kr_base.specs.declared.refusal.RefusalOf.TheVariants as of
 use Rattle.kr_ast.specs.Arena.{Arena, root}
 use Rattle.kr_mean.specs.declared.mode.Mode.{Mode}
 use Rattle.kr_space_problem.specs.Posed.{posed}
-use Rattle.kr_laws_shapes.specs.Shapes.{AreClasses}
+use Rattle.kr_laws_types.specs.Derivation.{AreClasses}
 use Rattle.kr_space_problem.specs.declared.problem.Problem.{Problem}
 use Rattle.kr_pure.specs.declared.purity.PureRefusal.{PureRefusal}
 use Rattle.kr_pure.specs.declared.purity.PureRefusal.TheVariants as pure

@@ -5,7 +5,7 @@ use Rattle.kr_mean.specs.Heaps.{walk}
 use Rattle.kr_mean.specs.Problem.{Problem, all_objects, slots}
 use Rattle.kr_mean.specs.Readings.{AllBelow}
 use Rattle.kr_mean.specs.WellFormed.{IsWellFormed}
-use Rattle.kr_laws_slots.proofs.Walked.{walk_below, walked}
+use Rattle.kr_laws_pruning.proofs.Walked.{walk_below, walked}
 
 below_all : (n : ℕ) (ss : List ℕ) → AllOf (λ s. s < n) ss → AllBelow n ss
 below_all n [] a = tt

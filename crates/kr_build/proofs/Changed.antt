@@ -1,5 +1,5 @@
 -- The heap of a vector whose slot has another index.
-use Rattle.std.proofs.Common.{◌≡◌, ℕ, zero, suc, ◌+◌, ◌++◌, ◌<◌, ◌≤◌, ◌⊎◌, inl, inr, Bool, true, false, List, [], ◌∷◌, length, get_or, Some, None, refl, sym, ap, ◌∙◌, subst, arith, append_assoc}
+use Rattle.std.proofs.Common.{◌≡◌, ℕ, zero, suc, ◌+◌, ◌++◌, ◌<◌, ◌≤◌, ◌⊎◌, inl, inr, Bool, true, false, List, [], ◌∷◌, length, get_or, Option, Some, None, refl, sym, ap, ◌∙◌, subst, arith, append_assoc}
 use Rattle.std.specs.Prelude.{map, filter, take, slice_set}
 use Rattle.std.specs.List.{range_with_len}
 use Rattle.std.proofs.lemmas.List.{ext_get_or, get_or-set_same, get_or-set_other, length-set}
@@ -7,17 +7,19 @@ use Rattle.std.proofs.lemmas.Bool.{cases_eq, cases_lt}
 use Rattle.kr_value.specs.Heaps.{Heap, HeapObject, object_in, no_object}
 use Rattle.kr_value.specs.declared.object.Class.{Class}
 use Rattle.kr_value.specs.declared.object.Class.TheVariants.{Object, Array, Set, List as ListClass}
+use Rattle.kr_value.specs.declared.object.Spot.{Spot}
 use Rattle.kr_value.specs.declared.value.Value.{Value}
 use Rattle.kr_heap.specs.Objects.{with_value, with_values}
 use Rattle.kr_mean.specs.Problem.{Problem, DomainObject, choices_at, Slot, domain_at, heap_number, slot_at, slots, upto}
 use Rattle.kr_mean.specs.Heaps.{heap_object, heap_of, is_owner, length_in, slots_owned, slots_there, value_at, values_there}
 use Rattle.kr_mean.specs.Space.{IsVector, no_choice, space_of}
-use Rattle.kr_mean.specs.WellFormed.{IsWellFormed}
-use Rattle.kr_laws_slots.proofs.Numbering as numbering
-use Rattle.kr_laws_slots.proofs.Numbering.{width_at, object, number_of_object, object_at_number, count_at, parameter_slot, object_slot, SlotCase, is_this, is_parameter, is_spot, slot_case}
-use Rattle.kr_build.specs.Renewed.{IsSameBut}
+use Rattle.kr_mean.specs.Places.{SlotPlace, This, Parameter, At}
+use Rattle.kr_mean.specs.WellFormed.{AreSpots, IsWellFormed}
+use Rattle.kr_laws_pruning.proofs.Numbering as numbering
+use Rattle.kr_laws_pruning.proofs.Numbering.{width_at, object, number_of_object, object_at_number, count_at, parameter_slot, object_slot, SlotCase, is_this, is_parameter, is_spot, slot_case}
+use Rattle.kr_build.specs.Renewed.{IsSameBut, position_of}
 use Rattle.kr_build.proofs.Rows.{InDomain}
-use Rattle.kr_laws_slots.proofs.Places.{heap_class, heap_get, heap_long, heap_values, same_objects}
+use Rattle.kr_laws_pruning.proofs.Places.{heap_class, heap_get, heap_long, heap_values, kind, same_objects, spot_is}
 
 -- ---- slots at which two functions agree
 
@@ -154,22 +156,6 @@ owner_in problem s o h e = go (slot_case problem s h)
         let is : object d k ≡ o = cc (q, e) in
         subst (InDomain problem) is (record { domain = a; number = b })
 
--- and its position there
-pub record StandsIn (problem : Problem) (s : ℕ) (o : DomainObject) : Type 0 where
-  pub after : numbering.first_slot problem o.domain o.number ≤ s
-  pub within : s < numbering.first_slot problem o.domain o.number + width_at problem o.domain
-
-pub stands_in : (problem : Problem) (s : ℕ) (o : DomainObject) → s < length (slots problem) → (slot_at problem s).owner ≡ Some o → StandsIn problem s o
-stands_in problem s o h e = go (slot_case problem s h)
-  where
-    go : SlotCase problem s → StandsIn problem s o
-    go (is_this z) = let q : (slot_at problem s).owner ≡ None = rw z refl in absurd (cc (q, e))
-    go (is_parameter i l z) = let q : (slot_at problem s).owner ≡ None = rw (z, (parameter_slot problem i l).1) refl in absurd (cc (q, e))
-    go (is_spot d k j a b c z) =
-        let q : (slot_at problem s).owner ≡ Some (object d k) = ap (λ (x : ℕ). (slot_at problem x).owner) z ∙ ap (λ (x : Slot). x.owner) (object_slot problem d k j a b c).1 in
-        let is : object d k ≡ o = cc (q, e) in
-        subst (StandsIn problem s) is (record { after = omega (arith, z); within = omega (arith, z, c) })
-
 -- values at consecutive slots, of which one has changed
 same_range : (f g : ℕ → Value) (a n : ℕ) → ((t : ℕ) → a ≤ t → f t ≡ g t) → map f (range_with_len a n) ≡ map g (range_with_len a n)
 same_range f g a zero h = refl
@@ -187,7 +173,7 @@ set_range f g a (suc n) (suc j) x h e =
     ∙ ap (λ (xs : List Value). g a ∷ xs) (set_range f g (a + 1) n j x (λ t m. h t (λ q. m (q ∙ sym at))) (ap f at ∙ e))
 
 -- a slot of an object that has fields changes that field alone
-pub field_set : (problem : Problem) → IsWellFormed problem → (v u : List ℕ) (s i : ℕ) → u ≡ slice_set v s i → (o : DomainObject) → InDomain problem o → (slot_at problem s).owner ≡ Some o → (c : ℕ) → (domain_at problem o.domain).class ≡ Object c
+field_set : (problem : Problem) → IsWellFormed problem → (v u : List ℕ) (s i : ℕ) → u ≡ slice_set v s i → (o : DomainObject) → InDomain problem o → (slot_at problem s).owner ≡ Some o → (c : ℕ) → (domain_at problem o.domain).class ≡ Object c
     → (j : ℕ) → numbering.first_slot problem o.domain o.number + j ≡ s → j < width_at problem o.domain → heap_of problem u ≡ with_value (heap_of problem v) (heap_number problem o) j (value_at problem u s)
 unfolding new
 field_set problem w v u s i q o d e c class j at l =
@@ -203,7 +189,7 @@ field_set problem w v u s i q o d e c class j at l =
     ∙ ap (λ (xs : List Value). with_values (heap_of problem v) (heap_number problem o) xs) (new ∙ (one ∙ ap (λ (xs : List Value). slice_set xs j (value_at problem u s)) (sym old)))
 
 -- a slot of an array after its length changes that element alone, or nothing past its length
-pub element_set : (problem : Problem) → IsWellFormed problem → (v u : List ℕ) (s i : ℕ) → u ≡ slice_set v s i → (o : DomainObject) → InDomain problem o → (slot_at problem s).owner ≡ Some o → (t : ℕ) → (domain_at problem o.domain).class ≡ Array t
+element_set : (problem : Problem) → IsWellFormed problem → (v u : List ℕ) (s i : ℕ) → u ≡ slice_set v s i → (o : DomainObject) → InDomain problem o → (slot_at problem s).owner ≡ Some o → (t : ℕ) → (domain_at problem o.domain).class ≡ Array t
     → (m : ℕ) → numbering.first_slot problem o.domain o.number + 1 + m ≡ s → heap_of problem u ≡ with_value (heap_of problem v) (heap_number problem o) m (value_at problem u s)
 unfolding new
 element_set problem w v u s i q o d e t class m at =
@@ -218,6 +204,44 @@ element_set problem w v u s i q o d e t class m at =
     let one = set_range (value_at problem u) (value_at problem v) (first + 1) (length_in (value_at problem v first)) m (value_at problem u s) others (ap (value_at problem u) at) in
     heap_with problem v s i w o u q d e
     ∙ ap (λ (xs : List Value). with_values (heap_of problem v) (heap_number problem o) xs) (new ∙ (long ∙ (one ∙ ap (λ (xs : List Value). slice_set xs m (value_at problem u s)) (sym old))))
+
+-- the values of a heap after a change at a position of an object, if it is one
+abbrev pub Writes : Heap → Heap → ℕ → Option ℕ → Value → Type 0
+Writes h g o None x = Unit {0}
+Writes h g o (Some at) x = g ≡ with_value h o at x
+
+-- what a changed slot changes in the heap, by its place
+abbrev pub Changes : Problem → List ℕ → List ℕ → ℕ → SlotPlace → Type 0
+Changes problem v u s This = heap_of problem u ≡ heap_of problem v
+Changes problem v u s (Parameter i) = heap_of problem u ≡ heap_of problem v
+Changes problem v u s (At o spot) = Writes (heap_of problem v) (heap_of problem u) o (position_of spot) (value_at problem u s)
+
+module _ (problem : Problem) (w : IsWellFormed problem) (v u : List ℕ) (s i : ℕ) (q : u ≡ slice_set v s i) where
+  spot_changes : (d k j : ℕ) → d < length problem.domains → k < count_at problem d → j < width_at problem d → s ≡ numbering.first_slot problem d k + j → (slot_at problem s).owner ≡ Some (object d k)
+      → (c : Class) → (domain_at problem d).class ≡ c → AreSpots c (domain_at problem d).spots → Changes problem v u s (At (heap_number problem (object d k)) (kind c j))
+  spot_changes d k j a b c z e (Object t) class h = field_set problem w v u s i q (object d k) (record { domain = a; number = b }) e t class j (sym z) c
+  spot_changes d k zero a b c z e (Array t) class h = tt
+  spot_changes d k (suc m) a b c z e (Array t) class h = element_set problem w v u s i q (object d k) (record { domain = a; number = b }) e t class m (omega (arith, z))
+  spot_changes d k j a b c z e Set class h = absurd h
+  spot_changes d k j a b c z e ListClass class h = absurd h
+
+  place_of_slot : SlotCase problem s → Changes problem v u s (slot_at problem s).place
+  place_of_slot (is_this z) =
+      let p : (slot_at problem s).place ≡ This = rw z refl in
+      let e : (slot_at problem s).owner ≡ None = rw z refl in
+      subst (Changes problem v u s) (sym p) (heap_without problem v s i w u q e)
+  place_of_slot (is_parameter n l z) =
+      let p : (slot_at problem s).place ≡ Parameter n = ap (λ (x : ℕ). (slot_at problem x).place) z ∙ ap (λ (x : Slot). x.place) (parameter_slot problem n l).1 in
+      let e : (slot_at problem s).owner ≡ None = rw (z, (parameter_slot problem n l).1) refl in
+      subst (Changes problem v u s) (sym p) (heap_without problem v s i w u q e)
+  place_of_slot (is_spot d k j a b c z) =
+      let p : (slot_at problem s).place ≡ At (heap_number problem (object d k)) (kind (domain_at problem d).class j) =
+      ap (λ (x : ℕ). (slot_at problem x).place) z ∙ (ap (λ (x : Slot). x.place) (object_slot problem d k j a b c).1 ∙ ap (λ (x : Spot). At (heap_number problem (object d k)) x) (spot_is problem w d j a c)) in
+      let e : (slot_at problem s).owner ≡ Some (object d k) = ap (λ (x : ℕ). (slot_at problem x).owner) z ∙ ap (λ (x : Slot). x.owner) (object_slot problem d k j a b c).1 in
+      subst (Changes problem v u s) (sym p) (spot_changes d k j a b c z e (domain_at problem d).class refl (w.spots d a))
+
+  pub place_changes : s < length (slots problem) → Changes problem v u s (slot_at problem s).place
+  place_changes h = place_of_slot (slot_case problem s h)
 
 pub vector_long : (problem : Problem) (v : List ℕ) → IsVector (space_of problem) v → length v ≡ length (slots problem)
 unfolding space_of

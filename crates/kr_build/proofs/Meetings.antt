@@ -6,9 +6,9 @@ use Rattle.std.proofs.lemmas.List.Concat.{flat_map-append}
 use Rattle.std.proofs.lemmas.Bool.{cases_Bool}
 use Rattle.kr_mean.specs.Problem.{Problem, DomainObject}
 use Rattle.kr_mean.specs.Heaps.{distinct, is_same_object, objects_of, objects_at, choice_at}
-use Rattle.kr_laws_slots.proofs.Places.{same_objects}
-use Rattle.kr_laws_slots.proofs.SlotForks.{added, distinct_append}
-use Rattle.kr_laws_slots.proofs.Walked.{objects_there}
+use Rattle.kr_laws_pruning.proofs.Places.{same_objects}
+use Rattle.kr_laws_pruning.proofs.SlotForks.{added, distinct_append}
+use Rattle.kr_laws_pruning.proofs.Walked.{objects_there}
 
 -- whether an object is among some
 abbrev pub is_in : DomainObject → List DomainObject → Bool

@@ -9,11 +9,11 @@ use Rattle.kr_mean.specs.Space.{IsVector, space_of}
 use Rattle.kr_mean.specs.WellFormed.{AreSpots, IsWellFormed}
 use Rattle.kr_mean.specs.Heaps.{choice_at, length_in, slots_in, value_at}
 use Rattle.kr_space_layout.specs.Layouts.{first_slot, slots_before}
-use Rattle.kr_laws_slots.proofs.Numbering as numbering
-use Rattle.kr_laws_slots.proofs.Numbering.{object, width_at, object_slot}
-use Rattle.kr_laws_slots.proofs.Places as places
-use Rattle.kr_laws_slots.proofs.Places.{extent_within, slots_in_are}
-use Rattle.kr_laws_slots.proofs.Spaces.{block_of}
+use Rattle.kr_laws_pruning.proofs.Numbering as numbering
+use Rattle.kr_laws_pruning.proofs.Numbering.{object, width_at, object_slot}
+use Rattle.kr_laws_pruning.proofs.Places as places
+use Rattle.kr_laws_pruning.proofs.Places.{extent_within, slots_in_are}
+use Rattle.kr_laws_pruning.proofs.Spaces.{block_of}
 use Rattle.kr_build.specs.Extents.{extent_of, is_array}
 
 pub record InVector (problem : Problem) (v : List ℕ) (s : ℕ) : Type 0 where

@@ -7,12 +7,12 @@ use Rattle.std.proofs.lemmas.Bool.{eq-eqb, eqb-true, cases_Bool}
 use Rattle.kr_mean.specs.Problem.{Problem, DomainObject, all_objects, heap_number, slots, slot_at}
 use Rattle.kr_mean.specs.WellFormed.{IsWellFormed}
 use Rattle.kr_mean.specs.Heaps.{is_same_object, slots_in, objects_at, root_slots, met_within, walk, choice_at}
-use Rattle.kr_laws_slots.proofs.Places.{one_object, same_object, same_objects}
-use Rattle.kr_laws_slots.proofs.SlotForks.{added}
+use Rattle.kr_laws_pruning.proofs.Places.{one_object, same_object, same_objects}
+use Rattle.kr_laws_pruning.proofs.SlotForks.{added}
 use Rattle.kr_laws_runs.proofs.Respects.{AllOf}
-use Rattle.kr_laws_slots.proofs.Spaces.{block_of}
-use Rattle.kr_laws_slots.proofs.Walked.{Valid, objects_there, walked, walk_below, objects_more as objects_both}
-use Rattle.kr_laws_slots.proofs.Reached.{settled}
+use Rattle.kr_laws_pruning.proofs.Spaces.{block_of}
+use Rattle.kr_laws_pruning.proofs.Walked.{Valid, objects_there, walked, walk_below, objects_more as objects_both}
+use Rattle.kr_laws_pruning.proofs.Reached.{settled}
 use Rattle.kr_space_layout.specs.Marks.{IsMarked}
 use Rattle.kr_build.specs.Visits.{IsVisit, IsVisitOf, IsMeeting}
 use Rattle.kr_build.proofs.Meetings.{is_in, unless_in, new_objects, objects_more, in_more}

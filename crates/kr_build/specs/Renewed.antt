@@ -1,7 +1,9 @@
--- Between crates: a heap that is a vector's but for one slot, and vectors that are the same but for some slots.
-use Rattle.std.specs.Prelude.{◌≡◌, ◌⊎◌, ◌<◌, ◌≤◌, ℕ, List, slice_set}
+-- Between crates: a heap that is a vector's but for one slot, positions of spots, and vectors that are the same but for some slots.
+use Rattle.std.specs.Prelude.{◌≡◌, ◌⊎◌, ◌<◌, ◌≤◌, ℕ, List, Option, Some, None, slice_set}
 use Rattle.std.proofs.Common.{get_or}
 use Rattle.kr_value.specs.Heaps.{Heap}
+use Rattle.kr_value.specs.declared.object.Spot.{Spot}
+use Rattle.kr_value.specs.declared.object.Spot.TheVariants.{Field, Length, Element}
 use Rattle.kr_mean.specs.Heaps.{heap_of}
 use Rattle.kr_mean.specs.Problem.{Problem}
 
@@ -11,6 +13,12 @@ pub record IsBut (problem : Problem) (slot : ℕ) (vector : List ℕ) (heap : He
   pub index : ℕ
   pub changed : vector ≡ slice_set old slot index
   pub heap_is : heap ≡ heap_of problem old
+
+-- the position of a field or an element
+abbrev pub position_of : Spot → Option ℕ
+position_of (Field f) = Some f
+position_of (Element i) = Some i
+position_of Length = None
 
 -- two vectors have the same indices, but at slots from one to another
 abbrev pub IsSameBut : List ℕ → List ℕ → ℕ → ℕ → Type 0

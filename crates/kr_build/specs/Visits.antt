@@ -1,5 +1,5 @@
 -- Between crates: one step of the walk.
-use Rattle.std.specs.Prelude.{◌≡◌, ℕ, ◌==◌, Bool, true, false, List, ◌++◌, Option, Some, None, if◌then◌else◌}
+use Rattle.std.specs.Prelude.{◌≡◌, ℕ, Bool, true, false, List, ◌++◌, Option, Some, None}
 use Rattle.std.proofs.Common.{get_or}
 use Rattle.kr_mean.specs.Problem.{Problem, DomainObject, heap_number}
 use Rattle.kr_mean.specs.Heaps.{choice_at, slots_in}

@@ -1,8 +1,8 @@
 // A heap that is brought from one candidate to another.
-ghost use Rattle.std.specs.Prelude.{◌≡◌, ◌<◌, ◌≤◌, ◌+◌, ◌^◌, ◌++◌, ℕ, OnOk, Some, length, map, slice_index, slice_set};
+ghost use Rattle.std.specs.Prelude.{◌≡◌, ◌<◌, ◌≤◌, ◌+◌, ◌^◌, ◌++◌, ℕ, OnOk, length, map, slice_index, slice_set};
 ghost use Rattle.std.specs.List.{range_with_len};
-ghost use Rattle.kr_build.specs.Vocabulary.{bare, choices_at, domain_at, heap_number, heap_object, heap_of, IsVector, IsWellFormed, object_in, object_of, slot_at, slots, space_of, value_at, with_values};
-ghost use Rattle.kr_build.specs.Renewed.{IsBut, IsSameBut};
+ghost use Rattle.kr_build.specs.Vocabulary.{bare, choices_at, domain_at, heap_number, heap_object, heap_of, IsVector, IsWellFormed, object_in, object_of, place_of, slot_at, slots, space_of, value_at, with_values};
+ghost use Rattle.kr_build.specs.Renewed.{IsBut, IsSameBut, position_of};
 
 use crate::heap::kept;
 use crate::objects::{Stretch, slots_of};
@@ -10,7 +10,7 @@ use kr_base::NoMemory;
 use kr_heap::Heap;
 use kr_iso::Object;
 use kr_space_layout::Layout;
-use kr_value::{Class, Obj};
+use kr_value::{Obj, SlotPlace, Spot};
 use kr_vector::{Slot, Vector};
 
 /// Adds the values that a candidate has at consecutive slots after those of an object.
@@ -55,14 +55,45 @@ fn rebuild(
     Ok(())
 }
 
-/// Gives an object of a heap what a candidate has there, where one of its slots has changed: a field or an element alone, and all
-/// where the length of an array changes.
+/// Gives the array whose length is at a slot what a candidate has there, in the room that is there.
+#[inline(never)]
+fn resize(heap: &mut Heap, layout: &Layout, vector: &Vector, slot: u32) -> Result<(), NoMemory>
+    requires well { IsWellFormed (bare layout.now) }
+    requires vector { IsVector (space_of (bare layout.now)) vector.now }
+    requires small { length (slots (bare layout.now)) < 2 ^ 31 }
+    requires slot { slot < length (slots (bare layout.now)) }
+    requires heap { IsBut (bare layout.now) slot vector.now heap.old }
+    ensures { OnOk result (heap.new ≡ heap_of (bare layout.now) vector.now) }
+{
+    match layout.owner(slot) {
+        None => Ok(()),
+        Some(object) => {
+            rebuild(heap, layout, vector, object)?;
+            Ok(())
+        }
+    }
+}
+
+/// The position of a spot among an object's fields or elements, if it's one of them.
+#[inline(always)]
+fn position(spot: Spot) -> Option<u32>
+    ensures { result ≡ position_of spot }
+{
+    match spot {
+        Spot::Field(at) => Some(at),
+        Spot::Element(at) => Some(at),
+        Spot::Length => None,
+    }
+}
+
+/// Gives an object of a heap what a candidate has there, where one of its spots has changed: a field or an element is written
+/// alone, and an array is given all its elements where its length has changed.
 #[inline(always)]
 fn renew(
     heap: &mut Heap,
     layout: &Layout,
     vector: &Vector,
-    object: Object,
+    place: SlotPlace,
     slot: u32,
     index: u32,
 ) -> Result<(), NoMemory>
@@ -71,31 +102,20 @@ fn renew(
     requires small { length (slots (bare layout.now)) < 2 ^ 31 }
     requires slot { slot < length (slots (bare layout.now)) }
     requires index { index ≡ slice_index vector.now slot }
-    requires owner { (slot_at (bare layout.now) slot).owner ≡ Some (object_of object) }
+    requires place { place_of place ≡ (slot_at (bare layout.now) slot).place }
     requires heap { IsBut (bare layout.now) slot vector.now heap.old }
     ensures { OnOk result (heap.new ≡ heap_of (bare layout.now) vector.now) }
 {
-    match layout.class(object.domain) {
-        Class::Object(_) => {
-            let at = slot - layout.first_slot(object);
-            let value = layout.value(slot, index);
-            heap.write(layout.heap_number(object), at as usize, value);
-            Ok(())
-        }
-        Class::Array(_) => {
-            let at = slot - layout.first_slot(object);
-            if at == 0 {
-                rebuild(heap, layout, vector, object)?;
-                return Ok(());
+    match place {
+        SlotPlace::This => Ok(()),
+        SlotPlace::Parameter(_) => Ok(()),
+        SlotPlace::At(object, spot) => match position(spot) {
+            None => resize(heap, layout, vector, slot),
+            Some(at) => {
+                heap.write(object, at as usize, layout.value(slot, index));
+                Ok(())
             }
-            let value = layout.value(slot, index);
-            heap.write(layout.heap_number(object), at as usize - 1, value);
-            Ok(())
-        }
-        _ => {
-            rebuild(heap, layout, vector, object)?;
-            Ok(())
-        }
+        },
     }
 }
 
@@ -118,13 +138,7 @@ fn change(
     ensures heap { OnOk result (heap.new ≡ heap_of (bare layout.now) vector.new) }
 {
     vector.set(Slot(slot), index);
-    match layout.owner(slot) {
-        None => Ok(()),
-        Some(object) => {
-            renew(heap, layout, vector, object, slot, index)?;
-            Ok(())
-        }
-    }
+    renew(heap, layout, vector, layout.place(slot), slot, index)
 }
 
 /// Gives a slot of a candidate an index, in its heap too.

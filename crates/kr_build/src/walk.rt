@@ -26,6 +26,7 @@ impl Model for Walk {
 }
 
 /// Looks at a slot: where it has an object that wasn't met, the object's slots are walked after all others.
+#[inline(always)]
 fn visit(
     layout: &Layout,
     vector: &Vector,
@@ -39,7 +40,7 @@ fn visit(
     requires slot { slot < length (slots (bare layout.now)) }
     ensures { OnOk result (IsVisit (bare layout.now) vector.now slot met.old.items order.old.items met.new.items order.new.items) }
 {
-    let Some(object) = layout.choice(slot, vector.get(Slot(slot))).object else {
+    let Some(object) = layout.object(slot, vector.get(Slot(slot))) else {
         return Ok(());
     };
     let number = layout.heap_number(object);

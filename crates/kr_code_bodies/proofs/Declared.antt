@@ -9,7 +9,7 @@ use Rattle.kr_ast.specs.declared.node.Entry.{Entry}
 use Rattle.kr_ast.specs.declared.node.Node.TheVariants as nodes
 use Rattle.kr_classes_table.specs.Table as tables
 use Rattle.kr_classes_table.specs.Table.{Heading, constructors_in, methods_in}
-use Rattle.kr_laws_shapes.specs.Shapes as shapes
+use Rattle.kr_laws_types.specs.Derivation as shapes
 use Rattle.kr_types.specs.declared.program.Program.{Program}
 use Rattle.kr_code_members.specs.Nodes.{table, IsConstructorNode, IsMaybeConstructorNode, IsMemberNode, IsMethodNode}
 use Rattle.kr_code_members.specs.declared.nodes.MethodNode.{MethodNode}

@@ -18,6 +18,17 @@ use Rattle.kr_code.specs.declared.code.Code.{Code}
 use Rattle.kr_code.specs.declared.expression.Expression.{Expression}
 use Rattle.kr_code.specs.declared.expression.Expression.TheVariants as expressions
 use Rattle.kr_code.specs.Resolved.{Numbering, IsPart, IsExpression}
+use Rattle.kr_code_lowering.specs.declared.coding.Coding.{Coding}
+use Rattle.kr_code_lowering.specs.declared.coding.Coding.TheVariants as codings
+
+-- whether a node of this coding has code at all, and whether it is no expression
+abbrev pub is_coded : Coding → Bool
+is_coded codings.Nothing = false
+is_coded c = true
+
+abbrev pub is_apart : Coding → Bool
+is_apart codings.Expression = false
+is_apart c = true
 
 -- made of values in the scope of the whole, but no operator on numbers
 abbrev pub is_operator : Node → Bool

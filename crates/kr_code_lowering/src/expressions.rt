@@ -1,12 +1,13 @@
 // Nodes as expressions.
-ghost use Rattle.std.specs.Prelude.{◌≡◌, ◌<◌, ◌^◌, pos, List, ℕ, All, IfOk, length};
+ghost use Rattle.std.specs.Prelude.{◌≡◌, ◌<◌, ◌^◌, pos, All, IfOk, length};
 ghost use Rattle.kr_code_lowering.specs.Kinds.{is_operator};
-ghost use Rattle.kr_code_lowering.specs.Vocabulary.{Bits32, Bits64, count, Int, is_no_expression, IsGrown, IsProgram, Literal, Place, Tree, tree_of, wrap};
+ghost use Rattle.kr_code_lowering.specs.Vocabulary.{Bits32, Bits64, count, Int, IsGrown, IsProgram, Literal, wrap};
 ghost use Rattle.kr_code_lowering.specs.Numbered.{AreNumbers};
 ghost use Rattle.kr_code_lowering.specs.Sites.{IsSite, Resolves};
 
 use crate::access::{access_expression, name_expression};
 use crate::calls::{call_expression, super_call_expression};
+use crate::coding::is_no_expression;
 use crate::links::Links;
 use crate::methods::{creation_expression, method_call_expression};
 use crate::names::Names;
@@ -38,72 +39,7 @@ fn long_literal(value: u64) -> Expression
     Expression::Literal(Value::Int(value.cast_signed()))
 }
 
-/// Whether a node is no expression.
-pub(crate) fn is_no_expression(node: Node) -> bool
-    ensures { (text : List ℕ) (look : ℕ → Tree) (place : Place) → result ≡ is_no_expression (tree_of text look place node) }
-{
-    match node {
-        Node::Nil
-        | Node::Cons { .. }
-        | Node::PrimitiveType { .. }
-        | Node::NamedType { .. }
-        | Node::QualifiedType { .. }
-        | Node::GenericType { .. }
-        | Node::DiamondType { .. }
-        | Node::ArrayType { .. }
-        | Node::Empty
-        | Node::Block { .. }
-        | Node::Local { .. }
-        | Node::Declarator { .. }
-        | Node::ExpressionStatement { .. }
-        | Node::Return { .. }
-        | Node::Break
-        | Node::Continue
-        | Node::IfThen { .. }
-        | Node::IfElse { .. }
-        | Node::While { .. }
-        | Node::Do { .. }
-        | Node::For { .. }
-        | Node::Throw { .. }
-        | Node::Try { .. }
-        | Node::Catch { .. }
-        | Node::Signals { .. }
-        | Node::ConstructorCall { .. }
-        | Node::Class { .. }
-        | Node::Field { .. }
-        | Node::Method { .. }
-        | Node::Signature { .. }
-        | Node::Parameter { .. }
-        | Node::Constructor { .. }
-        | Node::Requires { .. }
-        | Node::Ensures { .. } => true,
-        Node::Number { .. }
-        | Node::LongNumber { .. }
-        | Node::Truth { .. }
-        | Node::Null
-        | Node::This
-        | Node::Variable { .. }
-        | Node::FieldAccess { .. }
-        | Node::ArrayAccess { .. }
-        | Node::Call { .. }
-        | Node::MethodCall { .. }
-        | Node::SuperCall { .. }
-        | Node::ObjectCreation { .. }
-        | Node::ArrayCreation { .. }
-        | Node::Unary { .. }
-        | Node::Step { .. }
-        | Node::Binary { .. }
-        | Node::InstanceOf { .. }
-        | Node::Conditional { .. }
-        | Node::Cast { .. }
-        | Node::Assignment { .. }
-        | Node::CompoundAssignment { .. }
-        | Node::Result
-        | Node::Old { .. } => false,
-    }
-}
-
-/// Whether it is an operator on values in its own scope.
+/// Whether a node is an operator on values in its own scope.
 fn is_operator(node: Node) -> bool
     ensures { result ≡ is_operator node }
 {

@@ -6,6 +6,7 @@ mod access;
 mod bodies;
 mod calls;
 mod catches;
+mod coding;
 mod constructors;
 mod declarators;
 mod expressions;

@@ -7,11 +7,12 @@ ghost use Rattle.kr_code_lowering.specs.Sites.{IsSite, number_at};
 ghost use Rattle.kr_code_lowering.specs.Resolving.{AreNodes, IsNode};
 
 use crate::catches::catch_at;
+use crate::coding::{has_code, is_no_expression};
 use crate::declarators::declarator_at;
-use crate::expressions::{expression_at, is_no_expression};
+use crate::expressions::expression_at;
 use crate::links::Links;
 use crate::names::Names;
-use crate::numbering::{NodeNumbers, has_code};
+use crate::numbering::NodeNumbers;
 use crate::site::Site;
 use crate::statements::statement_at;
 use kr_ast::{Node as TreeNode, tree_of};

@@ -1,11 +1,12 @@
 // The numbers that code has for the nodes of files.
-ghost use Rattle.std.specs.Prelude.{◌≡◌, ◌+◌, ◌<◌, ◌++◌, ◌∷◌, [], Bool, List, ℕ, suc, IfOk, length, slice_index, if◌then◌else◌};
-ghost use Rattle.kr_code_lowering.specs.Vocabulary.{IsProgram, Place, Tree, tree_of};
-ghost use Rattle.kr_code_lowering.specs.Origins.{file_count, first_node, has_code};
+ghost use Rattle.std.specs.Prelude.{◌≡◌, ◌+◌, ◌<◌, ◌++◌, ◌∷◌, [], suc, IfOk, length, slice_index, if◌then◌else◌};
+ghost use Rattle.kr_code_lowering.specs.Vocabulary.{IsProgram};
+ghost use Rattle.kr_code_lowering.specs.Origins.{file_count, first_node};
 ghost use Rattle.kr_code_lowering.specs.Numbered.{AreBegun, AreNumbers};
 
+use crate::coding::has_code;
 use crate::site::Site;
-use kr_ast::{Node, tree_of};
+use kr_ast::tree_of;
 use kr_base::NoMemory;
 use kr_types::Program;
 use std::alloc::Global;
@@ -15,71 +16,6 @@ use std::alloc::Global;
 pub struct NodeNumbers {
     pub all: Vec<u32>,
     pub coded: u32,
-}
-
-/// Whether a node is an expression, a statement or a declarator.
-pub(crate) fn has_code(node: Node) -> bool
-    ensures { (text : List ℕ) (look : ℕ → Tree) (place : Place) → result ≡ has_code (tree_of text look place node) }
-{
-    match node {
-        Node::Nil
-        | Node::Cons { .. }
-        | Node::PrimitiveType { .. }
-        | Node::NamedType { .. }
-        | Node::QualifiedType { .. }
-        | Node::GenericType { .. }
-        | Node::DiamondType { .. }
-        | Node::ArrayType { .. }
-        | Node::ConstructorCall { .. }
-        | Node::Class { .. }
-        | Node::Field { .. }
-        | Node::Method { .. }
-        | Node::Signature { .. }
-        | Node::Parameter { .. }
-        | Node::Constructor { .. }
-        | Node::Requires { .. }
-        | Node::Ensures { .. }
-        | Node::Signals { .. } => false,
-        Node::Empty
-        | Node::Block { .. }
-        | Node::Local { .. }
-        | Node::Declarator { .. }
-        | Node::ExpressionStatement { .. }
-        | Node::Return { .. }
-        | Node::Break
-        | Node::Continue
-        | Node::IfThen { .. }
-        | Node::IfElse { .. }
-        | Node::While { .. }
-        | Node::Do { .. }
-        | Node::For { .. }
-        | Node::Throw { .. }
-        | Node::Try { .. }
-        | Node::Catch { .. }
-        | Node::Number { .. }
-        | Node::LongNumber { .. }
-        | Node::Truth { .. }
-        | Node::Null
-        | Node::This
-        | Node::Variable { .. }
-        | Node::FieldAccess { .. }
-        | Node::ArrayAccess { .. }
-        | Node::Call { .. }
-        | Node::MethodCall { .. }
-        | Node::SuperCall { .. }
-        | Node::ObjectCreation { .. }
-        | Node::ArrayCreation { .. }
-        | Node::Unary { .. }
-        | Node::Step { .. }
-        | Node::Binary { .. }
-        | Node::InstanceOf { .. }
-        | Node::Conditional { .. }
-        | Node::Cast { .. }
-        | Node::Assignment { .. }
-        | Node::CompoundAssignment { .. }
-        | Node::Result
-        | Node::Old { .. } => true,
-    }
 }
 
 /// Adds the number of a node: the next one where it has code, and otherwise this one.

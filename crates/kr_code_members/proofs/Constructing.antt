@@ -12,7 +12,7 @@ use Rattle.kr_ast.specs.declared.node.Node.TheVariants as nodes
 use Rattle.kr_classes_table.specs.Table.{Heading, Constructor, constructors_in, items, parameters_in}
 use Rattle.kr_classes_table.specs.Constants.{values_of}
 use Rattle.kr_types_meaning.specs.Scopes.{Scope, after}
-use Rattle.kr_laws_shapes.specs.Shapes.{AreParameters, AreStatements, IsMember, MayCallSuper}
+use Rattle.kr_laws_types.specs.Derivation.{AreParameters, AreStatements, IsMember, MayCallSuper}
 use Rattle.kr_types_meaning.specs.Handing.{handed}
 use Rattle.kr_types_meaning.specs.Running.{running}
 use Rattle.kr_types.specs.declared.program.Program.{Program}

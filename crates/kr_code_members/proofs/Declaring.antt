@@ -14,7 +14,7 @@ use Rattle.kr_ast.specs.declared.node.Node.TheVariants as nodes
 use Rattle.kr_classes_table.specs.Table.{Heading, Field, declared_in, fields_in, items, type_named, Table}
 use Rattle.kr_types_meaning.specs.Scopes.{Scope, bind_as, declaring, field_kind, scope_of, static_if}
 use Rattle.kr_classes_table.specs.Constants.{Known, values_of}
-use Rattle.kr_laws_shapes.specs.Shapes.{AreDeclarators, IsDeclarator, IsMember, IsVariableType}
+use Rattle.kr_laws_types.specs.Derivation.{AreDeclarators, IsDeclarator, IsMember, IsVariableType}
 use Rattle.kr_types_meaning.specs.Handing.{handed}
 use Rattle.kr_types_meaning.specs.Running.{running}
 use Rattle.kr_types.specs.declared.program.Program.{Program}

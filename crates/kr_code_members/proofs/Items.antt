@@ -11,7 +11,7 @@ use Rattle.kr_ast.specs.declared.node.Node.TheVariants as nodes
 use Rattle.kr_classes_table.specs.Table.{items}
 use Rattle.kr_types_meaning.specs.Handing.{handed, second}
 use Rattle.kr_types_meaning.specs.Scopes.{Scope, after, declaring, field_kind, static_if}
-use Rattle.kr_laws_shapes.specs.Shapes.{AreClasses, AreDeclarators, IsClass, IsDeclarator, IsMember}
+use Rattle.kr_laws_types.specs.Derivation.{AreClasses, AreDeclarators, IsClass, IsDeclarator, IsMember}
 use Rattle.kr_types.specs.declared.program.Program.{Program}
 use Rattle.kr_types.specs.Programs.{IsProgram}
 use Rattle.kr_code_members.specs.Nodes.{IsHere, arena_at, node_scope, node_tree}

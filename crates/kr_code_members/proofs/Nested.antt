@@ -11,7 +11,7 @@ use Rattle.kr_ast.specs.declared.node.Entry.{Entry}
 use Rattle.kr_ast.specs.declared.node.Node.TheVariants as nodes
 use Rattle.kr_classes_table.specs.Table.{Heading, heading_of, headings_from, items, number_of, with_nested}
 use Rattle.kr_types_meaning.specs.Scopes.{scope_of}
-use Rattle.kr_laws_shapes.specs.Shapes.{IsMember, MayExtend}
+use Rattle.kr_laws_types.specs.Derivation.{IsMember, MayExtend}
 use Rattle.kr_types_meaning.specs.Handing.{handed}
 use Rattle.kr_ast.specs.Files.{no_file}
 use Rattle.kr_ast.specs.declared.files.NodeId.{NodeId}

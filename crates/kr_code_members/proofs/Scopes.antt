@@ -12,7 +12,7 @@ use Rattle.kr_ast.specs.declared.node.Node.{Node}
 use Rattle.kr_classes_table.specs.Table.{Table, parameters_in, type_named}
 use Rattle.kr_classes_table.specs.Constants.{Known, values_of}
 use Rattle.kr_types_meaning.specs.Scopes.{Scope, Local, after, bind_local, scope_of, static_if, written}
-use Rattle.kr_laws_shapes.specs.Shapes as shapes
+use Rattle.kr_laws_types.specs.Derivation as shapes
 use Rattle.kr_types_meaning.specs.Handing.{handed}
 use Rattle.kr_types_meaning.specs.Running.{running}
 use Rattle.kr_types.specs.declared.program.Program.{Program}

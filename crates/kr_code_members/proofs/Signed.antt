@@ -12,7 +12,7 @@ use Rattle.kr_ast.specs.declared.node.Node.TheVariants as nodes
 use Rattle.kr_classes_table.specs.Table.{Heading, Method, items, method_with, methods_in, parameters_in, type_named}
 use Rattle.kr_classes_table.specs.Constants.{values_of}
 use Rattle.kr_types_meaning.specs.Scopes.{Scope, after, static_if}
-use Rattle.kr_laws_shapes.specs.Shapes.{AreStatements, IsMember, IsSignature}
+use Rattle.kr_laws_types.specs.Derivation.{AreStatements, IsMember, IsSignature}
 use Rattle.kr_types_meaning.specs.Handing.{handed}
 use Rattle.kr_types_meaning.specs.Running.{running}
 use Rattle.kr_types.specs.declared.program.Program.{Program}

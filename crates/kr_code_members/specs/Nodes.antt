@@ -9,7 +9,7 @@ use Rattle.kr_classes_table.specs.Table as tables
 use Rattle.kr_classes_table.specs.Table.{Table, constructors_in, items, methods_in, own_fields}
 use Rattle.kr_classes_table.specs.Constants.{values_of}
 use Rattle.kr_types_meaning.specs.Scopes.{Scope, scope_of, static_if}
-use Rattle.kr_laws_shapes.specs.Shapes.{AreClasses, AreContractLines, AreStatements, IsMember, MayBeExpression, MayCallSuper}
+use Rattle.kr_laws_types.specs.Derivation.{AreClasses, AreContractLines, AreStatements, IsMember, MayBeExpression, MayCallSuper}
 use Rattle.kr_types_meaning.specs.Running.{running}
 use Rattle.kr_ast.specs.Files.{file_at}
 use Rattle.kr_classes_members.specs.Shown.{table_in}

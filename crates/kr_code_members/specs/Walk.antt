@@ -4,7 +4,7 @@ use Rattle.kr_ast.specs.Tree as trees
 use Rattle.kr_ast.specs.Tree.{Tree}
 use Rattle.kr_classes_table.specs.Table.{Field, Heading, declared_in, fields_in, heading_of, items, number_of}
 use Rattle.kr_types_meaning.specs.Scopes.{Scope, after, declaring, field_kind, static_if}
-use Rattle.kr_laws_shapes.specs.Shapes.{AreDeclarators, IsDeclarator, IsMember}
+use Rattle.kr_laws_types.specs.Derivation.{AreDeclarators, IsDeclarator, IsMember}
 use Rattle.kr_ast.specs.declared.files.NodeId.{NodeId}
 use Rattle.kr_types.specs.declared.program.Program.{Program}
 use Rattle.kr_code_members.specs.declared.fields.FieldLine.{FieldLine}

@@ -180,32 +180,7 @@ fn given_to(values: &mut Vec<Value>, env: &Env) -> Result<(), NoMemory> {
     Ok(())
 }
 
-/// The method, and the checks after it.
-fn run(
-    alloc: Global,
-    predicate: &Predicate,
-    contract: &Contract,
-    world: &mut World,
-    env: &mut Env,
-) -> Result<Verdict, NoMemory> {
-    let mut values = Vec::new(alloc);
-    given_to(&mut values, env)?;
-    let method = Method {
-        number: contract.method,
-        is_static: false,
-    };
-    match body(alloc, &predicate.code, world, method, values.as_slice())? {
-        Err(verdict) => Ok(verdict),
-        Ok(given) => {
-            env.result = given;
-            let mut places = Vec::new(alloc);
-            places_of(&mut places, contract.olds.as_slice())?;
-            behind(alloc, predicate, contract, world, places.as_slice(), env)
-        }
-    }
-}
-
-/// The whole, in a world and with what it sees.
+/// The whole, in a world and with what it sees: the `\old`s, the method, and the checks after it.
 fn test(
     alloc: Global,
     predicate: &Predicate,
@@ -213,13 +188,26 @@ fn test(
     world: &mut World,
     env: &mut Env,
 ) -> Result<Verdict, NoMemory> {
+    let code = &predicate.code;
     let mut olds = Vec::new(alloc);
     let nodes = contract.olds.as_slice();
-    match old_values(alloc, &predicate.code, world, nodes, env, &mut olds)? {
-        Some(verdict) => Ok(verdict),
-        None => {
-            env.olds = olds;
-            run(alloc, predicate, contract, world, env)
+    if let Some(verdict) = old_values(alloc, code, world, nodes, env, &mut olds)? {
+        return Ok(verdict);
+    }
+    env.olds = olds;
+    let mut values = Vec::new(alloc);
+    given_to(&mut values, env)?;
+    let method = Method {
+        number: contract.method,
+        is_static: false,
+    };
+    match body(alloc, code, world, method, values.as_slice())? {
+        Err(verdict) => Ok(verdict),
+        Ok(given) => {
+            env.result = given;
+            let mut places = Vec::new(alloc);
+            places_of(&mut places, nodes)?;
+            behind(alloc, predicate, contract, world, places.as_slice(), env)
         }
     }
 }

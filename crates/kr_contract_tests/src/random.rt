@@ -95,26 +95,6 @@ fn agree(
     Ok(found == Some(wanted))
 }
 
-/// Likewise with little fuel, and with all that the problem gives, or at least much of it.
-fn agree_by_fuel(
-    alloc: Global,
-    prepared: &Prepared,
-    contract: &Contract,
-    tester: &mut Tester,
-    vector: &Vector,
-    little: u64,
-    tally: &mut Tally,
-) -> Result<bool, NoMemory>
-    requires { tester.old ≡ prepared.now }
-    ensures { tester.new ≡ prepared.now }
-{
-    let much = prepared.layout().fuel().min(2000);
-    if !agree(alloc, prepared, contract, tester, vector, much, tally)? {
-        return Ok(false);
-    }
-    agree(alloc, prepared, contract, tester, vector, little, tally)
-}
-
 /// The candidate of a number.
 fn candidate(alloc: Global, layout: &Layout, number: u32) -> Result<Vector, NoMemory>
     requires { IsWellFormed (bare layout.now) }
@@ -123,7 +103,7 @@ fn candidate(alloc: Global, layout: &Layout, number: u32) -> Result<Vector, NoMe
     vector_of(alloc, layout, indices.as_slice())
 }
 
-/// Likewise of every candidate.
+/// Likewise of every candidate, with little fuel, and with all that the problem gives, or at least much of it.
 fn agree_on_all(
     alloc: Global,
     prepared: &Prepared,
@@ -134,10 +114,14 @@ fn agree_on_all(
     requires { tester.old ≡ prepared.now }
 {
     let layout = layout_of(prepared);
+    let much = layout.fuel().min(2000);
     'candidates: for number in 0..count_of(layout) {
         let vector = candidate(alloc, layout, number)?;
         let little = u64::from(number % 64);
-        if !agree_by_fuel(alloc, prepared, contract, tester, &vector, little, tally)? {
+        if !agree(alloc, prepared, contract, tester, &vector, much, tally)? {
+            return Ok(false);
+        }
+        if !agree(alloc, prepared, contract, tester, &vector, little, tally)? {
             return Ok(false);
         }
     }

@@ -19,7 +19,7 @@ use Rattle.kr_laws_never_stuck.specs.Accepted.{IsAccepted}
 use Rattle.kr_laws_never_stuck.specs.WellTyped.{AreFiles}
 use Rattle.kr_laws_safety.specs.Domains.{HaveDomainsTypes}
 use Rattle.kr_laws_safety.specs.Typed.{IsTypedProgram}
-use Rattle.kr_laws_slots.proofs.Numbering.{width_at}
+use Rattle.kr_laws_pruning.proofs.Numbering.{width_at}
 use Rattle.kr_mean.specs.Problem.{Problem, domain_at}
 use Rattle.kr_mean.specs.Program.{Program}
 use Rattle.kr_mean.specs.WellFormed.{IsWellFormed}

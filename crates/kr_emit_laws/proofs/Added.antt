@@ -6,10 +6,10 @@ use Rattle.kr_base.specs.declared.place.Place.{Place}
 use Rattle.kr_ast.specs.Tree.{Tree}
 use Rattle.kr_classes_table.specs.Table.{Table}
 use Rattle.kr_emit_meaning.specs.Buildable.{build_fault, builders_name}
-use Rattle.kr_emit_text.specs.Pieces as pieces
-use Rattle.kr_emit_text.specs.Pieces.{after_pieces}
-use Rattle.kr_emit_text.specs.Syntax.{builders_of}
-use Rattle.kr_emit_text.proofs.Names.{headings_are}
+use Rattle.kr_emit_laws.specs.Pieces as pieces
+use Rattle.kr_emit_laws.specs.Pieces.{after_pieces}
+use Rattle.kr_emit_laws.specs.Syntax.{builders_of}
+use Rattle.kr_emit_laws.proofs.TextNames.{headings_are}
 use Rattle.kr_emit_laws.proofs.TypingAdded.{added}
 use Rattle.kr_emit_laws.proofs.TypingBeside.{addable}
 use Rattle.kr_emit_laws.specs.OneMore.{IsDerived}

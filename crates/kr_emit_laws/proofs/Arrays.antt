@@ -13,12 +13,12 @@ use Rattle.kr_classes_table.specs.Table.{Heading, headings_of, type_named}
 use Rattle.kr_classes_table.specs.Types.{JavaType, ArrayType, VoidType, is_same}
 use Rattle.kr_laws_safety.proofs.Heaps.{same_type}
 use Rattle.kr_laws_safety.proofs.Vectors.{type_same}
-use Rattle.kr_laws_slots.proofs.Membership.{Has}
+use Rattle.kr_laws_pruning.proofs.Membership.{Has}
 use Rattle.kr_laws_never_stuck.proofs.Codes.{listed_back, listed_front}
-use Rattle.kr_emit_text.specs.Pieces as pieces
-use Rattle.kr_emit_text.specs.Pieces.{after_pieces}
-use Rattle.kr_emit_text.specs.Syntax.{Builder, CreatesArray, Line, TypeName}
-use Rattle.kr_emit_text.specs.BuilderTree.{body_start, body_tree, file_tree, line_start, method_end, methods_tree, result_end, result_start, statement_end, statement_tree, type_tree, class_tree}
+use Rattle.kr_emit_laws.specs.Pieces as pieces
+use Rattle.kr_emit_laws.specs.Pieces.{after_pieces}
+use Rattle.kr_emit_laws.specs.Syntax.{Builder, CreatesArray, Line, TypeName}
+use Rattle.kr_emit_laws.specs.BuilderTree.{body_start, body_tree, file_tree, line_start, method_end, methods_tree, result_end, result_start, statement_end, statement_tree, type_tree, class_tree}
 
 agree : (s t : JavaType) → is_same s t ≡ is_same t s
 agree s t = go (cases_Bool (is_same s t)) (cases_Bool (is_same t s))

@@ -31,16 +31,16 @@ use Rattle.kr_mean.specs.declared.row.Row.{Row}
 use Rattle.kr_laws_safety.specs.Domains.{AreDomainsOf, AreElementsOf, AreSpotsOf, HaveDomainsTypes, domains_of}
 use Rattle.kr_laws_safety.specs.Typed.{IsTypedProgram}
 use Rattle.kr_laws_never_stuck.proofs.Unbroken.{Unbroken}
-use Rattle.kr_laws_slots.proofs.Membership.{Has, has_append_left, has_map}
-use Rattle.kr_laws_slots.proofs.Numbering.{get_map, object_at_number, width_at}
-use Rattle.kr_laws_slots.proofs.Places.{class_at}
-use Rattle.kr_laws_slots.proofs.Reached.{has_flat}
-use Rattle.kr_laws_slots.proofs.Walked.{Valid}
+use Rattle.kr_laws_pruning.proofs.Membership.{Has, has_append_left, has_map}
+use Rattle.kr_laws_pruning.proofs.Numbering.{get_map, object_at_number, width_at}
+use Rattle.kr_laws_pruning.proofs.Places.{class_at}
+use Rattle.kr_laws_pruning.proofs.Reached.{has_flat}
+use Rattle.kr_laws_pruning.proofs.Walked.{Valid}
 use Rattle.kr_emit_meaning.specs.Buildable.{BuildFault, E1, E2, E3, array_elements, build_fault, construction_at, element_of, elements_at, elements_fault, first_of, is_named, name_at, rank_of}
 use Rattle.kr_emit_meaning.specs.Builders.{class_of_object, objects_in}
 use Rattle.kr_emit_meaning.specs.declared.refusal.ElementRule.{ElementRule}
-use Rattle.kr_emit_text.specs.BuilderTree.{builder_tree, methods_tree, type_tree}
-use Rattle.kr_emit_text.specs.Syntax.{Builder, CreatesArray, Line, assignment_lines, builder_of, builders_of, class_name, created_lines, creation_lines, element_name, length_of, lines_of, local_of}
+use Rattle.kr_emit_laws.specs.BuilderTree.{builder_tree, methods_tree, type_tree}
+use Rattle.kr_emit_laws.specs.Syntax.{Builder, CreatesArray, Line, assignment_lines, builder_of, builders_of, class_name, created_lines, creation_lines, element_name, length_of, lines_of, local_of}
 use Rattle.kr_emit_laws.specs.Built.{Builds}
 use Rattle.kr_emit_laws.specs.Laws.{with_builders}
 use Rattle.kr_emit_laws.proofs.Arrays.{array_listed, number_is, type_there}
@@ -48,7 +48,7 @@ use Rattle.kr_emit_laws.proofs.Calls.{IsBuilder, builds}
 use Rattle.kr_emit_laws.proofs.Fields.{declared_all}
 use Rattle.kr_emit_laws.proofs.Methods.{builder_of_class, no_builder}
 use Rattle.kr_emit_laws.proofs.Objects.{IsArrayBuilt, IsBuildable, IsBuilt, IsClassBuilt}
-use Rattle.kr_emit_text.proofs.Structures.{met, objects_are}
+use Rattle.kr_emit_laws.proofs.Structures.{met, objects_are}
 use Rattle.kr_emit_laws.proofs.Values.{length_given, numbers_within, root_given}
 use Rattle.kr_emit_laws.proofs.Wider.{IsNumbered, IsWider, class_means, fields_same, implied_line, spot_named}
 use Rattle.kr_emit_meaning.specs.declared.refusal.ElementRule.TheVariants.{Elements}

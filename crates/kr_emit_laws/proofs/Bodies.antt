@@ -13,8 +13,8 @@ use Rattle.kr_mean.specs.declared.flow.Flow.TheVariants.{Next, Gave}
 use Rattle.kr_mean.specs.Program.{Program}
 use Rattle.kr_mean.specs.Steps.{local_at, plain_local, give}
 use Rattle.kr_mean.specs.Meaning.{all, execute, flow_of, then_on, unbounded}
-use Rattle.kr_emit_text.specs.Syntax.{Line}
-use Rattle.kr_emit_text.specs.BuilderTree.{body_tree, line_start, return_tree, statement_end, statement_tree}
+use Rattle.kr_emit_laws.specs.Syntax.{Line}
+use Rattle.kr_emit_laws.specs.BuilderTree.{body_tree, line_start, return_tree, statement_end, statement_tree}
 use Rattle.kr_emit_laws.proofs.Expressions.{goes_local}
 use Rattle.kr_emit_laws.proofs.Goes.{Goes, Memory, goes_give, goes_more, goes_statement, goes_then, goes_tick}
 use Rattle.kr_emit_laws.proofs.Names.{local_name}

@@ -27,22 +27,22 @@ use Rattle.kr_mean.specs.Program.{Program, class_scope, method_scope, overriding
 use Rattle.kr_mean.specs.Runs.{is_same_number}
 use Rattle.kr_mean.specs.Steps.{Local, Outcome, Run, ◌>>=◌, get_this, local_at, class_of}
 use Rattle.kr_mean.specs.WellFormed.{IsWellFormed}
-use Rattle.kr_laws_slots.proofs.Membership.{Has}
-use Rattle.kr_laws_slots.proofs.Numbering.{first_slot, width_at}
-use Rattle.kr_laws_slots.proofs.Places.{class_at, extent, extent_of, kind, slots_in_are}
-use Rattle.kr_laws_slots.proofs.Reached.{root_walked}
-use Rattle.kr_laws_slots.proofs.Walked.{Valid, walked}
+use Rattle.kr_laws_pruning.proofs.Membership.{Has}
+use Rattle.kr_laws_pruning.proofs.Numbering.{first_slot, width_at}
+use Rattle.kr_laws_pruning.proofs.Places.{class_at, extent, extent_of, kind, slots_in_are}
+use Rattle.kr_laws_pruning.proofs.Reached.{root_walked}
+use Rattle.kr_laws_pruning.proofs.Walked.{Valid, walked}
 use Rattle.kr_laws_runs.proofs.Respects.{AllOf}
 use Rattle.kr_emit_meaning.specs.Builders.{class_of_object, objects_in, referred}
-use Rattle.kr_emit_text.specs.BuilderTree.{body_tree}
-use Rattle.kr_emit_text.specs.Syntax.{Line, assignment_lines, creation_lines, lines_of}
+use Rattle.kr_emit_laws.specs.BuilderTree.{body_tree}
+use Rattle.kr_emit_laws.specs.Syntax.{Line, assignment_lines, creation_lines, lines_of}
 use Rattle.kr_emit_laws.specs.Built.{Builds, built_heap, built_object, call_of, call_scope, class_in, enough, renamed, value_at_spot, value_of_object, values_of_object}
 use Rattle.kr_emit_laws.proofs.Bodies.{Runs, goes_return, runs_both}
 use Rattle.kr_emit_laws.proofs.Goes.{Goes, Left, Memory, goes_give, goes_more, goes_node, goes_then, goes_within, state, with_heap}
 use Rattle.kr_emit_laws.proofs.Lines.{IsReady}
 use Rattle.kr_emit_laws.proofs.Names.{Knows, knows_none, local_name, ref_at}
 use Rattle.kr_emit_laws.proofs.Objects.{Created, IsBuildable, create_all, creation_cost, final, kept_from, made, made_by, set_all, set_cost, class_is}
-use Rattle.kr_emit_text.proofs.Structures.{all_valid, by_objects, flat_each, met, named, objects_are, of_one, picked, position_within}
+use Rattle.kr_emit_laws.proofs.Structures.{all_valid, by_objects, flat_each, met, named, objects_are, of_one, picked, position_within}
 use Rattle.kr_emit_laws.proofs.Heaps.{object}
 
 -- the method of a builder, which `bN()` means in the class of this number

@@ -19,20 +19,20 @@ use Rattle.kr_classes_table.specs.Table as tables
 use Rattle.kr_classes_table.specs.Types.{JavaType, NumberType, BooleanType, NullType, VoidType, ClassType, ArrayType, SetType, ListType, InferredType, is_known}
 use Rattle.kr_emit_meaning.specs.Buildable.{array_elements, is_built}
 use Rattle.kr_emit_meaning.specs.Builders.{class_of_object, is_long, objects_in, referred}
-use Rattle.kr_emit_text.proofs.Structures.{all_valid, by_objects, met, named, objects_apart, objects_are, of_object, position_at, slot_walked}
-use Rattle.kr_emit_text.specs.BuilderTree.{builder_tree}
-use Rattle.kr_emit_text.specs.Syntax.{Boolean, CreatesArray, Line, SetsElement, SetsField, Whole, assignment_lines, builder_of, class_name, created_lines, creation_lines, element_name, length_of, lines_of, local_of, operand_of, set_lines}
+use Rattle.kr_emit_laws.proofs.Structures.{all_valid, by_objects, met, named, objects_apart, objects_are, of_object, position_at, slot_walked}
+use Rattle.kr_emit_laws.specs.BuilderTree.{builder_tree}
+use Rattle.kr_emit_laws.specs.Syntax.{Boolean, CreatesArray, Line, SetsElement, SetsField, Whole, assignment_lines, builder_of, class_name, created_lines, creation_lines, element_name, length_of, lines_of, local_of, operand_of, set_lines}
 use Rattle.kr_emit_laws.specs.Fitting.{BuilderFits, Fits, GoesInto, HasField, IsOperand, IsReturned, LinesFit, local_type, meant_type, types_after, width_of}
 use Rattle.kr_laws_runs.proofs.Respects.{AllOf}
 use Rattle.kr_laws_safety.specs.Domains.{class_type, object_types}
 use Rattle.kr_laws_safety.specs.Fits.{IsOf, IsWithin, type_at}
 use Rattle.kr_laws_types.proofs.Given.{variable_known}
-use Rattle.kr_laws_slots.proofs.Membership.{Has, has_append_right, has_map_from}
-use Rattle.kr_laws_slots.proofs.Numbering.{first_slot, get_map, object_at_number, width_at}
-use Rattle.kr_laws_slots.proofs.Places.{class_at, extent, extent_of, extent_within, kind}
-use Rattle.kr_laws_slots.proofs.Reached.{Apart, root_walked}
-use Rattle.kr_laws_slots.proofs.SlotForks.{all_append, all_has}
-use Rattle.kr_laws_slots.proofs.Walked.{Valid, all_flat}
+use Rattle.kr_laws_pruning.proofs.Membership.{Has, has_append_right, has_map_from}
+use Rattle.kr_laws_pruning.proofs.Numbering.{first_slot, get_map, object_at_number, width_at}
+use Rattle.kr_laws_pruning.proofs.Places.{class_at, extent, extent_of, extent_within, kind}
+use Rattle.kr_laws_pruning.proofs.Reached.{Apart, root_walked}
+use Rattle.kr_laws_pruning.proofs.SlotForks.{all_append, all_has}
+use Rattle.kr_laws_pruning.proofs.Walked.{Valid, all_flat}
 use Rattle.kr_mean.specs.Entries.{structure_of}
 use Rattle.kr_mean.specs.Heaps.{distinct, length_in, slots_in, value_at, walk}
 use Rattle.kr_mean.specs.Places.{At}

@@ -12,7 +12,7 @@ use Rattle.kr_classes_table.specs.Table.{Heading, Table, Class, Field, Parameter
 use Rattle.kr_types_meaning.specs.Scopes.{Scope, in_class, static_if, declaring, field_kind, bind_local, after}
 use Rattle.kr_types_meaning.specs.Rules.{parameter_rule, implied_rule}
 use Rattle.kr_types_meaning.specs.Typing.{on_maybe, class_rule, has_constructor, judged}
-use Rattle.kr_laws_shapes.specs.Shapes.{AreParameters, IsSignature, IsMember, IsClass, AreClasses}
+use Rattle.kr_laws_types.specs.Derivation.{AreParameters, IsSignature, IsMember, IsClass, AreClasses}
 use Rattle.kr_laws_types.proofs.Typed.{below_none}
 use Rattle.kr_emit_laws.specs.Larger.{AreNames}
 use Rattle.kr_emit_laws.proofs.TypingNames.{IsFree, class_kept}

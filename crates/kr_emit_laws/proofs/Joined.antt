@@ -14,10 +14,10 @@ use Rattle.kr_mean.specs.Space.{IsVector, space_of}
 use Rattle.kr_mean.specs.declared.row.Row.{Row}
 use Rattle.kr_emit_meaning.specs.Buildable.{build_fault, builders_name}
 use Rattle.kr_emit_meaning.specs.Builders.{objects_in}
-use Rattle.kr_emit_text.specs.Pieces as pieces
-use Rattle.kr_emit_text.specs.Pieces.{after_pieces}
-use Rattle.kr_emit_text.specs.Syntax.{Builder, builders_of}
-use Rattle.kr_emit_text.specs.BuilderTree.{builder_tree, method_end, methods_tree}
+use Rattle.kr_emit_laws.specs.Pieces as pieces
+use Rattle.kr_emit_laws.specs.Pieces.{after_pieces}
+use Rattle.kr_emit_laws.specs.Syntax.{Builder, builders_of}
+use Rattle.kr_emit_laws.specs.BuilderTree.{builder_tree, method_end, methods_tree}
 use Rattle.kr_emit_laws.proofs.Acyclic.{is_acyclic, is_closed}
 use Rattle.kr_emit_laws.proofs.TypingLines.{IsPlain, lines_same, own_fields_same}
 use Rattle.kr_emit_laws.proofs.Unbroken.{unbroken}

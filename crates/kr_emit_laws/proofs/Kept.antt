@@ -5,8 +5,8 @@ use Rattle.kr_base.specs.Places.{nowhere}
 use Rattle.kr_classes_table.specs.Types.{JavaType, ArrayType, is_known}
 use Rattle.kr_classes_table.specs.Table.{Table, Field}
 use Rattle.kr_types_meaning.specs.Typing.{outside}
-use Rattle.kr_emit_text.specs.BuilderTree.{type_tree}
-use Rattle.kr_emit_text.specs.Syntax.{Builder, Line, Creates, CreatesArray, SetsField, SetsElement, Operand, TypeName}
+use Rattle.kr_emit_laws.specs.BuilderTree.{type_tree}
+use Rattle.kr_emit_laws.specs.Syntax.{Builder, Line, Creates, CreatesArray, SetsField, SetsElement, Operand, TypeName}
 use Rattle.kr_emit_meaning.specs.Buildable.{builders_name}
 use Rattle.kr_emit_laws.specs.TypingBeside.{FitLaw}
 use Rattle.kr_emit_laws.specs.Fitting.{meant_type, GoesInto, IsCreated, HasField, Fits, types_after, LinesFit, BuilderFits}

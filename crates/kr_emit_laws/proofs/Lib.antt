@@ -41,3 +41,20 @@ pub mod TypingBodies
 pub mod Kept
 pub mod TypingBeside
 mod PredefinedDerived
+pub mod Tokens
+pub mod Placed
+pub mod Spelled
+pub mod Derived
+pub mod Read
+pub mod Texts
+pub mod Comments
+pub mod Listings
+pub mod Writable
+pub mod Written
+pub mod Structures
+pub mod Sized
+pub mod Ranges
+pub mod Rows
+pub mod Counts
+pub mod TextNames
+pub mod TextAccepted

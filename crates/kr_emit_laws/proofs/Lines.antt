@@ -21,8 +21,8 @@ use Rattle.kr_mean.specs.Program.{Program, default_of, spot_of_field, is_array_o
 use Rattle.kr_mean.specs.Steps.{Local, give, local_at, plain_local, put}
 use Rattle.kr_mean.specs.Meaning.{execute, field_of_type, flow_of, typed_field, unbounded, value}
 use Rattle.kr_laws_runs.proofs.Respects.{AllOf}
-use Rattle.kr_emit_text.specs.Syntax.{Boolean, Creates as CreatesLine, CreatesArray, Local as LocalOperand, NullOperand, Operand, SetsElement, SetsField, TypeName, Whole}
-use Rattle.kr_emit_text.specs.BuilderTree.{operand_tree, type_tree}
+use Rattle.kr_emit_laws.specs.Syntax.{Boolean, Creates as CreatesLine, CreatesArray, Local as LocalOperand, NullOperand, Operand, SetsElement, SetsField, TypeName, Whole}
+use Rattle.kr_emit_laws.specs.BuilderTree.{operand_tree, type_tree}
 use Rattle.kr_emit_laws.proofs.Bodies.{Runs, runs_one}
 use Rattle.kr_emit_laws.proofs.Creations.{IsImplied, creates_array, creates_object, declared_on, goes_declared, object_filled, with_new}
 use Rattle.kr_emit_laws.proofs.Expressions.{goes_local, goes_long, goes_minus_int, goes_minus_long, goes_null, goes_number, goes_to_element, goes_to_field, goes_truth, local_type}

@@ -11,7 +11,7 @@ use Rattle.kr_classes_table.specs.Table.{Table, Constructor, type_named}
 use Rattle.kr_types_meaning.specs.Scopes.{Scope, Requiring, Ensuring, Signalling, scope_of, in_class, static_if, declaring, field_kind, in_contract, in_signals, caught_type, after}
 use Rattle.kr_types_meaning.specs.Rules.{Judgement, contract_rule, caught_rule, then_rule, super_constructor_rule, implied_rule}
 use Rattle.kr_types_meaning.specs.Typing.{Judged, judge, on_one, on_maybe, signals, plain, class_rule, has_constructor, judged}
-use Rattle.kr_laws_shapes.specs.Shapes.{IsExpression, IsSignalled, IsResultType, Several, AreParameters, IsContractLine, AreContractLines, IsSignature, MayCallSuper, IsMember, AreClasses}
+use Rattle.kr_laws_types.specs.Derivation.{IsExpression, IsSignalled, IsResultType, Several, AreParameters, IsContractLine, AreContractLines, IsSignature, MayCallSuper, IsMember, AreClasses}
 use Rattle.kr_laws_types.proofs.Typed.{below_none}
 use Rattle.kr_emit_laws.specs.Larger.{IsLarger}
 use Rattle.kr_emit_laws.proofs.TypingNames.{IsFree, known_same}

@@ -11,9 +11,9 @@ use Rattle.kr_classes_table.specs.Table.{Class, Heading, Method, class_at, items
 use Rattle.kr_classes_table.specs.Types.{is_void}
 use Rattle.kr_types_meaning.specs.Scopes.{static_only}
 use Rattle.kr_mean.specs.Program.{Program}
-use Rattle.kr_emit_text.specs.Pieces.{method_name}
-use Rattle.kr_emit_text.specs.Syntax.{Builder, SimpleName}
-use Rattle.kr_emit_text.specs.BuilderTree.{body_start, body_tree, method_end, methods_tree, result_end, result_start, type_tree}
+use Rattle.kr_emit_laws.specs.Pieces.{method_name}
+use Rattle.kr_emit_laws.specs.Syntax.{Builder, SimpleName}
+use Rattle.kr_emit_laws.specs.BuilderTree.{body_start, body_tree, method_end, methods_tree, result_end, result_start, type_tree}
 use Rattle.kr_laws_runs.proofs.Overriders.{no_line}
 use Rattle.kr_emit_laws.proofs.Calls.{IsBuilder}
 

@@ -8,7 +8,7 @@ use Rattle.kr_ast.specs.Tree.{Tree}
 use Rattle.kr_parse_grammar.specs.Grammar as grammar
 use Rattle.kr_parse_grammar.specs.Grammar.{Der, Derives}
 use Rattle.kr_classes_table.specs.Table.{Heading, items, heading_of, with_nested, headings_from}
-use Rattle.kr_laws_shapes.specs.Shapes.{IsMember, IsClass, AreClasses}
+use Rattle.kr_laws_types.specs.Derivation.{IsMember, IsClass, AreClasses}
 use Rattle.kr_space_meaning.proofs.Each.{each_back, each_front}
 use Rattle.kr_emit_laws.proofs.Members.{Others}
 

@@ -9,7 +9,7 @@ use Rattle.kr_classes_table.specs.Rules.{class_fault}
 use Rattle.kr_classes_table.specs.Table.{Class, Heading, class_at, class_of, classes_from, heading_of, headings_from, headings_of, items, number_from, number_of, outer_of, table_of, with_nested}
 use Rattle.kr_types_meaning.specs.Typing.{IsWellTyped}
 use Rattle.kr_laws_runs.proofs.Respects.{AllOf}
-use Rattle.kr_laws_slots.proofs.SlotForks.{all_append, all_map}
+use Rattle.kr_laws_pruning.proofs.SlotForks.{all_append, all_map}
 use Rattle.kr_laws_never_stuck.proofs.Files.{class_good_at}
 use Rattle.kr_laws_never_stuck.proofs.Files as files_proofs
 use Rattle.kr_laws_never_stuck.specs.WellTyped.{AreFiles}

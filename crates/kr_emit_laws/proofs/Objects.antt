@@ -28,16 +28,16 @@ use Rattle.kr_mean.specs.Steps.{put}
 use Rattle.kr_mean.specs.WellFormed.{IsWellFormed}
 use Rattle.kr_report.specs.Texts.{field_names}
 use Rattle.kr_laws_runs.proofs.Respects.{AllOf}
-use Rattle.kr_laws_slots.proofs.Membership.{Has, has_append_right}
-use Rattle.kr_laws_slots.proofs.Numbering.{first_slot, width_at, count_at, object_at_number}
-use Rattle.kr_laws_slots.proofs.Places.{class_at, kind, extent, extent_of, extent_within}
-use Rattle.kr_laws_slots.proofs.Reached.{Apart}
-use Rattle.kr_laws_slots.proofs.SlotForks.{all_has}
-use Rattle.kr_laws_slots.proofs.Walked.{Valid}
+use Rattle.kr_laws_pruning.proofs.Membership.{Has, has_append_right}
+use Rattle.kr_laws_pruning.proofs.Numbering.{first_slot, width_at, count_at, object_at_number}
+use Rattle.kr_laws_pruning.proofs.Places.{class_at, kind, extent, extent_of, extent_within}
+use Rattle.kr_laws_pruning.proofs.Reached.{Apart}
+use Rattle.kr_laws_pruning.proofs.SlotForks.{all_has}
+use Rattle.kr_laws_pruning.proofs.Walked.{Valid}
 use Rattle.kr_emit_meaning.specs.Buildable.{array_elements}
 use Rattle.kr_emit_meaning.specs.Builders.{class_of_object, is_long_spot, objects_in}
-use Rattle.kr_emit_text.specs.BuilderTree.{type_tree}
-use Rattle.kr_emit_text.specs.Syntax.{Line, Operand, class_name, element_name, assignment_lines, created_lines, creation_lines, length_of, lengths_at, local_of, operand_of, set_lines, SetsElement, SetsField}
+use Rattle.kr_emit_laws.specs.BuilderTree.{type_tree}
+use Rattle.kr_emit_laws.specs.Syntax.{Line, Operand, class_name, element_name, assignment_lines, created_lines, creation_lines, length_of, lengths_at, local_of, operand_of, set_lines, SetsElement, SetsField}
 use Rattle.kr_emit_laws.specs.Built.{class_in, renamed}
 use Rattle.kr_emit_laws.proofs.Bodies.{Runs, runs_both, runs_more, runs_none}
 use Rattle.kr_emit_laws.proofs.Creations.{IsImplied, declared_on, object_filled, object_long}
@@ -45,7 +45,7 @@ use Rattle.kr_emit_laws.proofs.Goes.{Memory, with_heap}
 use Rattle.kr_emit_laws.proofs.Heaps.{Fit, Made, all_set, fit_long, fit_more, here, object, put_here}
 use Rattle.kr_emit_laws.proofs.Lines.{IsReady, IsSpotOf, IsWritten, operand_value, ready_more, runs_creates, runs_creates_array, runs_sets_element, runs_sets_field, width_by, with_object}
 use Rattle.kr_emit_laws.proofs.Names.{local_name, with_typed}
-use Rattle.kr_emit_text.proofs.Structures.{all_valid, flat_each, met, named, objects_apart, objects_are, of_object, of_one, picked, position_at, position_within, slot_walked}
+use Rattle.kr_emit_laws.proofs.Structures.{all_valid, flat_each, met, named, objects_apart, objects_are, of_object, of_one, picked, position_at, position_within, slot_walked}
 
 -- ---- what is needed of the program, and of the structure's vector
 

@@ -10,7 +10,7 @@ use Rattle.kr_types_meaning.specs.Scopes.{Scope, Declaring, Locals, Fields, Cons
 use Rattle.kr_types_meaning.specs.Rules.{condition_rule, parameter_rule, declaration_rule, return_rule, throw_rule, caught_rule}
 use Rattle.kr_types_meaning.specs.Laws.{IsClassName}
 use Rattle.kr_types_meaning.specs.Typing.{Judged, judge, on_one, plain, both, judged}
-use Rattle.kr_laws_shapes.specs.Shapes.{MayBeExpression, IsVariableType, IsDeclarator, AreDeclarators, Sort, One, Several, Catch, Catches, IsCode}
+use Rattle.kr_laws_types.specs.Derivation.{MayBeExpression, IsVariableType, IsDeclarator, AreDeclarators, Sort, One, Several, Catch, Catches, IsCode}
 use Rattle.kr_laws_types.proofs.Typed.{below_none}
 use Rattle.kr_emit_laws.specs.Larger.{IsLarger}
 use Rattle.kr_emit_laws.proofs.TypingNames.{IsFree}

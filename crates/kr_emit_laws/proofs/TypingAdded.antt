@@ -15,8 +15,8 @@ use Rattle.kr_types_meaning.specs.Scopes.{Scope, scope_of, in_class}
 use Rattle.kr_types_meaning.specs.Rules.{ask, fine, is_none_of}
 use Rattle.kr_types_meaning.specs.Typing.{judge, class_rule, judged, outside}
 use Rattle.kr_types_meaning.proofs.WellTyped.{well_typed_law}
-use Rattle.kr_laws_shapes.specs.Shapes.{AreClasses}
-use Rattle.kr_laws_shapes.proofs.Shapes.{file_shape}
+use Rattle.kr_laws_types.specs.Derivation.{AreClasses}
+use Rattle.kr_laws_types.proofs.Shapes.{file_shape}
 use Rattle.kr_space_meaning.proofs.Each.{each_weaker}
 use Rattle.kr_laws_never_stuck.proofs.Declared.{equal_names}
 use Rattle.kr_emit_laws.specs.Larger.{AreNames, IsLarger}

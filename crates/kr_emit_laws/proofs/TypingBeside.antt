@@ -15,11 +15,11 @@ use Rattle.kr_mean.specs.Problem.{Problem}
 use Rattle.kr_types_meaning.specs.Scopes.{in_class}
 use Rattle.kr_types_meaning.specs.Typing.{outside}
 use Rattle.kr_emit_meaning.specs.Buildable.{BuildFault, build_fault, builders_name, construction_at, name_at, name_fault, number_fault, first_of, E2}
-use Rattle.kr_emit_text.specs.BuilderTree.{methods_tree, method_end, result_end}
-use Rattle.kr_emit_text.specs.Pieces as pieces
-use Rattle.kr_emit_text.specs.Pieces.{after_pieces, method_name}
-use Rattle.kr_emit_text.specs.Syntax.{Builder}
-use Rattle.kr_emit_text.proofs.Names.{headings_are}
+use Rattle.kr_emit_laws.specs.BuilderTree.{methods_tree, method_end, result_end}
+use Rattle.kr_emit_laws.specs.Pieces as pieces
+use Rattle.kr_emit_laws.specs.Pieces.{after_pieces, method_name}
+use Rattle.kr_emit_laws.specs.Syntax.{Builder}
+use Rattle.kr_emit_laws.proofs.TextNames.{headings_are}
 use Rattle.kr_laws_never_stuck.proofs.Declared.{names_equal}
 use Rattle.kr_emit_laws.specs.TypingBeside.{with_file, BesideLaw}
 use Rattle.kr_emit_laws.specs.OneMore.{AreMethods, method_names, IsAddable}

@@ -18,9 +18,9 @@ use Rattle.kr_classes_table.specs.Constants.{field_meant}
 use Rattle.kr_types_meaning.specs.Scopes.{Scope, LocalName, Local as ScopeLocal, value, after, meant, meant_by}
 use Rattle.kr_types_meaning.specs.Rules.{Value, Variable, is_code, is_new, array_rule}
 use Rattle.kr_types_meaning.specs.Typing.{Judged, one, judged}
-use Rattle.kr_emit_text.specs.BuilderTree.{type_tree, operand_tree, type_end, new_start, created_start, array_end, length_start, field_start, element_start, statement_tree, statement_end, line_start, body_tree, result_start, result_end, body_start, method_end, methods_tree}
-use Rattle.kr_emit_text.specs.Pieces.{local_name, method_name}
-use Rattle.kr_emit_text.specs.Syntax.{Builder, Line, Creates, CreatesArray, SetsField, SetsElement, Operand, Whole, Boolean, NullOperand, Local, TypeName, PrimitiveName, SimpleName, NestedName}
+use Rattle.kr_emit_laws.specs.BuilderTree.{type_tree, operand_tree, type_end, new_start, created_start, array_end, length_start, field_start, element_start, statement_tree, statement_end, line_start, body_tree, result_start, result_end, body_start, method_end, methods_tree}
+use Rattle.kr_emit_laws.specs.Pieces.{local_name, method_name}
+use Rattle.kr_emit_laws.specs.Syntax.{Builder, Line, Creates, CreatesArray, SetsField, SetsElement, Operand, Whole, Boolean, NullOperand, Local, TypeName, PrimitiveName, SimpleName, NestedName}
 use Rattle.kr_laws_never_stuck.proofs.Declared.{equal_names, names_equal}
 use Rattle.kr_emit_laws.specs.Fitting.{meant_type, local_type, width_of, IsOperand, Fits, types_after, LinesFit, BuilderFits, MethodsLaw}
 use Rattle.kr_emit_laws.proofs.Setting.{of, IsValue, IsSimple, valued, local_judged, number_judged, long_judged, negative_judged, negative_long_judged, truth_judged, null_judged, field_judged, element_judged, set_unbroken, with_local, local_unbroken, type_judged, creation_judged, array_judged, return_unbroken, body_scope, method_unbroken}

@@ -12,8 +12,8 @@ use Rattle.kr_classes_table.specs.Table.{Heading, Table, applied, type_named, me
 use Rattle.kr_types_meaning.specs.Scopes.{Scope, Meant, LocalName, FieldName, NoName, value, under_minus, in_old, after, meant, class_if_none, class_before}
 use Rattle.kr_types_meaning.specs.Rules.{Value, Judgement, Fits, ask, array_rule, type_rule, name_rule, unary_rule, operator_rule, choice_rule, cast_rule, instance_rule, assignment_rule, compound_rule, step_rule, access_rule, element_rule, static_rule, super_rule, object_call_rule, creation_rule, array_creation_rule, old_rule}
 use Rattle.kr_types_meaning.specs.Typing.{Judged, judge, on_one, on_list, both, field_of, method_of, judged}
-use Rattle.kr_laws_shapes.specs.Expressions.{IsWritten, IsCreated, Shaped}
-use Rattle.kr_laws_shapes.specs.Shapes.{IsResultType}
+use Rattle.kr_laws_types.specs.DerivedExpressions.{IsWritten, IsCreated, Shaped}
+use Rattle.kr_laws_types.specs.Derivation.{IsResultType}
 use Rattle.kr_laws_never_stuck.proofs.Walks.{shaped_after}
 use Rattle.kr_laws_types.proofs.Typed.{below_none}
 use Rattle.kr_emit_laws.specs.Larger.{AreNames, IsLarger}

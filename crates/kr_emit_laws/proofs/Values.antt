@@ -16,8 +16,8 @@ use Rattle.kr_mean.specs.Problem.{Domain, Objects, Plain, Problem, Slot, DomainO
 use Rattle.kr_mean.specs.Runs.{root_class}
 use Rattle.kr_mean.specs.Space.{IsVector, no_choice, space_of}
 use Rattle.kr_mean.specs.WellFormed.{AreLengths, AreSpots, IsWellFormed}
-use Rattle.kr_laws_slots.proofs.Numbering.{count_at, first_slot, get_map, no_spot, nobody, object, object_at_number, object_slot, width_at}
-use Rattle.kr_laws_slots.proofs.Places.{class_at, extent, extent_of, heap_element, heap_field, heap_length, heap_width, kind}
+use Rattle.kr_laws_pruning.proofs.Numbering.{count_at, first_slot, get_map, no_spot, nobody, object, object_at_number, object_slot, width_at}
+use Rattle.kr_laws_pruning.proofs.Places.{class_at, extent, extent_of, heap_element, heap_field, heap_length, heap_width, kind}
 use Rattle.kr_laws_safety.proofs.Heaps.{object_found}
 use Rattle.kr_laws_safety.proofs.Vectors.{is_typed}
 use Rattle.kr_laws_safety.specs.Domains.{AreElementsOf, AreSpotsOf, HaveDomainsTypes, class_type, object_types}

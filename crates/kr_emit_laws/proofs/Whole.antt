@@ -11,17 +11,17 @@ use Rattle.kr_classes_table.specs.Table.{headings_of, table_of}
 use Rattle.kr_emit_meaning.specs.Buildable.{build_fault, builders_name}
 use Rattle.kr_emit_meaning.specs.Builders.{objects_in}
 use Rattle.kr_emit_meaning.specs.Emitted.{emitted}
-use Rattle.kr_emit_text.proofs.Accepted.{read_back}
-use Rattle.kr_emit_text.proofs.Counts.{few_builders, few_lines, few_objects}
-use Rattle.kr_emit_text.proofs.Listings.{emitted_is}
-use Rattle.kr_emit_text.proofs.Rows.{IsRowOf, rows_are}
-use Rattle.kr_emit_text.proofs.Sized.{lengths}
-use Rattle.kr_emit_text.specs.Accepted.{HasBuilderTree, rows_listed}
-use Rattle.kr_emit_text.specs.BuilderTree.{builder_tree}
-use Rattle.kr_emit_text.specs.Laws.{HasLengths, IsCode}
-use Rattle.kr_emit_text.specs.Pieces as pieces
-use Rattle.kr_emit_text.specs.Pieces.{after_pieces, code, text_of}
-use Rattle.kr_emit_text.specs.Syntax.{Builder, builder_of, builders_of}
+use Rattle.kr_emit_laws.proofs.TextAccepted.{read_back}
+use Rattle.kr_emit_laws.proofs.Counts.{few_builders, few_lines, few_objects}
+use Rattle.kr_emit_laws.proofs.Listings.{emitted_is}
+use Rattle.kr_emit_laws.proofs.Rows.{IsRowOf, rows_are}
+use Rattle.kr_emit_laws.proofs.Sized.{lengths}
+use Rattle.kr_emit_laws.specs.Accepted.{HasBuilderTree, rows_listed}
+use Rattle.kr_emit_laws.specs.BuilderTree.{builder_tree}
+use Rattle.kr_emit_laws.specs.TextLaws.{HasLengths, IsCode}
+use Rattle.kr_emit_laws.specs.Pieces as pieces
+use Rattle.kr_emit_laws.specs.Pieces.{after_pieces, code, text_of}
+use Rattle.kr_emit_laws.specs.Syntax.{Builder, builder_of, builders_of}
 use Rattle.kr_laws_never_stuck.specs.Accepted.{IsAccepted}
 use Rattle.kr_lex.specs.Places.{place_after}
 use Rattle.kr_mean.specs.Entries.{all_entries, structure_of}

@@ -17,7 +17,7 @@ use Rattle.kr_mean.specs.Program.{Program, class_scope, declared_fields, field_p
 use Rattle.kr_mean.specs.Purity.{IsOneOf}
 use Rattle.kr_report.specs.Texts.{field_names}
 use Rattle.kr_laws_runs.proofs.Respects.{AllOf}
-use Rattle.kr_laws_slots.proofs.Numbering.{get_map}
+use Rattle.kr_laws_pruning.proofs.Numbering.{get_map}
 use Rattle.kr_laws_safety.proofs.Creations.{IsBelowAll, line_below}
 use Rattle.kr_laws_safety.specs.Typed.{AreInitialised, IsTypedProgram}
 use Rattle.kr_laws_never_stuck.proofs.Chains.{chain}
@@ -25,8 +25,8 @@ use Rattle.kr_laws_never_stuck.proofs.Declared.{among_turned, found_one, one_par
 use Rattle.kr_laws_never_stuck.proofs.Unbroken.{Unbroken}
 use Rattle.kr_emit_meaning.specs.Buildable.{E1, class_faults, construction_faults, constructor_fault, constructors_of, field_fault, is_built, is_literal, is_class_below}
 use Rattle.kr_emit_meaning.specs.Builders.{heading_at}
-use Rattle.kr_emit_text.specs.BuilderTree.{type_tree}
-use Rattle.kr_emit_text.specs.Syntax.{class_name, named_in}
+use Rattle.kr_emit_laws.specs.BuilderTree.{type_tree}
+use Rattle.kr_emit_laws.specs.Syntax.{class_name, named_in}
 use Rattle.kr_emit_laws.proofs.Creations.{IsImplied, IsSimple}
 use Rattle.kr_emit_laws.proofs.Fields.{position_is}
 use Rattle.kr_emit_laws.proofs.Lines.{IsSpotOf}

@@ -5,10 +5,10 @@ use Rattle.kr_base.specs.declared.place.Place.{Place}
 use Rattle.kr_classes_table.specs.Table.{headings_of}
 use Rattle.kr_emit_meaning.specs.Buildable.{build_fault, builders_name}
 use Rattle.kr_emit_meaning.specs.Builders.{objects_in}
-use Rattle.kr_emit_text.specs.BuilderTree.{builder_tree, methods_tree}
-use Rattle.kr_emit_text.specs.Pieces as pieces
-use Rattle.kr_emit_text.specs.Pieces.{after_pieces}
-use Rattle.kr_emit_text.specs.Syntax.{builders_of}
+use Rattle.kr_emit_laws.specs.BuilderTree.{builder_tree, methods_tree}
+use Rattle.kr_emit_laws.specs.Pieces as pieces
+use Rattle.kr_emit_laws.specs.Pieces.{after_pieces}
+use Rattle.kr_emit_laws.specs.Syntax.{builders_of}
 use Rattle.kr_emit_laws.specs.OneMore.{IsAdded}
 use Rattle.kr_laws_never_stuck.specs.Accepted.{IsAccepted}
 use Rattle.kr_mean.specs.Entries.{structure_of}

@@ -9,8 +9,8 @@ use Rattle.kr_classes_table.specs.Table.{Table, Field, type_named, field_named, 
 use Rattle.kr_types_meaning.specs.Scopes.{Scope}
 use Rattle.kr_types_meaning.specs.Rules.{is_code}
 use Rattle.kr_types_meaning.specs.Typing.{judged}
-use Rattle.kr_emit_text.specs.BuilderTree.{methods_tree, type_tree}
-use Rattle.kr_emit_text.specs.Syntax.{Builder, Line, Creates, CreatesArray, SetsField, SetsElement, Operand, Whole, Boolean, NullOperand, Local, TypeName}
+use Rattle.kr_emit_laws.specs.BuilderTree.{methods_tree, type_tree}
+use Rattle.kr_emit_laws.specs.Syntax.{Builder, Line, Creates, CreatesArray, SetsField, SetsElement, Operand, Whole, Boolean, NullOperand, Local, TypeName}
 
 -- the type that a type's name means
 abbrev pub meant_type : Table → TypeName → JavaType

@@ -6,7 +6,7 @@ use Rattle.kr_classes_table.specs.Rules.{class_fault}
 use Rattle.kr_classes_table.specs.Table.{headings_of, table_of}
 use Rattle.kr_emit_meaning.specs.Buildable.{build_fault}
 use Rattle.kr_emit_meaning.specs.Emitted.{emitted}
-use Rattle.kr_emit_text.specs.Accepted.{rows_listed}
+use Rattle.kr_emit_laws.specs.Accepted.{rows_listed}
 use Rattle.kr_laws_never_stuck.specs.Accepted.{IsAccepted}
 use Rattle.kr_lex.specs.Lexemes.{Lexemes}
 use Rattle.kr_lex.specs.Spells.{AreTokens}

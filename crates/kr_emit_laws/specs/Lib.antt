@@ -6,3 +6,10 @@ pub mod OneMore
 pub mod Fitting
 pub mod TypingBeside
 pub mod Worked
+pub mod Accepted
+pub mod BuilderTree
+pub mod TextLaws
+pub mod Pieces
+pub mod Printable
+pub mod Syntax
+pub mod Writable

@@ -8,8 +8,8 @@ use Rattle.kr_classes_table.specs.Table.{Table, table_of}
 use Rattle.kr_mean.specs.Problem.{Problem}
 use Rattle.kr_types_meaning.specs.Typing.{type_fault}
 use Rattle.kr_emit_meaning.specs.Buildable.{build_fault, builders_name}
-use Rattle.kr_emit_text.specs.BuilderTree.{file_tree}
-use Rattle.kr_emit_text.specs.Syntax.{Builder}
+use Rattle.kr_emit_laws.specs.BuilderTree.{file_tree}
+use Rattle.kr_emit_laws.specs.Syntax.{Builder}
 use Rattle.kr_emit_laws.specs.Fitting.{BuilderFits}
 use Rattle.kr_emit_laws.specs.Larger.{IsLarger}
 use Rattle.kr_emit_laws.specs.OneMore.{IsDerived}

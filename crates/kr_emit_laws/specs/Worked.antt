@@ -4,7 +4,7 @@ use Rattle.kr_ast.specs.Tree as trees
 use Rattle.kr_ast.specs.Tree.{Tree, Nil, Cons}
 use Rattle.kr_classes_table.specs.Types.{ArrayType, ClassType, int_type, long_type}
 use Rattle.kr_emit_meaning.specs.Worked.{at, nodes, two_nodes, kinds, a_kind}
-use Rattle.kr_emit_text.specs.BuilderTree.{builder_tree}
+use Rattle.kr_emit_laws.specs.BuilderTree.{builder_tree}
 use Rattle.kr_mean.specs.Meaning.{value}
 use Rattle.kr_mean.specs.Program.{Program, program_of}
 use Rattle.kr_mean.specs.Steps.{Outcome}

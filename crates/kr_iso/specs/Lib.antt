@@ -3,3 +3,4 @@ pub mod Objects
 pub mod Laws
 pub mod Unused
 pub mod Swap
+pub mod Rows

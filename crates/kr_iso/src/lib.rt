@@ -4,10 +4,12 @@
 
 mod choice;
 mod laws;
+mod limits;
 mod object;
 mod slots;
 
 pub use choice::next_choice;
 pub use laws::choice_law;
+pub use limits::reach;
 pub use object::Object;
 pub use slots::Slots;

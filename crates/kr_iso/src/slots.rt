@@ -2,6 +2,7 @@
 ghost use Rattle.std.specs.Prelude.{◌≡◌, ◌<◌};
 ghost use Rattle.kr_mean.specs.Space.{Space};
 ghost use Rattle.kr_iso.specs.Objects.{shown};
+ghost use Rattle.kr_iso.specs.Rows.{IsRow};
 
 use crate::Object;
 
@@ -24,4 +25,11 @@ pub trait Slots {
         requires slot { slot < (space self.now).slots }
         requires index { index < (space self.now).size slot }
         ensures { shown result ≡ (space self.now).object_at slot index };
+
+    /// How many values of a slot, from an index on, are no objects, or are objects of one class domain one after another, as
+    /// far as is known.
+    fn row(&self, slot: u32, index: u32) -> u32
+        requires slot { slot < (space self.now).slots }
+        requires index { index < (space self.now).size slot }
+        ensures { IsRow (space self.now) slot index result };
 }

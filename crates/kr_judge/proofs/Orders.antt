@@ -8,13 +8,13 @@ use Rattle.kr_value.specs.declared.object.Spot.{Spot}
 use Rattle.kr_mean.specs.Heaps.{distinct}
 use Rattle.kr_mean.specs.Places.{SlotPlace, This, Parameter, At}
 use Rattle.kr_mean.specs.Runs.{contains_number, is_same_number, is_same_place, is_same_spot}
-use Rattle.kr_laws_slots.proofs.Membership.{Has}
-use Rattle.kr_laws_slots.proofs.Reached.{has_flat}
-use Rattle.kr_laws_slots.proofs.SlotForks.{added, distinct_append}
+use Rattle.kr_laws_pruning.proofs.Membership.{Has}
+use Rattle.kr_laws_pruning.proofs.Reached.{has_flat}
+use Rattle.kr_laws_pruning.proofs.SlotForks.{added, distinct_append}
 use Rattle.kr_run_state.specs.Noting.{is_read, with_read, noted_once}
 use Rattle.kr_space_layout.specs.Marks.{IsMarked}
 use Rattle.kr_judge.specs.Orders.{AreMarked, with_slot, with_slots}
-use Rattle.kr_laws_slots.proofs.Places.{same_spots}
+use Rattle.kr_laws_pruning.proofs.Places.{same_spots}
 
 pub with_both : (order xs ys : List ℕ) → with_slots order (xs ++ ys) ≡ with_slots (with_slots order xs) ys
 with_both order [] ys = refl

@@ -10,9 +10,9 @@ use Rattle.kr_mean.specs.Problem.{Problem, DomainObject, Slot, heap_number, doma
 use Rattle.kr_mean.specs.Runs.{slots_for, is_same_place, is_same_spot}
 use Rattle.kr_mean.specs.WellFormed.{IsWellFormed}
 use Rattle.kr_space_layout.specs.Layouts.{first_slot}
-use Rattle.kr_laws_slots.proofs.Numbering as numbering
-use Rattle.kr_laws_slots.proofs.Numbering.{object, width_at, parameters, parameter_slot, object_slot, SlotCase, is_this, is_parameter, is_spot, slot_case}
-use Rattle.kr_laws_slots.proofs.Places.{kind, class_at, spot_slots, spot_none, filter_none}
+use Rattle.kr_laws_pruning.proofs.Numbering as numbering
+use Rattle.kr_laws_pruning.proofs.Numbering.{object, width_at, parameters, parameter_slot, object_slot, SlotCase, is_this, is_parameter, is_spot, slot_case}
+use Rattle.kr_laws_pruning.proofs.Places.{kind, class_at, spot_slots, spot_none, filter_none}
 use Rattle.kr_build.proofs.Rows.{first_same}
 use Rattle.kr_judge.specs.Columns.{spot_at, HasNone}
 use Rattle.kr_space_layout.specs.Numbers.{HasNumber}

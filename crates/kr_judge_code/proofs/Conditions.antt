@@ -3,7 +3,7 @@ use Rattle.std.proofs.Common.{◌≡◌, refl, sym, ap, ◌∙◌, ℕ, ◌+◌,
 use Rattle.std.specs.Prelude.{flat_map, option_to_list}
 use Rattle.kr_classes_table.specs.Table.{Method, items}
 use Rattle.kr_types_meaning.specs.Running.{running}
-use Rattle.kr_laws_shapes.specs.Shapes.{AreContractLines}
+use Rattle.kr_laws_types.specs.Derivation.{AreContractLines}
 use Rattle.kr_mean.specs.Code as meaning
 use Rattle.kr_mean.specs.Program.{method_scope}
 use Rattle.kr_mean.specs.Runs.{conditions, rep_ok_node, requires_of, tested_method}

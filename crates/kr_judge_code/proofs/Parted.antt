@@ -13,7 +13,7 @@ use Rattle.kr_types_meaning.specs.Handing.{handed}
 use Rattle.kr_types_meaning.specs.Running.{running}
 use Rattle.kr_types_meaning.specs.Scopes.{Scope, after}
 use Rattle.kr_types_meaning.specs.Typing.{operand}
-use Rattle.kr_laws_shapes.specs.Expressions.{IsCreated, IsWritten, Shaped}
+use Rattle.kr_laws_types.specs.DerivedExpressions.{IsCreated, IsWritten, Shaped}
 use Rattle.kr_laws_types.proofs.Loops.{running_same}
 use Rattle.kr_mean.specs.Code.{Node, code}
 use Rattle.kr_mean.specs.Verdicts.{OldNode, old_in}

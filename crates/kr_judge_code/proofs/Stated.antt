@@ -10,7 +10,7 @@ use Rattle.kr_classes_table.specs.Table.{items}
 use Rattle.kr_types_meaning.specs.Scopes.{Requiring, Scope, after, in_contract, in_old}
 use Rattle.kr_types_meaning.specs.Handing.{handed}
 use Rattle.kr_types_meaning.specs.Running.{running}
-use Rattle.kr_laws_shapes.specs.Shapes.{AreContractLines, IsContractLine}
+use Rattle.kr_laws_types.specs.Derivation.{AreContractLines, IsContractLine}
 use Rattle.kr_mean.specs.Code as meaning
 use Rattle.kr_mean.specs.Runs.{required_in}
 use Rattle.kr_types.specs.declared.program.Program.{Program}

@@ -3,7 +3,7 @@ use Rattle.std.specs.Prelude.{◌≡◌, ℕ, ◌<◌, List, ◌∷◌, map, fla
 use Rattle.kr_ast.specs.Tree.{Tree}
 use Rattle.kr_classes_table.specs.Table.{items}
 use Rattle.kr_types_meaning.specs.Scopes.{Ensuring, Requiring, Scope, in_contract}
-use Rattle.kr_laws_shapes.specs.Shapes.{AreContractLines, IsContractLine}
+use Rattle.kr_laws_types.specs.Derivation.{AreContractLines, IsContractLine}
 use Rattle.kr_mean.specs.Code.{Node}
 use Rattle.kr_mean.specs.Runs.{ensured_in, required_in}
 use Rattle.kr_types.specs.declared.program.Program.{Program}

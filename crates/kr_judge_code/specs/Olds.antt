@@ -1,8 +1,8 @@
 -- Between crates: the `\old`s of conditions, and their nodes of code; what contract lines add to a contract.
 use Rattle.std.specs.Prelude.{◌≡◌, ◌⊎◌, ℕ, ◌+◌, Bool, List, ◌++◌, flat_map, length, map}
 use Rattle.kr_ast.specs.Tree.{Tree}
-use Rattle.kr_laws_shapes.specs.Expressions.{IsCreated}
-use Rattle.kr_laws_shapes.specs.Shapes.{AreExpressions, IsExpression}
+use Rattle.kr_laws_types.specs.DerivedExpressions.{IsCreated}
+use Rattle.kr_laws_types.specs.Derivation.{AreExpressions, IsExpression}
 use Rattle.kr_types_meaning.specs.Running.{running}
 use Rattle.kr_types_meaning.specs.Scopes.{Scope}
 use Rattle.kr_mean.specs.Code.{code}

@@ -8,7 +8,7 @@ pub use Rattle.kr_space_problem.specs.Posed.{IsPosed, posed}
 pub use Rattle.kr_space_problem.specs.Subjects.{IsSubject}
 pub use Rattle.kr_mean.specs.Runs.{conditions, requires_of, root_class, tested_method}
 pub use Rattle.kr_mean.specs.Verdicts.{names_thrown, old_in}
-pub use Rattle.kr_laws_shapes.specs.Shapes.{AreContractLines, IsContractLine, IsExpression}
+pub use Rattle.kr_laws_types.specs.Derivation.{AreContractLines, IsContractLine, IsExpression}
 pub use Rattle.kr_code.specs.declared.code.Code.{Code as CodeMade}
 pub use Rattle.kr_code_members.specs.Nodes.{AreMemberNodes, table}
 pub use Rattle.kr_code_lowering.specs.Calls.{IsFound}

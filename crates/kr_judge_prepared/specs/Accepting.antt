@@ -1,7 +1,7 @@
 -- Between crates: what holds of a problem that breaks no rule.
 use Rattle.std.specs.Prelude.{◌≤◌, length, All}
 use Rattle.kr_ast.specs.Arena.{root}
-use Rattle.kr_laws_shapes.specs.Shapes.{AreClasses}
+use Rattle.kr_laws_types.specs.Derivation.{AreClasses}
 use Rattle.kr_mean.specs.Problem.{slots}
 use Rattle.kr_mean.specs.Purity.{IsPure}
 use Rattle.kr_mean.specs.WellFormed.{IsWellFormed}

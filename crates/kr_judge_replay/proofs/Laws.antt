@@ -13,7 +13,7 @@ use Rattle.kr_mean.specs.Entries.{mark_for, mark_of, row_of}
 use Rattle.kr_mean.specs.WellFormed.{IsWellFormed}
 use Rattle.kr_mean.specs.declared.row.Row.{Row}
 use Rattle.kr_laws_pruning.specs.Laws.{IsLawful}
-use Rattle.kr_laws_slots.proofs.Places.{this_slots}
+use Rattle.kr_laws_pruning.proofs.Places.{this_slots}
 use Rattle.kr_step.specs.declared.candidates.Ending.{Ending}
 use Rattle.kr_step.specs.declared.candidates.Ending.TheVariants.{Valid, Invalid, Spent}
 use Rattle.kr_step.specs.Scans.{ending_of}

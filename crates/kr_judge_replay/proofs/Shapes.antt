@@ -15,8 +15,8 @@ use Rattle.kr_mean.specs.Problem.{Problem, all_objects, choices_at, domain_at, h
 use Rattle.kr_mean.specs.Runs.{contains_number, slots_for}
 use Rattle.kr_mean.specs.Space.{no_choice}
 use Rattle.kr_mean.specs.WellFormed.{IsWellFormed}
-use Rattle.kr_laws_slots.proofs.Numbering.{object, number_of_object, count_at, width_at, first_slot}
-use Rattle.kr_laws_slots.proofs.Places.{heap_long, heap_class, heap_element, heap_field, heap_length, heap_width, extent_of, extent_within, kind, spot_slots}
+use Rattle.kr_laws_pruning.proofs.Numbering.{object, number_of_object, count_at, width_at, first_slot}
+use Rattle.kr_laws_pruning.proofs.Places.{heap_long, heap_class, heap_element, heap_field, heap_length, heap_width, extent_of, extent_within, kind, spot_slots}
 use Rattle.kr_run_state.specs.Noting.{is_read}
 use Rattle.kr_run_state.specs.Worlds.{StandFor, StandsFor, is_fixed}
 use Rattle.kr_judge_replay.specs.Kept.{IsClosed}

@@ -205,6 +205,11 @@ impl<'s> Slots for Runner<'s> {
     fn object_at(&self, slot: u32, index: u32) -> Option<Object> {
         self.layout.object(slot, index)
     }
+
+    #[inline(always)]
+    fn row(&self, slot: u32, index: u32) -> u32 {
+        self.layout.row(slot, index)
+    }
 }
 
 impl<'s> Candidate for Runner<'s> {

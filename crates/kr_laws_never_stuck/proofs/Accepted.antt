@@ -27,7 +27,7 @@ use Rattle.kr_space_meaning.specs.Order.{Fault, least, space_rank}
 use Rattle.kr_space_meaning.proofs.Each.{unbroken}
 use Rattle.kr_fin.proofs.Leasts.{least_of_all}
 use Rattle.kr_space_meaning.proofs.WellFormed.{well_formed}
-use Rattle.kr_laws_shapes.proofs.Shapes.{file_shape}
+use Rattle.kr_laws_types.proofs.Shapes.{file_shape}
 use Rattle.kr_value.specs.declared.object.Class.TheVariants.{Object}
 use Rattle.kr_laws_safety.proofs.Heaps.{same_type}
 use Rattle.kr_laws_safety.specs.Typed.{IsTypedProgram}
@@ -37,8 +37,8 @@ use Rattle.kr_laws_never_stuck.specs.Grown.{AreGrown, AreProgram}
 use Rattle.kr_laws_never_stuck.proofs.Apart as places
 use Rattle.kr_laws_never_stuck.specs.Keys.{HasKeys}
 use Rattle.kr_laws_never_stuck.proofs.Typed.{domains_typed, is_posed, object_class, root_domain_is, root_numbered, rooted_by, rules_of}
-use Rattle.kr_laws_shapes.proofs.Predefined.{predefined_shape}
-use Rattle.kr_laws_shapes.specs.Shapes.{AreClasses}
+use Rattle.kr_laws_types.proofs.Predefined.{predefined_shape}
+use Rattle.kr_laws_types.specs.Derivation.{AreClasses}
 use Rattle.kr_laws_never_stuck.specs.WellTyped.{AreFiles, IsNeverStuck}
 use Rattle.kr_laws_never_stuck.proofs.Programs.{well_typed, never_stuck as runs_never_stuck}
 use Rattle.kr_laws_never_stuck.specs.TypedContracts.{HasContract}

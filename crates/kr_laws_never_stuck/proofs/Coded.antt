@@ -8,7 +8,7 @@ use Rattle.kr_classes_table.specs.Types.{JavaType}
 use Rattle.kr_classes_table.specs.Table.{Heading, Table, Class, Field, Method, Constructor, items, heading_of, with_nested, headings_from, headings_of, declared_in, fields_in, methods_in, constructors_in, class_of, table_of}
 use Rattle.kr_classes_table.specs.Arrays.{array_types_of}
 use Rattle.kr_types_meaning.specs.Scopes.{Scope}
-use Rattle.kr_laws_shapes.specs.Shapes.{AreDeclarators, MayCallSuper, IsMember, IsClass, AreClasses}
+use Rattle.kr_laws_types.specs.Derivation.{AreDeclarators, MayCallSuper, IsMember, IsClass, AreClasses}
 use Rattle.kr_laws_types.specs.Shapes.{Expression, Expressions, IsCode}
 use Rattle.kr_laws_runs.proofs.Respects.{AllOf, all_front, all_back, all_both}
 use Rattle.kr_mean.specs.Program.{program_with, method_scope, constructor_scope}

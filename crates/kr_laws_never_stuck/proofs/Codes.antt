@@ -10,9 +10,9 @@ use Rattle.kr_classes_table.specs.Table.{Heading, items, headings_of, type_named
 use Rattle.kr_classes_table.specs.Arrays.{arrays_in, arrays_named, is_listed, once, array_types_of, array_number_from, array_number}
 use Rattle.kr_types_meaning.specs.Scopes.{Scope, Declaring, Locals, Fields, Constants, in_old, bind_local, bind_as, declaring, after}
 use Rattle.kr_types_meaning.specs.Rules.{is_after_body}
-use Rattle.kr_laws_shapes.specs.Expressions.{Shaped}
-use Rattle.kr_laws_shapes.specs.Shapes as shapes
-use Rattle.kr_laws_shapes.specs.Shapes.{MayBeExpression, AreDeclarators, One, Several}
+use Rattle.kr_laws_types.specs.DerivedExpressions.{Shaped}
+use Rattle.kr_laws_types.specs.Derivation as shapes
+use Rattle.kr_laws_types.specs.Derivation.{MayBeExpression, AreDeclarators, One, Several}
 use Rattle.kr_laws_types.specs.Shapes.{Sort, Expression, Expressions, Statement, Statements, Declarators, Catch, Catches, HasNumber, IsCode}
 use Rattle.kr_laws_types.specs.Expressions.{plain}
 use Rattle.kr_laws_runs.proofs.Respects.{AllOf, all_front, all_back}

@@ -14,8 +14,8 @@ use Rattle.kr_types_meaning.specs.Scopes.{Scope, Requiring, Ensuring, AsValue, w
 use Rattle.kr_types_meaning.specs.Rules.{Typed, Untyped, Value, Variable, Values, Judgement, Fits, Breaks, ask, fine, is_code, contract_rule, caught_rule, then_rule, parameter_rule, is_boolean}
 use Rattle.kr_types_meaning.specs.Laws.{IsClassName}
 use Rattle.kr_types_meaning.specs.Typing.{judge, on_one, judged, type_in, IsWellTyped}
-use Rattle.kr_laws_shapes.specs.Shapes.{IsSignalled, IsContractLine, AreContractLines, IsMember}
-use Rattle.kr_laws_shapes.specs.Expressions.{Shaped, IsWritten}
+use Rattle.kr_laws_types.specs.Derivation.{IsSignalled, IsContractLine, AreContractLines, IsMember}
+use Rattle.kr_laws_types.specs.DerivedExpressions.{Shaped, IsWritten}
 use Rattle.kr_laws_types.specs.Types.{is_variable_type, HasVariables}
 use Rattle.kr_laws_types.specs.Shapes.{Expression, IsCode}
 use Rattle.kr_laws_types.specs.Expressions.{plain}

@@ -11,7 +11,7 @@ use Rattle.kr_classes_table.specs.Rules.{Fault, class_fault, break_if, is_name_a
 use Rattle.kr_classes_table.proofs.Least.{is_least}
 use Rattle.kr_types_meaning.specs.Scopes.{Scope, scope_of, in_class, after}
 use Rattle.kr_types_meaning.specs.Typing.{judged, judge, class_rule, has_constructor, outside, IsWellTyped}
-use Rattle.kr_laws_shapes.specs.Shapes.{IsMember, IsClass, AreClasses}
+use Rattle.kr_laws_types.specs.Derivation.{IsMember, IsClass, AreClasses}
 use Rattle.kr_laws_runs.proofs.Respects.{AllOf, all_both}
 use Rattle.kr_laws_never_stuck.proofs.Declared.{equal_names}
 use Rattle.kr_laws_never_stuck.specs.WellTyped.{AreFiles}

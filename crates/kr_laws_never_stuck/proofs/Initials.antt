@@ -13,10 +13,10 @@ use Rattle.kr_types_meaning.specs.Rules as rules
 use Rattle.kr_types_meaning.specs.Rules.{Typed, Judgement, Fits, ask, fine, initial_fits, declaration_rule, unary_rule, operator_rule, choice_rule, cast_rule, instance_rule, assignment_rule, compound_rule, step_rule, element_rule, call_rule, super_rule, creation_rule, array_creation_rule, old_rule}
 use Rattle.kr_types_meaning.specs.Typing.{Judged, judge, on_maybe, one, two, three, list, one_and_list, both, field_of, method_of, judged, type_in}
 use Rattle.kr_types_meaning.specs.Running.{elsewhere}
-use Rattle.kr_laws_shapes.specs.Shapes.{AreDeclarators, IsMember}
+use Rattle.kr_laws_types.specs.Derivation.{AreDeclarators, IsMember}
 use Rattle.kr_laws_types.specs.Types.{is_variable_type}
 use Rattle.kr_laws_types.specs.Shapes.{Sort, Expression, Expressions, IsCode}
-use Rattle.kr_laws_shapes.specs.Expressions.{IsCreated, IsWritten}
+use Rattle.kr_laws_types.specs.DerivedExpressions.{IsCreated, IsWritten}
 use Rattle.kr_laws_types.proofs.Given.{variable_known}
 use Rattle.kr_laws_types.proofs.Expressions.{after_expression}
 use Rattle.kr_mean.specs.Purity.{IsOneOf}

@@ -13,7 +13,7 @@ use Rattle.kr_types_meaning.specs.Scopes.{Scope, Local, written, after, bind_loc
 use Rattle.kr_types_meaning.specs.Rules as rules
 use Rattle.kr_types_meaning.specs.Rules.{Typed, Judgement, Fits, ask, fine, implied_rule, is_none_of}
 use Rattle.kr_types_meaning.specs.Typing.{judge, on_maybe, judged}
-use Rattle.kr_laws_shapes.specs.Shapes.{IsVariableType, IsResultType, AreParameters, MayCallSuper, IsMember}
+use Rattle.kr_laws_types.specs.Derivation.{IsVariableType, IsResultType, AreParameters, MayCallSuper, IsMember}
 use Rattle.kr_laws_types.specs.Types.{is_variable_type, is_result_type}
 use Rattle.kr_laws_types.proofs.Expressions.{written_variable}
 use Rattle.kr_mean.specs.Program.{parameter_local}

@@ -10,7 +10,7 @@ use Rattle.kr_classes_table.specs.Rules.{class_fault}
 use Rattle.kr_types_meaning.specs.Scopes.{Scope, Local, written, after, bind_local, static_if, meant_by, meant}
 use Rattle.kr_types_meaning.specs.Rules.{Typed, Fits, ask, fine, is_new, parameter_rule}
 use Rattle.kr_types_meaning.specs.Typing.{judged, IsWellTyped}
-use Rattle.kr_laws_shapes.specs.Shapes.{AreParameters, IsMember}
+use Rattle.kr_laws_types.specs.Derivation.{AreParameters, IsMember}
 use Rattle.kr_mean.specs.Program.{program_with, class_scope}
 use Rattle.kr_mean.specs.Purity.{IsOneOf}
 use Rattle.kr_laws_safety.proofs.Glue.{kept}

@@ -9,7 +9,7 @@ use Rattle.kr_classes_table.specs.Table.{Table, Class, Field, Method, Constructo
 use Rattle.kr_classes_table.specs.Rules.{class_fault, break_if, repeated}
 use Rattle.kr_types_meaning.specs.Scopes.{Scope, super_parameters}
 use Rattle.kr_types_meaning.specs.Typing.{judge, judged, type_in, class_rule, has_constructor, IsWellTyped}
-use Rattle.kr_laws_shapes.specs.Shapes.{MayCallSuper}
+use Rattle.kr_laws_types.specs.Derivation.{MayCallSuper}
 use Rattle.kr_laws_types.specs.Types.{is_variable_type}
 use Rattle.kr_laws_types.specs.Shapes.{Expression, IsCode}
 use Rattle.kr_mean.specs.Program.{Program, program_with, class_scope, method_scope, constructor_scope, first, constructor_of, declared_fields}

@@ -12,7 +12,7 @@ use Rattle.kr_classes_table.specs.Table.{Heading, type_named}
 use Rattle.kr_types_meaning.specs.Scopes.{Scope, Role, AsValue, in_old, after, class_before}
 use Rattle.kr_types_meaning.specs.Rules.{Typed, Value, Variable, Values, Untyped, Fits, ask, old_rule, is_code, is_after_body}
 use Rattle.kr_types_meaning.specs.Typing.{judge, on_one, field_of, method_of, operand, judged, type_in}
-use Rattle.kr_laws_shapes.specs.Expressions.{Shaped}
+use Rattle.kr_laws_types.specs.DerivedExpressions.{Shaped}
 use Rattle.kr_laws_types.specs.Shapes.{Sort, Expression, Expressions, HasNumber, IsCode}
 use Rattle.kr_laws_types.specs.Expressions.{plain}
 use Rattle.kr_laws_types.proofs.Expressions.{is_typed}

@@ -7,7 +7,7 @@ use Rattle.kr_classes_table.specs.Constants.{is_at_place}
 use Rattle.kr_classes_table.specs.Arrays.{array_types_of}
 use Rattle.kr_classes_table.specs.Rules.{class_fault}
 use Rattle.kr_types_meaning.specs.Typing.{IsWellTyped}
-use Rattle.kr_laws_shapes.specs.Shapes.{AreClasses}
+use Rattle.kr_laws_types.specs.Derivation.{AreClasses}
 use Rattle.kr_mean.specs.Program.{program_with}
 use Rattle.kr_mean.specs.Purity.{IsOneOf}
 use Rattle.kr_mean.specs.Problem.{Problem}

@@ -15,7 +15,7 @@ use Rattle.kr_mean.specs.Entries.{entry_of, mark_of, IsAll, IsListed, all_entrie
 use Rattle.kr_laws_pruning.specs.Laws.{ClassLaw}
 use Rattle.kr_mean.specs.declared.row.Row.{Row}
 use Rattle.kr_laws_pruning.proofs.AllEntries.{entries_are_all}
-use Rattle.kr_laws_slots.proofs.CutOrder.{connected}
+use Rattle.kr_laws_pruning.proofs.CutOrder.{connected}
 use Rattle.kr_laws_pruning.proofs.Forks.{forks_agree}
 use Rattle.kr_laws_pruning.proofs.Listed.{one_entry, renamed_key}
 use Rattle.kr_iso.proofs.Least.{renamed_along}

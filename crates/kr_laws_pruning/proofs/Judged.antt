@@ -33,14 +33,14 @@ use Rattle.kr_mean.specs.Purity.{IsOneOf, written_by, writes_to, may_touch, rep_
 use Rattle.kr_laws_pruning.specs.Laws.{ended}
 use Rattle.kr_mean.specs.Runs.{End, class_number, root_class, requires_of, rep_ok, where_true, hold_all, parameters_from, start, end_of, outcome_of, end_on, slots_for, read_slots}
 use Rattle.kr_mean.specs.WellFormed.{IsWellFormed, AreSpots}
-use Rattle.kr_laws_slots.proofs.Numbering.{object, count_at, width_at, parameters, first_slot, parameter_slot, object_slot, object_at_number, number_of_object}
-use Rattle.kr_laws_slots.proofs.Spaces.{objects_long, objects_get}
-use Rattle.kr_laws_slots.proofs.Places.{spot_slots, spot_none, this_slots, parameter_slots_are, kind, class_at, extent_of, extent, extent_within, heap_long, heap_class, heap_width, heap_field, heap_past, heap_length, heap_element}
-use Rattle.kr_laws_slots.proofs.Walked.{length_renamed}
-use Rattle.kr_laws_slots.proofs.Named.{name_in, heap_name, heap_name_at, heap_name_fixes, heap_name_within, heap_name_apart, on, on_this, on_parameter, on_spot, AgreeAt, choice_renamed}
+use Rattle.kr_laws_pruning.proofs.Numbering.{object, count_at, width_at, parameters, first_slot, parameter_slot, object_slot, object_at_number, number_of_object}
+use Rattle.kr_laws_pruning.proofs.Spaces.{objects_long, objects_get}
+use Rattle.kr_laws_pruning.proofs.Places.{spot_slots, spot_none, this_slots, parameter_slots_are, kind, class_at, extent_of, extent, extent_within, heap_long, heap_class, heap_width, heap_field, heap_past, heap_length, heap_element}
+use Rattle.kr_laws_pruning.proofs.Walked.{length_renamed}
+use Rattle.kr_laws_pruning.proofs.Named.{name_in, heap_name, heap_name_at, heap_name_fixes, heap_name_within, heap_name_apart, on, on_this, on_parameter, on_spot, AgreeAt, choice_renamed}
 use Rattle.kr_laws_runs.proofs.Respects.{Same, Each, AllOf, all_front, all_back, all_parts, MayWrite, IsCode}
-use Rattle.kr_laws_slots.proofs.Goes.{Forked, renamed_value, renamed_place, KnownValue, Knows, KnownPlace, Setting, Related, LocalLike, HeapLike, Like, SaidLike, Reaches, Meets, Goes, bind_meets, collects, value_goes, method_goes}
-use Rattle.kr_laws_slots.proofs.SlotForks.{SlotForks, slots_then, slots_same, slots_map}
+use Rattle.kr_laws_pruning.proofs.Goes.{Forked, renamed_value, renamed_place, KnownValue, Knows, KnownPlace, Setting, Related, LocalLike, HeapLike, Like, SaidLike, Reaches, Meets, Goes, bind_meets, collects, value_goes, method_goes}
+use Rattle.kr_laws_pruning.proofs.SlotForks.{SlotForks, slots_then, slots_same, slots_map}
 
 pub all_one : {X : Type 0} (P : X → Type 0) (xs : List X) → ((x : X) → IsOneOf x xs → P x) → AllOf P xs
 all_one P [] f = tt

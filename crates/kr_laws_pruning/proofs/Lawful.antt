@@ -14,19 +14,19 @@ use Rattle.kr_mean.specs.WellFormed.{IsWellFormed}
 use Rattle.kr_laws_pruning.specs.Laws.{ended, IsLawful}
 use Rattle.kr_value.specs.declared.value.Value.{Value}
 use Rattle.kr_value.specs.declared.value.Value.TheVariants.{Int, Bool as Truth, Null, Ref as Reference}
-use Rattle.kr_laws_slots.proofs.Membership.{Has, has_append_right}
+use Rattle.kr_laws_pruning.proofs.Membership.{Has, has_append_right}
 use Rattle.kr_iso.proofs.Moves.{moves, moved_orders, slots_apart}
-use Rattle.kr_laws_slots.proofs.Numbering.{object, count_at, parameters, first_slot, parameter_slot, object_slot, SlotCase, is_this, is_parameter, is_spot, slot_case}
-use Rattle.kr_laws_slots.proofs.Spaces.{block_of, is_space}
-use Rattle.kr_laws_slots.proofs.Places.{extent, extent_within}
-use Rattle.kr_laws_slots.proofs.Named.{on, on_this, on_parameter, on_spot, AgreeAt}
+use Rattle.kr_laws_pruning.proofs.Numbering.{object, count_at, parameters, first_slot, parameter_slot, object_slot, SlotCase, is_this, is_parameter, is_spot, slot_case}
+use Rattle.kr_laws_pruning.proofs.Spaces.{block_of, is_space}
+use Rattle.kr_laws_pruning.proofs.Places.{extent, extent_within}
+use Rattle.kr_laws_pruning.proofs.Named.{on, on_this, on_parameter, on_spot, AgreeAt}
 use Rattle.kr_laws_runs.proofs.Respects.{AllOf}
-use Rattle.kr_laws_slots.proofs.Goes.{KnownValue}
-use Rattle.kr_laws_slots.proofs.SlotForks.{SlotForks, slots_then, slots_map, slots_with, slots_agreed, slots_always, slots_distinct, all_map, all_from, all_has}
+use Rattle.kr_laws_pruning.proofs.Goes.{KnownValue}
+use Rattle.kr_laws_pruning.proofs.SlotForks.{SlotForks, slots_then, slots_map, slots_with, slots_agreed, slots_always, slots_distinct, all_map, all_from, all_has}
 use Rattle.kr_laws_pruning.proofs.Verdicts.{verdicts_same}
 use Rattle.kr_laws_pruning.proofs.Judged.{IsClosed, reads_fork}
-use Rattle.kr_laws_slots.proofs.Walked.{Below, walked, walk_below, walks_fork}
-use Rattle.kr_laws_slots.proofs.Reached.{apart_distinct, has_distinct, apart_differ, IsMet, this_known, parameter_known, field_known, field_walked, root_walked}
+use Rattle.kr_laws_pruning.proofs.Walked.{Below, walked, walk_below, walks_fork}
+use Rattle.kr_laws_pruning.proofs.Reached.{apart_distinct, has_distinct, apart_differ, IsMet, this_known, parameter_known, field_known, field_walked, root_walked}
 
 -- ---- the order of two vectors
 

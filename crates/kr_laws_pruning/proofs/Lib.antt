@@ -17,3 +17,17 @@ pub mod OneFieldRun
 pub mod OneFieldOrder
 pub mod OneFieldEntries
 pub mod Keys
+pub mod CutOrder
+pub mod Membership
+pub mod Numbers
+pub mod Renamed
+pub mod Plain
+pub mod Goes
+pub mod Numbering
+pub mod Spaces
+pub mod Places
+pub mod Named
+pub mod SlotForks
+pub mod Walked
+pub mod Reached
+pub mod Flattened

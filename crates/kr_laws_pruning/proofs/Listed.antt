@@ -13,14 +13,14 @@ use Rattle.kr_mean.specs.Readings.{Lacks, IsReading}
 use Rattle.kr_mean.specs.Runs.{key_along, contains_number}
 use Rattle.kr_mean.specs.Isomorphism.{IsLeast}
 use Rattle.kr_mean.specs.Entries.{entry_of, IsListed, all_pass, vectors, renamings, name_in, renamed, key_by, is_least, is_settled}
-use Rattle.kr_laws_slots.proofs.CutOrder.{is_before_yes, is_before_no}
+use Rattle.kr_laws_pruning.proofs.CutOrder.{is_before_yes, is_before_no}
 use Rattle.kr_laws_pruning.proofs.Forks.{forks_equal}
-use Rattle.kr_laws_slots.proofs.Membership.{Has, has_map, has_map_from, has_filter, has_filter_from, has_range, range_has, fits_has, has_fits, fits_ranges, ranges_fit}
-use Rattle.kr_laws_slots.proofs.Numbers.{lacks_number, has_not, no_lacks, has_number}
+use Rattle.kr_laws_pruning.proofs.Membership.{Has, has_map, has_map_from, has_filter, has_filter_from, has_range, range_has, fits_has, has_fits, fits_ranges, ranges_fit}
+use Rattle.kr_laws_pruning.proofs.Numbers.{lacks_number, has_not, no_lacks, has_number}
 use Rattle.kr_laws_pruning.proofs.Renamings.{row_of, names_have, names_same, names_rename}
 use Rattle.kr_iso.proofs.Least.{renamed_along, key_renamed}
 use Rattle.kr_iso.proofs.Moves.{moves, reading_moves}
-use Rattle.kr_laws_slots.proofs.Renamed.{renamed_is_renamed, along_same}
+use Rattle.kr_laws_pruning.proofs.Renamed.{renamed_is_renamed, along_same}
 
 pub vectors_have : (space : Space) (v : List ℕ) → IsVector space v → Has v (vectors space)
 vectors_have space v iv = fits_has v (map (λ s. upto (space.size s)) (upto space.slots)) (fits_ranges space.size 0 space.slots v iv.long (λ k l. let e : 0 + k ≡ k = omega arith in rw e (iv.within k l)))

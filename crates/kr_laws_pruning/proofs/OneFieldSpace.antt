@@ -8,7 +8,7 @@ use Rattle.kr_mean.specs.Blocks.{width_in, IsSpace, moved, on_slot, on_index}
 use Rattle.kr_mean.specs.WellFormed.{ArePlain, AreSpots, IsWellFormed}
 use Rattle.kr_mean.specs.Operators.{is_comparison}
 use Rattle.kr_iso.proofs.Moves.{moves}
-use Rattle.kr_laws_slots.proofs.Spaces as spaces
+use Rattle.kr_laws_pruning.proofs.Spaces as spaces
 use Rattle.kr_laws_pruning.specs.OneField.{Places, one_field, int_domain}
 use Rattle.kr_value.specs.declared.value.Value.TheVariants.{Int}
 

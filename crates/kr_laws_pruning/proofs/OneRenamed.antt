@@ -4,8 +4,8 @@ use Rattle.kr_mean.specs.Problem.{DomainObject}
 use Rattle.kr_mean.specs.Space.{Space, IsVector, IsRenaming, IsRenamed, IsRenamedSlot, renamed_owner}
 use Rattle.kr_mean.specs.Blocks.{IsSpace, IsMoved, on_slot}
 use Rattle.kr_iso.proofs.Moves.{lands, moves, one_target, same_back}
-use Rattle.kr_laws_slots.proofs.Renamed.{renamed_is_renamed}
-use Rattle.kr_laws_slots.proofs.Spaces.{is_space}
+use Rattle.kr_laws_pruning.proofs.Renamed.{renamed_is_renamed}
+use Rattle.kr_laws_pruning.proofs.Spaces.{is_space}
 use Rattle.kr_laws_pruning.proofs.Inverses.{back, back_renames, back_again}
 use Rattle.kr_laws_pruning.specs.Laws.{RenamedLaw}
 

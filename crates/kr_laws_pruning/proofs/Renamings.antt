@@ -7,8 +7,8 @@ use Rattle.std.proofs.lemmas.Bool.{cases_lt}
 use Rattle.kr_mean.specs.Problem.{upto}
 use Rattle.kr_mean.specs.Space.{Space, IsRenaming}
 use Rattle.kr_mean.specs.Entries.{selections, are_apart, permutations, renamings, name_in}
-use Rattle.kr_laws_slots.proofs.Membership.{Has, Fits, fits_has, has_fits, has_filter, has_filter_from, has_map_from, has_range, range_has}
-use Rattle.kr_laws_slots.proofs.Numbers.{any_default, apart_ranges, apart_at}
+use Rattle.kr_laws_pruning.proofs.Membership.{Has, Fits, fits_has, has_fits, has_filter, has_filter_from, has_map_from, has_range, range_has}
+use Rattle.kr_laws_pruning.proofs.Numbers.{any_default, apart_ranges, apart_at}
 
 fits_pointwise : (g : ℕ → List ℕ) (h : ℕ → List (List ℕ)) (a n : ℕ) → ((c : ℕ) → Has (g c) (h c)) → Fits (map g (range_with_len a n)) (map h (range_with_len a n))
 fits_pointwise g h a zero p = tt

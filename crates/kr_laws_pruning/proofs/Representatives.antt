@@ -11,14 +11,14 @@ use Rattle.kr_mean.specs.Readings.{AllBelow, Lacks, IsReading}
 use Rattle.kr_mean.specs.Runs.{key_along, contains_number}
 use Rattle.kr_mean.specs.Isomorphism.{AgreeOn, IsLeast}
 use Rattle.kr_mean.specs.Entries.{IsListed, renamings, name_in, renamed}
-use Rattle.kr_laws_slots.proofs.CutOrder.{before_trans, before_not_self, tested}
+use Rattle.kr_laws_pruning.proofs.CutOrder.{before_trans, before_not_self, tested}
 use Rattle.kr_laws_pruning.proofs.Forks.{forks_agree, forks_equal}
-use Rattle.kr_laws_slots.proofs.Membership.{Has}
-use Rattle.kr_laws_slots.proofs.Numbers.{has_number, lacks_number, has_not}
+use Rattle.kr_laws_pruning.proofs.Membership.{Has}
+use Rattle.kr_laws_pruning.proofs.Numbers.{has_number, lacks_number, has_not}
 use Rattle.kr_laws_pruning.proofs.Renamings.{row_of, names_have, names_same, names_rename}
 use Rattle.kr_iso.proofs.Least.{renamed_along}
 use Rattle.kr_iso.proofs.Moves.{moves, reading_moves}
-use Rattle.kr_laws_slots.proofs.Renamed.{renamed_is_renamed, along_same}
+use Rattle.kr_laws_pruning.proofs.Renamed.{renamed_is_renamed, along_same}
 use Rattle.kr_laws_pruning.proofs.Inverses.{back, back_renames, back_again, after_renames}
 use Rattle.kr_laws_pruning.proofs.Compositions.{along_twice}
 use Rattle.kr_laws_pruning.proofs.Listed.{renamed_key}

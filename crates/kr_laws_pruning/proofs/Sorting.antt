@@ -5,8 +5,8 @@ use Rattle.kr_base.specs.declared.entry.Entry.{Entry}
 use Rattle.kr_base.specs.Cuts.{Before, is_before}
 use Rattle.kr_base.specs.Entries.{AllAfter, Ascends, IsAmong}
 use Rattle.kr_mean.specs.Entries.{insert, sorted}
-use Rattle.kr_laws_slots.proofs.Membership.{Has}
-use Rattle.kr_laws_slots.proofs.CutOrder.{before_not_self, before_trans, connected, tested}
+use Rattle.kr_laws_pruning.proofs.Membership.{Has}
+use Rattle.kr_laws_pruning.proofs.CutOrder.{before_not_self, before_trans, connected, tested}
 
 pub among_after : {R : Type 0} (k : List ℕ) (e : Entry R) (es : List (Entry R)) → AllAfter k es → IsAmong e es → Before k e.key
 among_after k e [] a m = absurd m

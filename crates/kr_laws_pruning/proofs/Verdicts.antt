@@ -29,14 +29,14 @@ use Rattle.kr_mean.specs.Runs.{rep_ok_node, ensures_of, parameter_values, tested
 use Rattle.kr_mean.specs.Verdicts.{OldNode, olds_of, olds_valued, judged_as, then_judged, where_holds, ensured, checked, verdict_from, test_start, verdict_by, verdict_of, naming, Signal, signals_of, fitting, signalled, thrown, after_body}
 use Rattle.kr_mean.specs.Thrown.{object_of}
 use Rattle.kr_mean.specs.WellFormed.{IsWellFormed}
-use Rattle.kr_laws_slots.proofs.Membership.{Has}
-use Rattle.kr_laws_slots.proofs.Numbering.{object, count_at, width_at, parameters, first_slot, number_of_object}
-use Rattle.kr_laws_slots.proofs.Places.{class_at, extent_of, extent, heap_long, heap_class, values_of_class, heap_values}
+use Rattle.kr_laws_pruning.proofs.Membership.{Has}
+use Rattle.kr_laws_pruning.proofs.Numbering.{object, count_at, width_at, parameters, first_slot, number_of_object}
+use Rattle.kr_laws_pruning.proofs.Places.{class_at, extent_of, extent, heap_long, heap_class, values_of_class, heap_values}
 use Rattle.kr_laws_runs.proofs.Respects.{Each, AllOf, MayWrite, IsCode, Any}
-use Rattle.kr_laws_slots.proofs.SlotForks.{all_has}
-use Rattle.kr_laws_slots.proofs.Goes.{Forked, renamed_value, renamed_place, KnownValue, Knows, KnownPlace, Setting, Related, SlotLike, LocalLike, OldLike, ObjectLike, HeapLike, Like, SaidLike, Reaches, Meets, Goes, bind_goes, plain_like, value_goes, method_goes, MayStore, MayPut, declares, scopes, objects}
-use Rattle.kr_laws_slots.proofs.Reached.{IsMet, this_known, parameter_known, field_known, field_walked, root_walked}
-use Rattle.kr_laws_slots.proofs.Walked.{walked}
+use Rattle.kr_laws_pruning.proofs.SlotForks.{all_has}
+use Rattle.kr_laws_pruning.proofs.Goes.{Forked, renamed_value, renamed_place, KnownValue, Knows, KnownPlace, Setting, Related, SlotLike, LocalLike, OldLike, ObjectLike, HeapLike, Like, SaidLike, Reaches, Meets, Goes, bind_goes, plain_like, value_goes, method_goes, MayStore, MayPut, declares, scopes, objects}
+use Rattle.kr_laws_pruning.proofs.Reached.{IsMet, this_known, parameter_known, field_known, field_walked, root_walked}
+use Rattle.kr_laws_pruning.proofs.Walked.{walked}
 use Rattle.kr_laws_runs.proofs.Bounds.{all_any}
 
 -- where all places agree, both runs reach their end

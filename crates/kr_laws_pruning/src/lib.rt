@@ -1,4 +1,4 @@
-//! The laws of every problem's entries that Korat's pruning rests on.
+//! The laws of every problem's entries that Korat's pruning rests on, and lemmas on slots, walks and reads that crates that run use too. Nothing here runs.
 #![tactic(auto)]
 
 mod laws;

@@ -35,7 +35,7 @@ use Rattle.kr_laws_safety.proofs.Steps.{safe_give, safe_map, safe_choose, safe_t
 use Rattle.kr_laws_safety.proofs.Operators.{whole_within, Use, numbers, booleans, references, used as used_by, reference_known, said, references_good, safe_operated, safe_operated_alone}
 use Rattle.kr_laws_types.specs.Types.{is_value_type, HasVariables}
 use Rattle.kr_laws_types.specs.Shapes.{Expression}
-use Rattle.kr_laws_shapes.specs.Expressions.{IsWritten}
+use Rattle.kr_laws_types.specs.DerivedExpressions.{IsWritten}
 use Rattle.kr_laws_types.specs.Expressions.{plain}
 use Rattle.kr_laws_types.proofs.Given.{operator_fine, unary_fine}
 use Rattle.kr_laws_types.proofs.Expressions.{written_shaped}

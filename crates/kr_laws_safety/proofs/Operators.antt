@@ -31,8 +31,8 @@ use Rattle.kr_mean.specs.declared.kind.Kind.TheVariants.{ArrayTooLong, NegativeA
 use Rattle.kr_laws_safety.specs.Fits.{IsWithin, IsOf, IsHeapOf, type_at}
 use Rattle.kr_laws_safety.specs.Triples.{Fixed, IsStateOf, Fine, Safe, Gives}
 use Rattle.kr_laws_safety.specs.Steps.{is_junction}
-use Rattle.kr_laws_shapes.specs.Expressions.{is_compound}
-use Rattle.kr_laws_slots.proofs.Spaces.{some_is}
+use Rattle.kr_laws_types.specs.DerivedExpressions.{is_compound}
+use Rattle.kr_laws_pruning.proofs.Spaces.{some_is}
 use Rattle.kr_laws_safety.proofs.Promoted.{alone_is, numbers_are}
 use Rattle.kr_laws_safety.proofs.Heaps.{value_more, extends_self, object_found, all_replicate, same_type}
 use Rattle.kr_laws_safety.proofs.Vectors.{type_same}

@@ -2,7 +2,7 @@
 use Rattle.std.proofs.Common.{◌≡◌, ℕ, zero, suc, Bool, true, false, List, [], ◌∷◌, ◌++◌, length, Option, Some, None, refl, sym, ap, ◌∙◌, subst}
 use Rattle.std.specs.Prelude.{◌||◌, not, codes, if◌then◌else◌}
 use Rattle.kr_base.specs.Places.{nowhere}
-use Rattle.kr_laws_slots.proofs.Spaces.{some_is}
+use Rattle.kr_laws_pruning.proofs.Spaces.{some_is}
 use Rattle.kr_base.specs.declared.place.Place.{Place}
 use Rattle.kr_ast.specs.Tree as trees
 use Rattle.kr_ast.specs.Tree.{Tree}
@@ -30,7 +30,7 @@ use Rattle.kr_laws_safety.proofs.Heaps.{one_more}
 use Rattle.kr_laws_safety.proofs.Thrown.{IsObject, SafeThrown, safe_attempted, thrown_then, thrown_map, thrown_tick, thrown_scoped, thrown_object, safe_throw}
 use Rattle.kr_laws_types.specs.Types.{is_variable_type, is_value_type, is_expression_type}
 use Rattle.kr_laws_types.specs.Shapes.{Expression, Expressions, Statement, Statements, Declarators, Catches, IsCode}
-use Rattle.kr_laws_shapes.specs.Shapes.{IsBlock}
+use Rattle.kr_laws_types.specs.Derivation.{IsBlock}
 use Rattle.kr_laws_types.specs.Expressions.{plain}
 use Rattle.kr_laws_types.proofs.Given.{variable_known, result_known}
 use Rattle.kr_laws_types.proofs.Expressions.{after_expression, written_variable}

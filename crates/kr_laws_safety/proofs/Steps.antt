@@ -3,7 +3,7 @@ use Rattle.std.proofs.Common.{◌≡◌, ℕ, zero, suc, ◌<◌, ◌≤◌, ◌
 use Rattle.std.specs.Prelude.{ℤ, pos, negsuc, map, take, slice_set, nat_eq, nat_lt, ◌||◌, if◌then◌else◌}
 use Rattle.std.proofs.lemmas.Bool.{eq-eqb, lt-ltb, ltb-true, le-ltb}
 use Rattle.std.proofs.lemmas.List.{length-append, length-map, length-set}
-use Rattle.kr_laws_slots.proofs.Spaces.{some_is}
+use Rattle.kr_laws_pruning.proofs.Spaces.{some_is}
 use Rattle.kr_base.specs.declared.place.Place.{Place}
 use Rattle.kr_value.specs.declared.value.Value.{Value}
 use Rattle.kr_value.specs.declared.value.Value.TheVariants.{Int, Bool as Truth, Null, Ref as Reference}

@@ -20,7 +20,7 @@ use Rattle.kr_laws_safety.proofs.Steps.{safe_choose, safe_result, safe_old}
 use Rattle.kr_laws_safety.proofs.Operators.{safe_create_array, safe_number_cast}
 use Rattle.kr_laws_types.specs.Types.{is_value_type, is_variable_type}
 use Rattle.kr_laws_types.specs.Shapes.{Expression, HasNumber}
-use Rattle.kr_laws_shapes.specs.Expressions.{IsWritten}
+use Rattle.kr_laws_types.specs.DerivedExpressions.{IsWritten}
 use Rattle.kr_laws_types.specs.Expressions.{plain}
 use Rattle.kr_laws_types.proofs.Expressions.{written_variable}
 use Rattle.kr_laws_safety.specs.Typed.{IsTypedProgram}

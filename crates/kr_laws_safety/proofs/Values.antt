@@ -25,7 +25,7 @@ use Rattle.kr_laws_safety.proofs.Vectors.{type_same}
 use Rattle.kr_laws_safety.proofs.Steps.{safe_map, safe_make}
 use Rattle.kr_laws_types.specs.Types.{is_value_type}
 use Rattle.kr_laws_types.specs.Shapes.{Expression, Expressions}
-use Rattle.kr_laws_shapes.specs.Expressions.{IsCreated}
+use Rattle.kr_laws_types.specs.DerivedExpressions.{IsCreated}
 use Rattle.kr_laws_types.specs.Expressions.{plain}
 use Rattle.kr_laws_types.proofs.Given.{AreValues}
 use Rattle.kr_laws_types.proofs.Expressions.{AllGood, good}

@@ -20,8 +20,8 @@ use Rattle.kr_mean.specs.Heaps.{heap_of, heap_object, value_at, length_in, value
 use Rattle.kr_mean.specs.Runs.{root_class}
 use Rattle.kr_mean.specs.WellFormed.{IsWellFormed}
 use Rattle.kr_laws_runs.proofs.Respects.{AllOf, all_both}
-use Rattle.kr_laws_slots.proofs.Numbering.{object, nobody, no_spot, count_at, width_at, get_map, first_slot, parameter_slot, object_slot, object_at_number, number_of_object}
-use Rattle.kr_laws_slots.proofs.Places.{class_at, extent_of, extent_within, slots_in_are, values_of_class}
+use Rattle.kr_laws_pruning.proofs.Numbering.{object, nobody, no_spot, count_at, width_at, get_map, first_slot, parameter_slot, object_slot, object_at_number, number_of_object}
+use Rattle.kr_laws_pruning.proofs.Places.{class_at, extent_of, extent_within, slots_in_are, values_of_class}
 use Rattle.kr_laws_pruning.proofs.Judged.{root_object}
 use Rattle.std.proofs.lemmas.List.FromFn.{length-map-range_with_len}
 use Rattle.kr_laws_safety.specs.Fits.{IsLength, IsOf, AreOf, AreAll, IsObjectOf, AreObjects, IsHeapOf, type_at}

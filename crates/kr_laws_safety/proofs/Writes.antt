@@ -32,7 +32,7 @@ use Rattle.kr_laws_safety.proofs.Steps.{safe_give, safe_map, safe_local, safe_as
 use Rattle.kr_laws_safety.proofs.Operators.{Use, numbers, booleans, references, used as used_by, safe_operated, safe_compound}
 use Rattle.kr_laws_types.specs.Types.{is_value_type, is_variable_type}
 use Rattle.kr_laws_types.specs.Shapes.{Expression}
-use Rattle.kr_laws_shapes.specs.Expressions.{is_compound}
+use Rattle.kr_laws_types.specs.DerivedExpressions.{is_compound}
 use Rattle.kr_laws_types.specs.Expressions.{plain, is_place}
 use Rattle.kr_laws_safety.specs.Typed.{IsTypedProgram}
 use Rattle.kr_laws_safety.specs.Claims.{this_of, types_of, is_target, IsScope, Coded, PartsSafe}

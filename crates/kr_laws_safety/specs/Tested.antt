@@ -19,7 +19,7 @@ use Rattle.kr_mean.specs.Meaning.{value, body_of}
 use Rattle.kr_mean.specs.Code.{Node}
 use Rattle.kr_mean.specs.Runs.{root_class, tested_method, rep_ok_node, requires_of, ensures_of}
 use Rattle.kr_mean.specs.Verdicts.{OldNode, olds_of, naming, olds_valued, Signal, signals_of, fitting}
-use Rattle.kr_laws_shapes.specs.Shapes.{IsSignalled}
+use Rattle.kr_laws_types.specs.Derivation.{IsSignalled}
 use Rattle.kr_laws_types.specs.Shapes.{Expression, IsCode}
 use Rattle.kr_laws_types.specs.Expressions.{plain}
 use Rattle.kr_laws_safety.specs.Triples.{type_of_old}

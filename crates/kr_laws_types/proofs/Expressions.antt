@@ -16,7 +16,7 @@ use Rattle.kr_types_meaning.specs.Scopes.{Scope, Local, value, in_old, written, 
 use Rattle.kr_types_meaning.specs.Rules.{Typed, Value, Variable, Values, Untyped, Judgement, Fits, Breaks, ask, type_rule, diamond_rule, array_rule, unary_rule, operator_rule, choice_rule, cast_rule, instance_rule, access_rule, element_rule, object_call_rule, creation_fits, creation_rule, array_creation_rule, old_rule, is_statement, is_variable}
 use Rattle.kr_types_meaning.specs.Typing.{Judged, judge, on_one, on_list, joined, field_of, method_of, operand, judged, type_in}
 use Rattle.kr_types_meaning.specs.Laws.{IsType}
-use Rattle.kr_laws_shapes.specs.Expressions.{IsWritten, IsCreated, Shaped}
+use Rattle.kr_laws_types.specs.DerivedExpressions.{IsWritten, IsCreated, Shaped}
 use Rattle.kr_laws_types.specs.Typed.{AreKnown, AreTypesKnown}
 use Rattle.kr_laws_types.proofs.Typed.{has_type, written_type}
 use Rattle.kr_laws_types.specs.Types.{is_variable_type, is_result_type, is_value_type, is_expression_type, AreVariables, HasVariables}

@@ -17,7 +17,7 @@ use Rattle.kr_types_meaning.specs.Scopes.{Scope, Local, LocalName, written, valu
 use Rattle.kr_types_meaning.specs.Promotion.{promoted, promoted_alone, is_number}
 use Rattle.kr_types_meaning.specs.Rules.{Typed, Value, Variable, Values, Untyped, Judgement, Fits, Breaks, ask, gives, typed_as, variable_of, type_rule, diamond_rule, array_rule, number_rule, this_rule, name_rule, unary_rule, operator_rule, choice_rule, cast_rule, instance_rule, written_rule, is_broken, assignment_rule, compound_rule, step_rule, field_rule, access_rule, constant_rule, element_rule, result_rule, arguments_rule, call_rule, static_rule, above_rule, super_rule, collection_rule, method_rule, object_call_rule, creation_rule, array_creation_rule, result_value_rule, old_rule, of_promoted, both_boolean, kind_of, kind_rule}
 use Rattle.kr_types_meaning.specs.Typing.{Judged, judge, on_one, on_two, on_list, joined, field_of, method_of, operand, judged, type_in}
-use Rattle.kr_laws_shapes.specs.Expressions.{IsWritten, IsCreated, Shaped}
+use Rattle.kr_laws_types.specs.DerivedExpressions.{IsWritten, IsCreated, Shaped}
 use Rattle.kr_laws_types.specs.Typed.{AreKnown, AreTypesKnown}
 use Rattle.kr_base.proofs.ListLemmas.{push_is_some}
 

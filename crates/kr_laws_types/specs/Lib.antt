@@ -3,3 +3,5 @@ pub mod Shapes
 pub mod Expressions
 pub mod Running
 pub mod Typed
+pub mod DerivedExpressions
+pub mod Derivation

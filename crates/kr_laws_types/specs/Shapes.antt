@@ -8,8 +8,8 @@ use Rattle.kr_classes_table.specs.Arrays.{array_number}
 use Rattle.kr_types_meaning.specs.Scopes.{Scope, Locals, written, in_old, bind_local, declaring, after}
 use Rattle.kr_types_meaning.specs.Rules.{is_after_body}
 use Rattle.kr_types_meaning.specs.Typing.{judged, type_in}
-use Rattle.kr_laws_shapes.specs.Expressions.{IsWritten, IsCreated, is_compound}
-use Rattle.kr_laws_shapes.specs.Shapes.{IsBlock, IsCaught}
+use Rattle.kr_laws_types.specs.DerivedExpressions.{IsWritten, IsCreated, is_compound}
+use Rattle.kr_laws_types.specs.Derivation.{IsBlock, IsCaught}
 
 -- an expression, which may be absent or not; expressions; a statement, which may be a declaration of locals or not; statements;
 -- declarators; one; the clauses of a `try`; one

@@ -5,7 +5,7 @@ use Rattle.kr_classes_table.specs.Types.{JavaType, is_known}
 use Rattle.kr_classes_table.specs.Table.{Table, field_named, method_named}
 use Rattle.kr_types_meaning.specs.Scopes.{Scope, Local}
 use Rattle.kr_types_meaning.specs.Typing.{judged, type_in}
-use Rattle.kr_laws_shapes.specs.Expressions.{Shaped}
+use Rattle.kr_laws_types.specs.DerivedExpressions.{Shaped}
 
 abbrev pub AreKnown : List Local → Type 0
 AreKnown [] = Unit {0}

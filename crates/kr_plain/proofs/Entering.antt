@@ -7,7 +7,7 @@ use Rattle.kr_base.specs.declared.entry.Entry.{Entry}
 use Rattle.kr_base.specs.Cuts.{is_before}
 use Rattle.kr_base.specs.Entries.{is_spent, through_spent}
 use Rattle.kr_mean.specs.Entries.{insert}
-use Rattle.kr_laws_slots.proofs.CutOrder.{tested, before_not_self, before_trans, is_before_no}
+use Rattle.kr_laws_pruning.proofs.CutOrder.{tested, before_not_self, before_trans, is_before_no}
 use Rattle.kr_plain.specs.Keys.{before_count, through_count}
 
 -- the count is within the list

@@ -9,9 +9,9 @@ use Rattle.kr_base.proofs.Orders.{before_from_test}
 use Rattle.kr_mean.specs.Space.{Space, IsVector}
 use Rattle.kr_mean.specs.Blocks.{IsSpace}
 use Rattle.kr_mean.specs.Entries.{entry_of, insert, sorted, vectors}
-use Rattle.kr_laws_slots.proofs.CutOrder.{tested, connected, before_trans, before_not_self, is_before_yes, is_before_no}
+use Rattle.kr_laws_pruning.proofs.CutOrder.{tested, connected, before_trans, before_not_self, is_before_yes, is_before_no}
 use Rattle.kr_laws_pruning.proofs.Listed.{vectors_have}
-use Rattle.kr_laws_slots.proofs.Membership.{Has}
+use Rattle.kr_laws_pruning.proofs.Membership.{Has}
 use Rattle.kr_plain.specs.Plain.{IsKept, Tries, Follows}
 
 -- the entries of those that were tried and kept

@@ -9,7 +9,7 @@ use Rattle.kr_mean.specs.Blocks.{width_in, IsMoved, IsSpace, IsBlock, IsPart, on
 use Rattle.kr_mean.specs.WellFormed.{IsWellFormed}
 use Rattle.kr_space_layout.specs.Bounds.{Bounds, bare}
 use Rattle.kr_iso.proofs.Moves as moves
-use Rattle.kr_laws_slots.proofs.Spaces.{is_space, width_is}
+use Rattle.kr_laws_pruning.proofs.Spaces.{is_space, width_is}
 
 -- ---- slots
 

@@ -7,8 +7,8 @@ use Rattle.kr_base.specs.Cuts.{Before, is_before}
 use Rattle.kr_mean.specs.Problem.{upto}
 use Rattle.kr_mean.specs.Space.{Space, IsVector}
 use Rattle.kr_mean.specs.Entries.{selections, vectors, with_each}
-use Rattle.kr_laws_slots.proofs.CutOrder.{before_not_self, before_trans, connected, is_before_no, is_before_yes, tested}
-use Rattle.kr_laws_slots.proofs.Membership.{Has, has_map_from, has_split, range_has}
+use Rattle.kr_laws_pruning.proofs.CutOrder.{before_not_self, before_trans, connected, is_before_no, is_before_yes, tested}
+use Rattle.kr_laws_pruning.proofs.Membership.{Has, has_map_from, has_split, range_has}
 use Rattle.kr_laws_pruning.proofs.Listed.{vectors_are}
 use Rattle.kr_plain.specs.Plain.{Follows}
 use Rattle.kr_plain.proofs.Gone.{left_over}

@@ -1,11 +1,12 @@
 -- Between crates: what a report under the lock answers.
-use Rattle.std.specs.Prelude.{◌≡◌, ◌↔◌, ◌⊎◌, ℕ, List, Bool, ◌++◌, [], true, false, Option, Some, None}
+use Rattle.std.specs.Prelude.{◌≡◌, ◌↔◌, ◌⊎◌, ℕ, ◌==◌, List, Bool, ◌++◌, [], ◌∷◌, true, false, ◌&&◌, not, Option, Some, None}
 use Rattle.kr_core.specs.Counts.{AllClosed}
 use Rattle.kr_core.specs.Rows.{drained}
 use Rattle.kr_core.specs.declared.event.Event.TheVariants.{GiveUp}
 use Rattle.kr_core.specs.declared.event.Lease.{Lease}
 use Rattle.kr_core.specs.declared.event.Reply.TheVariants.{Go as GoOn, Done as AllDone, Noted}
-use Rattle.kr_core.specs.States.{segment_of}
+use Rattle.kr_core.specs.declared.segment.Segment.{Segment}
+use Rattle.kr_core.specs.States.{has_remainder, is_owned, segment_of}
 use Rattle.kr_core.specs.Steps.{may_give_up}
 use Rattle.kr_survey.specs.Takings.{is_past}
 use Rattle.kr_survey.specs.declared.part.Part.{Part}
@@ -44,6 +45,16 @@ abbrev pub Gives : {R : Type 0} → Option ℕ → ℕ → Held R → Held R →
 Gives limit seat old new (Some taken) =
     (Adds old (take_event seat old.core) (take_reply taken) [] new × ((taken ≡ Finished) ↔ AllClosed old.core)) ⊎ ((is_past limit (drained old.log) ≡ true) × (taken ≡ Finished) × (new ≡ old))
 Gives limit seat old new None = new ≡ old
+
+-- the first segment is free, and has no rows
+abbrev pub has_free_front : List Segment → Bool
+has_free_front [] = false
+has_free_front (s ∷ ss) = (s.rows == 0) && has_remainder s && not (is_owned s.owner)
+
+-- nobody comes, or this seat
+abbrev pub CanCome : ℕ → Option ℕ → Type 0
+CanCome seat None = Unit {0}
+CanCome seat (Some other) = seat ≡ other
 
 -- a seat goes on after its report only where no more rows than the limit were drained
 abbrev pub GoesWithin : {R : Type 0} → Option ℕ → Held R → Reported R → Type 0

@@ -1,4 +1,6 @@
-// In which order seats begin the segments that a board has from the start. No contract names any of it.
+// In which order seats begin the segments that a board has from the start. No contract names any of it but who comes.
+ghost use Rattle.std.specs.Prelude.{◌≡◌, None, is_some};
+ghost use Rattle.kr_pool_desk.specs.Tables.{CanCome};
 
 use kr_board::Taken;
 
@@ -84,10 +86,19 @@ impl Beginning {
     }
 
     /// A seat comes.
-    pub fn arrive(&mut self, seat: u32) {
+    pub fn arrive(&mut self, seat: u32)
+        ensures { CanCome seat self.old.coming → self.new.coming ≡ None }
+    {
         if self.coming == Some(seat) {
             self.coming = None;
         }
+    }
+
+    /// Whether a seat is done with its segment, and has yet to come for the next.
+    pub fn is_awaited(&self) -> bool
+        ensures { result ≡ is_some self.now.coming }
+    {
+        self.coming.is_some()
     }
 
     /// Nobody comes, at the beginning of a round.

@@ -1,4 +1,6 @@
-// Who should take what, and what there is room for. No contract names any of it.
+// Who should take what, and what there is room for. No contract names any of it but the free front.
+ghost use Rattle.std.specs.Prelude.{◌≡◌};
+ghost use Rattle.kr_pool_desk.specs.Tables.{has_free_front};
 
 use crate::crew::Run;
 use crate::desk::Desk;
@@ -129,16 +131,18 @@ impl<R: Drop, N: Run<R>, D: Ledger> Desk<R, N, D> {
         false
     }
 
-    /// Whether the rows kept fill the window, and the front isn't free without rows.
+    /// Whether the rows kept fill the window.
     pub fn is_at_window(&self) -> bool {
         match self.board.window() {
             None => false,
-            Some(window) => self.board.rows_kept() >= window && !self.has_free_front(),
+            Some(window) => self.board.rows_kept() >= window,
         }
     }
 
-    // Whether the first segment is free and has no rows.
-    fn has_free_front(&self) -> bool {
+    /// Whether the first segment is free and has no rows.
+    pub fn has_free_front(&self) -> bool
+        ensures { result ≡ has_free_front self.now.0.core.segments }
+    {
         match self.board.segments().first() {
             None => false,
             Some(first) => first.rows == 0 && first.has_remainder() && !first.is_owned(),

@@ -256,7 +256,8 @@ impl<R: Drop, N: Run<R>, D: Ledger> Shared<R, N, D> {
         self.table.lock(rt).desk.has_room(segment, rows)
     }
 
-    /// Waits until a part has room, or the round is over. Whether it has. It wakes the caller, which should drain.
+    /// Waits until a part has room, or the round is over. Whether it has room, also where the round is over: in the next one
+    /// there may be no thread for the seat. It wakes the caller, which should drain.
     pub fn await_room<W: Wait>(&self, rt: &W, segment: u64, rows: u64) -> bool {
         let mut quiet = false;
         let mut table = self.table.lock(rt);
@@ -264,11 +265,11 @@ impl<R: Drop, N: Run<R>, D: Ledger> Shared<R, N, D> {
             self.tell();
         }
         for _ in rt.forever() {
-            if self.is_over() {
-                return false;
-            }
             if table.desk.has_room(segment, rows) {
                 return true;
+            }
+            if self.is_over() {
+                return false;
             }
             table.pace.begin_hold();
             table = self.pause(rt, table, &mut quiet);

@@ -1,9 +1,9 @@
 // The locked value: the desk, and the pace of its seats.
-ghost use Rattle.std.specs.Prelude.{◌≡◌, ◌+◌, ◌≤◌, length, IfOk, IfErr, IfSome, IfNone, OnErr};
+ghost use Rattle.std.specs.Prelude.{◌≡◌, ◌+◌, ◌≤◌, true, length, None, is_some, IfOk, IfErr, IfSome, IfNone, OnErr};
 ghost use Rattle.kr_board.specs.Parts.{IsPart};
 ghost use Rattle.kr_pool_desk.specs.Leasing.{IsLeaseOf, Takes, Reports};
 ghost use Rattle.kr_pool_desk.specs.Short.{IsShortBound, IsShortRun};
-ghost use Rattle.kr_pool_desk.specs.Tables.{Answers, Gives, GoesOn, GoesWithin};
+ghost use Rattle.kr_pool_desk.specs.Tables.{Answers, CanCome, Gives, GoesOn, GoesWithin, has_free_front};
 ghost use Rattle.kr_pool_desk.specs.Observed.{ObservesReport, ObservesTake};
 
 use crate::crew::Run;
@@ -30,6 +30,7 @@ impl<R: Drop, N: Run<R>, D: Ledger> Table<R, N, D> {
         ensures answer { IfOk result (Gives N.limit seat.old.number self.old.desk.0 self.new.desk.0) }
         ensures observed { IfOk result (ObservesTake N.all N.span N.cuts N.opening N.workers N.limit seat.old.number seat.old.calls.amount seat.new.calls.amount) }
         ensures idle { IfOk result (λ taken. IfNone taken (seat.new.calls.amount ≡ seat.old.calls.amount)) }
+        ensures front { IfOk result (λ taken. has_free_front self.old.desk.0.core.segments ≡ true → CanCome seat.old.number self.old.pace.beginning.coming → is_some taken ≡ true) }
         ensures unchanged { OnErr result (self.new.desk.0 ≡ self.old.desk.0) }
         ensures number { seat.new.number ≡ seat.old.number }
     {
@@ -43,6 +44,7 @@ impl<R: Drop, N: Run<R>, D: Ledger> Table<R, N, D> {
         ensures lease { IfOk result (λ taken. IfSome taken (Takes (IsShortRun N.all N.span N.cuts) seat.old.number)) }
         ensures answer { IfOk result (Gives N.limit seat.old.number self.old.desk.0 self.new.desk.0) }
         ensures idle { IfOk result (λ taken. IfNone taken (seat.new.calls.amount ≡ seat.old.calls.amount)) }
+        ensures front { IfOk result (λ taken. has_free_front self.old.desk.0.core.segments ≡ true → CanCome seat.old.number self.old.pace.beginning.coming → is_some taken ≡ true) }
         ensures unchanged { OnErr result (self.new.desk.0 ≡ self.old.desk.0) }
         ensures total { self.new.desk.1 + seat.old.calls.amount ≡ self.old.desk.1 + seat.new.calls.amount }
         ensures number { seat.new.number ≡ seat.old.number }
@@ -51,7 +53,7 @@ impl<R: Drop, N: Run<R>, D: Ledger> Table<R, N, D> {
             return Ok(Some(Taken::Finished));
         }
         self.pace.beginning.arrive(seat.number);
-        if self.desk.is_at_window() || !self.desk.may_take() || !self.may_begin(seat.number) {
+        if !self.may_give(seat.number) {
             return Ok(None);
         }
         match self.desk.take(seat.number, &mut seat.calls) {
@@ -61,6 +63,17 @@ impl<R: Drop, N: Run<R>, D: Ledger> Table<R, N, D> {
                 Ok(Some(taken))
             }
         }
+    }
+
+    // Whether a seat may be given a lease now. The front, free and without rows, waits for nobody but a seat that comes: the
+    // owners of all segments after it may wait for room.
+    fn may_give(&self, seat: u32) -> bool
+        ensures front { has_free_front self.now.desk.0.core.segments ≡ true → self.now.pace.beginning.coming ≡ None → result ≡ true }
+    {
+        if self.desk.has_free_front() {
+            return !self.pace.beginning.is_awaited() || self.may_begin(seat);
+        }
+        !self.desk.is_at_window() && self.desk.may_take() && self.may_begin(seat)
     }
 
     // Whether a seat may begin the first free segment now, if there is one.

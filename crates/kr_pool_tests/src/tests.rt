@@ -1,4 +1,5 @@
 // Tests of each pool.
+mod fronts;
 mod gates;
 mod joining;
 mod keys;

@@ -13,7 +13,7 @@ use Rattle.kr_classes_table.specs.Table.{items}
 use Rattle.kr_types_meaning.specs.Scopes.{Scope, Signalling, after, in_contract}
 use Rattle.kr_types_meaning.specs.Handing.{handed}
 use Rattle.kr_types_meaning.specs.Running.{running}
-use Rattle.kr_laws_shapes.specs.Shapes.{AreContractLines, IsContractLine, IsExpression}
+use Rattle.kr_laws_types.specs.Derivation.{AreContractLines, IsContractLine, IsExpression}
 use Rattle.kr_types.specs.declared.program.Program.{Program}
 use Rattle.kr_types.specs.Programs.{IsProgram}
 use Rattle.kr_mean.specs.Code.{Node, code}

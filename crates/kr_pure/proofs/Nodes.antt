@@ -7,12 +7,12 @@ use Rattle.kr_ast.specs.declared.node.UnaryOperator.TheVariants.{Minus}
 use Rattle.kr_types_meaning.specs.Scopes.{Scope, Declaring, Locals, value, statement, in_loop, in_old, declaring, bind_local, bind_as, after}
 use Rattle.kr_types_meaning.specs.Typing.{operand}
 use Rattle.kr_types_meaning.specs.Laws.{IsClassName}
-use Rattle.kr_laws_shapes.specs.Expressions.{IsCreated, Shaped}
+use Rattle.kr_laws_types.specs.DerivedExpressions.{IsCreated, Shaped}
 use Rattle.kr_types_meaning.specs.Running.{local_type, running}
 use Rattle.kr_laws_types.proofs.Loops.{running_same}
 use Rattle.kr_types_meaning.specs.Handing.{handed}
 use Rattle.kr_mean.specs.Code.{Node, code}
-use Rattle.kr_laws_shapes.specs.Shapes.{AreDeclarators, AreExpressions, AreStatements, IsCaught, IsCode, IsExpression, IsVariableType, MayBeExpression, One, Several, Catch, Catches, Sort, MayCallSuper}
+use Rattle.kr_laws_types.specs.Derivation.{AreDeclarators, AreExpressions, AreStatements, IsCaught, IsCode, IsExpression, IsVariableType, MayBeExpression, One, Several, Catch, Catches, Sort, MayCallSuper}
 use Rattle.kr_pure.specs.Seen.{IsSeen, run_of}
 use Rattle.kr_pure.proofs.Gathered.{both, four, none, nothing, one, only, three, two}
 

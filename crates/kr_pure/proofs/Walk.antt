@@ -18,7 +18,7 @@ use Rattle.kr_types_scopes.specs.Settings.{Setting}
 use Rattle.kr_types_scopes.specs.Scoped.{IsScoped, scope_at}
 use Rattle.kr_types_meaning.specs.Handing.{handed}
 use Rattle.kr_mean.specs.Code.{Node, code, code_of_all}
-use Rattle.kr_laws_shapes.specs.Shapes.{AreStatements}
+use Rattle.kr_laws_types.specs.Derivation.{AreStatements}
 use Rattle.kr_pure.specs.Seen.{node_on, steps_of}
 use Rattle.kr_pure.specs.Walk.{IsWalked, node_at, walk_parts}
 

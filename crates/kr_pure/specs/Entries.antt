@@ -5,7 +5,7 @@ use Rattle.kr_classes_table.specs.Table.{Method}
 use Rattle.kr_types_meaning.specs.Scopes.{Scope, Requiring, in_contract}
 use Rattle.kr_ast.specs.declared.files.NodeId.{NodeId}
 use Rattle.kr_types_meaning.specs.Running.{running}
-use Rattle.kr_laws_shapes.specs.Shapes.{IsContractLine, IsExpression}
+use Rattle.kr_laws_types.specs.Derivation.{IsContractLine, IsExpression}
 use Rattle.kr_types.specs.declared.program.Program.{Program}
 use Rattle.kr_mean.specs.Code.{Node, code}
 use Rattle.kr_mean.specs.Program as meaning

@@ -8,7 +8,7 @@ use Rattle.kr_types_meaning.specs.Handing.{handed}
 use Rattle.kr_types_meaning.specs.Noting.{parts_of}
 use Rattle.kr_mean.specs.Code.{Node, code}
 use Rattle.kr_mean.specs.Purity.{IsOneOf}
-use Rattle.kr_laws_shapes.specs.Shapes.{AreExpressions, AreStatements, IsExpression, MayBeExpression, MayCallSuper}
+use Rattle.kr_laws_types.specs.Derivation.{AreExpressions, AreStatements, IsExpression, MayBeExpression, MayCallSuper}
 
 -- the parts that a walk goes into: nodes in a type are no code
 abbrev pub steps_of : Tree → List Tree

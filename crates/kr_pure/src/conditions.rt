@@ -2,7 +2,7 @@
 ghost use Rattle.std.specs.Prelude.{◌≡◌, ◌++◌, [], List, IfOk, MatchOption, flat_map};
 ghost use Rattle.kr_classes_table.specs.Table.{items};
 ghost use Rattle.kr_types_meaning.specs.Running.{running};
-ghost use Rattle.kr_laws_shapes.specs.Shapes.{AreContractLines};
+ghost use Rattle.kr_laws_types.specs.Derivation.{AreContractLines};
 ghost use Rattle.kr_types.specs.Programs.{IsProgram};
 ghost use Rattle.kr_mean.specs.Code.{Node as CodeNode};
 ghost use Rattle.kr_code_members.specs.Nodes.{IsThere, node_scope, node_tree};

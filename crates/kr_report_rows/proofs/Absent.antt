@@ -5,7 +5,7 @@ use Rattle.std.proofs.lemmas.Bool.{cases_lt}
 use Rattle.kr_mean.specs.Places.{This}
 use Rattle.kr_value.specs.declared.object.Class.TheVariants.{Object}
 use Rattle.kr_mean.specs.Problem.{ClassDomain, Problem, DomainObject, Slot, all_objects, domain_at, no_objects, no_slot, slots, slot_at}
-use Rattle.kr_laws_slots.proofs.Numbering.{object, object_at_number, number_of_object}
+use Rattle.kr_laws_pruning.proofs.Numbering.{object, object_at_number, number_of_object}
 use Rattle.kr_report.specs.Texts.{no_domain_object}
 use Rattle.kr_space_layout.specs.Numbers.{HasNumber}
 

@@ -3,8 +3,8 @@ use Rattle.std.proofs.Common.{◌≡◌, ℕ, ◌<◌, ◌≤◌, ◌⊎◌, inl
 use Rattle.std.specs.Prelude.{not}
 use Rattle.std.proofs.lemmas.Bool.{cases_lt, eq-eqb, eqb-true, cases_Bool}
 use Rattle.std.proofs.lemmas.List.{get_or_past}
-use Rattle.kr_laws_slots.proofs.Numbering.{object, object_at_number, number_of_object}
-use Rattle.kr_laws_slots.proofs.Places.{same_object, same_objects}
+use Rattle.kr_laws_pruning.proofs.Numbering.{object, object_at_number, number_of_object}
+use Rattle.kr_laws_pruning.proofs.Places.{same_object, same_objects}
 use Rattle.kr_mean.specs.Heaps.{is_same_object}
 use Rattle.kr_mean.specs.Problem.{Problem, DomainObject, all_objects, heap_number}
 use Rattle.kr_report.specs.Texts.{no_domain_object}

@@ -8,7 +8,7 @@ use Rattle.kr_value.specs.declared.value.Value.{Value}
 use Rattle.kr_value.specs.declared.value.Value.TheVariants.{Int, Bool as Truth, Null, Ref as Reference}
 use Rattle.kr_mean.specs.Heaps.{distinct, is_same_object}
 use Rattle.kr_mean.specs.Problem.{Problem, DomainObject}
-use Rattle.kr_laws_slots.proofs.SlotForks.{added, distinct_append}
+use Rattle.kr_laws_pruning.proofs.SlotForks.{added, distinct_append}
 use Rattle.kr_report.specs.Texts.{objects_in, objects_named}
 use Rattle.kr_report_rows.specs.Parts.{entry_objects, is_new, new_in}
 use Rattle.kr_report_rows.proofs.Fronts.{front_grown}

@@ -1,17 +1,33 @@
 -- Where the slots of an object are.
-use Rattle.std.proofs.Common.{◌≡◌, ℕ, ◌+◌, ◌-◌, ◌^◌, ◌<◌, ◌≤◌, ◌⊎◌, inl, inr, Bool, true, false, Option, Some, None, length, refl, sym, ap, ◌∙◌, arith}
+use Rattle.std.proofs.Common.{◌≡◌, ℕ, ◌+◌, ◌-◌, ◌^◌, ◌<◌, ◌≤◌, ◌⊎◌, inl, inr, Bool, true, false, Option, Some, None, length, refl, sym, ap, ◌∙◌, subst, arith}
 use Rattle.std.proofs.lemmas.Bool.{cases_lt, cases_Bool}
-use Rattle.kr_build.proofs.Changed.{owner_in, stands_in}
+use Rattle.kr_build.proofs.Changed.{owner_in}
 use Rattle.kr_build.proofs.Rows.{first_same}
-use Rattle.kr_laws_slots.proofs.Numbering as numbering
-use Rattle.kr_laws_slots.proofs.Numbering.{count_at, object_slot, width_at}
-use Rattle.kr_laws_slots.proofs.Places.{same_object, same_objects}
+use Rattle.kr_laws_pruning.proofs.Numbering as numbering
+use Rattle.kr_laws_pruning.proofs.Numbering.{SlotCase, count_at, is_parameter, is_spot, is_this, object, object_slot, parameter_slot, slot_case, width_at}
+use Rattle.kr_laws_pruning.proofs.Places.{same_object, same_objects}
 use Rattle.kr_mean.specs.Heaps.{is_owner, is_same_object}
 use Rattle.kr_mean.specs.Problem.{Problem, DomainObject, Slot, slot_at, slots}
 use Rattle.kr_space_layout.specs.Layouts.{first_slot}
 use Rattle.kr_report_rows.specs.Stretches.{IsStretch, IsWithin}
 use Rattle.kr_report_rows.specs.declared.places.Stretch.{Stretch}
 use Rattle.kr_report_rows.proofs.Absent.{no_owner}
+
+-- an object's slot is from its first one on, and no further than its slots
+record StandsIn (problem : Problem) (s : ℕ) (o : DomainObject) : Type 0 where
+  pub after : numbering.first_slot problem o.domain o.number ≤ s
+  pub within : s < numbering.first_slot problem o.domain o.number + width_at problem o.domain
+
+stands_in : (problem : Problem) (s : ℕ) (o : DomainObject) → s < length (slots problem) → (slot_at problem s).owner ≡ Some o → StandsIn problem s o
+stands_in problem s o h e = go (slot_case problem s h)
+  where
+    go : SlotCase problem s → StandsIn problem s o
+    go (is_this z) = let q : (slot_at problem s).owner ≡ None = rw z refl in absurd (cc (q, e))
+    go (is_parameter i l z) = let q : (slot_at problem s).owner ≡ None = rw (z, (parameter_slot problem i l).1) refl in absurd (cc (q, e))
+    go (is_spot d k j a b c z) =
+        let q : (slot_at problem s).owner ≡ Some (object d k) = ap (λ (x : ℕ). (slot_at problem x).owner) z ∙ ap (λ (x : Slot). x.owner) (object_slot problem d k j a b c).1 in
+        let is : object d k ≡ o = cc (q, e) in
+        subst (StandsIn problem s) is (record { after = omega (arith, z); within = omega (arith, z, c) })
 
 module _ (problem : Problem) (o : DomainObject) where
   not_owner : (s : ℕ) → ((slot_at problem s).owner ≡ Some o → ⊥) → is_owner o (slot_at problem s).owner ≡ false

@@ -16,14 +16,14 @@ use Rattle.kr_mean.specs.Places.{SlotPlace, At}
 use Rattle.kr_mean.specs.Problem.{Problem, DomainObject, Choice, Slot, all_objects, choices_at, domain_at, heap_number, object_choice, slot_at, upto}
 use Rattle.kr_mean.specs.Space.{no_choice}
 use Rattle.kr_mean.specs.WellFormed.{IsPlain, IsWellFormed}
-use Rattle.kr_laws_slots.proofs.Flattened.{flat_flat, flat_none, flat_same, only_one}
-use Rattle.kr_laws_slots.proofs.Membership.{Has}
-use Rattle.kr_laws_slots.proofs.Numbering.{object, first_slot, parameters, parameter_slot, object_slot, spotted_at, width_at, object_at_number}
-use Rattle.kr_laws_slots.proofs.Places.{same_object, slots_in_are, extent, extent_within}
-use Rattle.kr_laws_slots.proofs.Reached.{Apart, apart_distinct, settled}
-use Rattle.kr_laws_slots.proofs.SlotForks.{all_map}
-use Rattle.kr_laws_slots.proofs.Spaces.{block_of, plain_choice}
-use Rattle.kr_laws_slots.proofs.Walked.{Below, Valid, all_flat, met_valid, objects_there, walk_below, walked}
+use Rattle.kr_laws_pruning.proofs.Flattened.{flat_flat, flat_none, flat_same, only_one}
+use Rattle.kr_laws_pruning.proofs.Membership.{Has}
+use Rattle.kr_laws_pruning.proofs.Numbering.{object, first_slot, parameters, parameter_slot, object_slot, spotted_at, width_at, object_at_number}
+use Rattle.kr_laws_pruning.proofs.Places.{same_object, slots_in_are, extent, extent_within}
+use Rattle.kr_laws_pruning.proofs.Reached.{Apart, apart_distinct, settled}
+use Rattle.kr_laws_pruning.proofs.SlotForks.{all_map}
+use Rattle.kr_laws_pruning.proofs.Spaces.{block_of, plain_choice}
+use Rattle.kr_laws_pruning.proofs.Walked.{Below, Valid, all_flat, met_valid, objects_there, walk_below, walked}
 use Rattle.kr_report.specs.Texts.{structure_text, object_text, parts_of, part_text, parameter_text, objects_in, objects_named, in_brackets, in_parentheses, joined_by, object_name}
 use Rattle.kr_report_rows.specs.Written.{written, object_written, parts_written, part_at, parameter_written, met}
 

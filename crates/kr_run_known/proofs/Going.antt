@@ -57,7 +57,7 @@ behind {A} {B} (Ok a) t ps f g same = ap (λ (q : Outcome B). after_reads ps q) 
 behind (Err e) t ps f g same = refl
 
 -- the only argument
-one_value : {B : Type 0} (d : Doing) (i : ℕ) (f : List Value → Run B) (s : State) → bind (values_at d (i ∷ [])) f s ≡ bind (d.value i) (λ v. f (v ∷ [])) s
+pub one_value : {B : Type 0} (d : Doing) (i : ℕ) (f : List Value → Run B) (s : State) → bind (values_at d (i ∷ [])) f s ≡ bind (d.value i) (λ v. f (v ∷ [])) s
 unfolding bind
 one_value {B} d i f s = go (d.value i s).said
   where
@@ -96,3 +96,10 @@ pub this_then : (code : Code) (w : World) (n : ℕ) (r : Option Known) (f : Valu
 unfolding bind
 this_then code w n None f h = tt
 this_then code w n (Some k) f h = λ x a d i. h x a d i
+
+-- an answer that is handed on
+pub same_known : (code : Code) (w : World) (n : ℕ) (r q : Option Known) (m : Doing → Run Value) → q ≡ r → IfSome r (λ k. Knows code w n k m) → IfSome q (λ k. Knows code w n k m)
+same_known code w n r q m e h = subst (λ (p : Option Known). IfSome p (λ k. Knows code w n k m)) (sym e) h
+
+pub handed : (code : Code) (w : World) (n : ℕ) (r q : Option Known) (e e' : Expression) → e ≡ e' → q ≡ r → IfSome r (λ k. Knows code w n k (λ d. value_done code d e')) → IfSome q (λ k. Knows code w n k (λ d. value_done code d e))
+handed code w n r q e e' is same h = same_known code w n r q (λ (d : Doing). value_done code d e) same (as_kind code w n r e e' is h)

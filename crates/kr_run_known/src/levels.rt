@@ -115,6 +115,68 @@ fn field_of<L: Look>(code: &Code, world: &World, object: u32, name: u32, fuel: u
     }
 }
 
+/// A local that is a node.
+#[inline(always)]
+fn near(code: &Code, world: &World, node: u32, fuel: u64) -> Option<Known>
+    ensures { IfSome result (λ k. Knows code.now world.now fuel k (λ d. d.value node)) }
+{
+    if fuel == 0 {
+        return None;
+    }
+    match expression_at(code, node) {
+        None => None,
+        Some(expression) => match expression {
+            Expression::Local(number) => local_of(code, world, *number, fuel - 1),
+            _ => None,
+        },
+    }
+}
+
+/// Likewise, where the object is no local.
+#[inline(never)]
+fn far_field<L: Look>(
+    code: &Code,
+    world: &World,
+    object: u32,
+    name: u32,
+    fuel: u64,
+) -> Option<Known>
+    ensures { IfSome result (λ k. Knows code.now world.now fuel k (λ d. bind (d.value object) (load_named code.now name))) }
+{
+    field_of::<L>(code, world, object, name, fuel)
+}
+
+/// The field of a name, of an object: that of a local is looked up here, so that it costs little.
+#[inline(always)]
+fn near_field<L: Look>(
+    code: &Code,
+    world: &World,
+    object: u32,
+    name: u32,
+    fuel: u64,
+) -> Option<Known>
+    ensures { IfSome result (λ k. Knows code.now world.now fuel k (λ d. bind (d.value object) (load_named code.now name))) }
+{
+    match near(code, world, object, fuel) {
+        Some(found) => known_with(field(code, world, name, found.value), found.fuel),
+        None => again(far_field::<L>(code, world, object, name, fuel)),
+    }
+}
+
+/// The answer of a call, in parts.
+#[inline(always)]
+fn again(known: Option<Known>) -> Option<Known>
+    ensures { result ≡ known }
+{
+    match known {
+        None => None,
+        Some(known) => Some(Known {
+            value: known.value,
+            fuel: known.fuel,
+        }),
+    }
+}
+
 /// An element of an array.
 #[inline(never)]
 fn element_of<L: Look>(
@@ -340,18 +402,10 @@ fn parts_in<L: Look>(
     ensures { IfSome result (λ k. Knows code.now world.now fuel k (λ d. value_done code.now d expression.now)) }
 {
     match expression {
-        Expression::OwnField(name) => own_field(code, world, *name, fuel),
-        Expression::FieldOf { object, name } => field_of::<L>(code, world, *object, *name, fuel),
         Expression::Element { array, index } => element_of::<L>(code, world, *array, *index, fuel),
         Expression::Unary { operation, operand } => {
             unary_of::<L>(code, world, *operation, *operand, fuel)
         }
-        Expression::Binary {
-            operation,
-            left,
-            right,
-        } => binary_of::<L>(code, world, *operation, *left, *right, fuel),
-        Expression::And { left, right } => and_of::<L>(code, world, *left, *right, fuel),
         Expression::Or { left, right } => or_of::<L>(code, world, *left, *right, fuel),
         Expression::CallCollection {
             object,
@@ -383,12 +437,16 @@ fn value_in<L: Look>(
             fuel,
         }),
         Expression::Local(number) => local_of(code, world, *number, fuel),
-        _ => match parts_in::<L>(code, world, expression, fuel) {
-            None => None,
-            Some(known) => Some(Known {
-                value: known.value,
-                fuel: known.fuel,
-            }),
-        },
+        Expression::OwnField(name) => own_field(code, world, *name, fuel),
+        Expression::FieldOf { object, name } => {
+            near_field::<L>(code, world, *object, *name, fuel)
+        }
+        Expression::Binary {
+            operation,
+            left,
+            right,
+        } => again(binary_of::<L>(code, world, *operation, *left, *right, fuel)),
+        Expression::And { left, right } => { again(and_of::<L>(code, world, *left, *right, fuel)) }
+        _ => again(parts_in::<L>(code, world, expression, fuel)),
     }
 }

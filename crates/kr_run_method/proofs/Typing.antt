@@ -11,7 +11,7 @@ use Rattle.kr_classes_table.specs.Table.{applied, method_named}
 use Rattle.kr_types_meaning.specs.Scopes.{Scope, value, in_old, written, class_before, meant, method_meant}
 use Rattle.kr_types_meaning.specs.Rules.{Judgement, type_rule, array_rule, element_rule, call_rule, static_rule, super_rule, object_call_rule, creation_rule, array_creation_rule, unary_rule, operator_rule, choice_rule, cast_rule, instance_rule, assignment_rule, compound_rule, step_rule, access_rule, old_rule}
 use Rattle.kr_types_meaning.specs.Typing.{Judged, judged, leaf, one, two, three, list, one_and_list, both, operand, field_of, method_of, type_in}
-use Rattle.kr_laws_shapes.specs.Expressions.{IsWritten, IsCreated}
+use Rattle.kr_laws_types.specs.DerivedExpressions.{IsWritten, IsCreated}
 use Rattle.kr_laws_types.specs.Shapes.{Sort, Expression, Expressions, IsCode}
 use Rattle.kr_laws_types.proofs.Expressions.{after_expression}
 use Rattle.kr_run_method.specs.Results.{has_result, without_result}

@@ -3,5 +3,5 @@ pub mod Calls
 pub mod Growing
 mod Members
 pub mod Locals
-mod Ranked
+mod Rows
 mod Reading

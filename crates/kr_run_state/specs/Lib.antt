@@ -4,5 +4,5 @@ pub mod Worlds
 pub mod Actions
 pub mod Ends
 pub mod Collecting
-pub mod Ranks
+pub mod Rows
 pub mod Reading

@@ -1,13 +1,13 @@
 // The places that a run has read.
-ghost use Rattle.std.specs.Prelude.{◌≡◌, ◌≤◌, [], ◌∷◌, ◌++◌, map, take, OnOk, OnErr};
+ghost use Rattle.std.specs.Prelude.{◌≡◌, ◌<◌, ◌^◌, ℕ, List, [], ◌∷◌, ◌++◌, Some, false, length, map, slice_get, take, OnOk, OnErr};
 ghost use Rattle.kr_mean.specs.Runs.{is_same_place, is_same_spot};
-ghost use Rattle.kr_mean.specs.Places.{At};
+ghost use Rattle.kr_mean.specs.Places.{At, SlotPlace as Place};
 ghost use Rattle.kr_run_state.specs.Noting.{is_read, with_read};
-ghost use Rattle.kr_run_state.specs.Ranks.{AreTops, IsTop, begun, is_of, last_top, object_of, rank_in, rank_of};
+ghost use Rattle.kr_run_state.specs.Rows.{AreIndexed, HasNumber, IsWritten, IsWrittenAfter, KeepNumbers, column_of, number_at};
 ghost use Rattle.kr_mean.specs.Places.{place_of};
 
 use kr_base::NoMemory;
-use kr_heap::{append, refill};
+use kr_heap::append;
 use kr_value::{Obj, SlotPlace, Spot};
 use std::alloc::Global;
 use std::marker::Model;
@@ -15,87 +15,46 @@ use std::marker::Model;
 /// The places that were read, each once, in the order of their first reads. Contracts see the list.
 #[derive(Drop)]
 pub struct Reads {
+    alloc: Global,
     places: Vec<SlotPlace>,
-    // at each position the greatest rank of the places up to it: one that ranks higher can only come after it
-    tops: Vec<u64>,
-    // the first object that was read: its places rank below all others. It is mostly `this`, which may be numbered after all
-    // objects that a run reads later
-    first: Option<Obj>,
+    // for each object a row with a number for each of its spots: its index among the places, if it is one of them. Any other
+    // number is void, so that places are removed without a change of the rows
+    rows: Vec<Vec<usize>>,
 }
 
 impl Model for Reads {
     ghost use Rattle.std.specs.Prelude.{List, map};
     ghost use Rattle.kr_mean.specs.Places.{SlotPlace as Place};
-    ghost use Rattle.kr_run_state.specs.Ranks.{AreTops};
+    ghost use Rattle.kr_run_state.specs.Rows.{AreIndexed};
     ghost use Rattle.kr_mean.specs.Places.{place_of};
 
     ghost Value = { List Place };
 
     ghost view = { λ r. map place_of r.places.items };
 
-    ghost invariant = { λ r. AreTops r.first r.tops.items (map place_of r.places.items) };
+    ghost invariant = { λ r. AreIndexed r.rows.items (map place_of r.places.items) };
 }
 
-/// The rank of a place among all: by its object, and then by its field or element.
+/// The column of a spot.
 #[inline(always)]
-fn number(place: SlotPlace) -> u64
-    ensures { result ≡ rank_of (place_of place) }
+fn column(spot: Spot) -> usize
+    ensures { result ≡ column_of spot }
 {
-    match place {
-        SlotPlace::At(object, Spot::Field(at)) => object as u64 * 4294967296 + at as u64,
-        SlotPlace::At(object, Spot::Element(at)) => object as u64 * 4294967296 + at as u64,
-        SlotPlace::At(object, Spot::Length) => object as u64 * 4294967296,
-        _ => 0,
+    match spot {
+        Spot::Field(at) => at as usize * 2,
+        Spot::Length => 1,
+        Spot::Element(at) => at as usize * 2 + 3,
     }
 }
 
-/// Whether a place is of an object.
+/// The number in a column of an object's row.
 #[inline(always)]
-fn is_of(place: SlotPlace, object: Obj) -> bool
-    ensures { result ≡ is_of object (place_of place) }
+fn number_at(rows: &Vec<Vec<usize>>, object: Obj, column: usize) -> Option<usize>
+    ensures { result ≡ number_at rows.now.items object column }
 {
-    match place {
-        SlotPlace::At(o, _) => o == object,
-        _ => false,
-    }
-}
-
-/// Likewise, where the places of one object rank below all others.
-#[inline(always)]
-fn rank(place: SlotPlace, first: Option<Obj>) -> u64
-    ensures { result ≡ rank_in first (place_of place) }
-{
-    match first {
-        None => number(place),
-        Some(object) => {
-            if is_of(place, object) {
-                0
-            } else {
-                number(place)
-            }
-        }
-    }
-}
-
-/// The object of a place.
-#[inline(always)]
-fn object_of(place: SlotPlace) -> Option<Obj>
-    ensures { result ≡ object_of (place_of place) }
-{
-    match place {
-        SlotPlace::At(object, _) => Some(object),
-        _ => None,
-    }
-}
-
-/// The first object that is read: the one that was, or else that of a place.
-#[inline(always)]
-fn begun(first: Option<Obj>, place: SlotPlace) -> Option<Obj>
-    ensures { result ≡ begun first (place_of place) }
-{
-    match first {
-        None => object_of(place),
-        Some(object) => Some(object),
+    match rows.get(object as usize) {
+        None => None,
+        Some(row) => row.get(column).copied(),
     }
 }
 
@@ -136,19 +95,22 @@ fn is_at(place: &SlotPlace, object: Obj, spot: Spot) -> bool
     }
 }
 
-/// Looks from the last one on: what a run reads again it has mostly read a short while ago.
-#[inline(never)]
-fn contains_at(places: &[SlotPlace], object: Obj, spot: Spot) -> bool
+/// Whether a spot of an object is among places.
+#[inline(always)]
+fn contains_at(rows: &Vec<Vec<usize>>, places: &[SlotPlace], object: Obj, spot: Spot) -> bool
+    requires { AreIndexed rows.now.items (map place_of places.now) }
     ensures { result ≡ is_read (At object spot) (map place_of places.now) }
 {
-    let mut left = places.len();
-    'reads: while left > 0 {
-        left -= 1;
-        if is_at(&places[left], object, spot) {
-            return true;
+    match number_at(rows, object, column(spot)) {
+        None => false,
+        Some(at) => {
+            if at < places.len() {
+                is_at(&places[at], object, spot)
+            } else {
+                false
+            }
         }
     }
-    false
 }
 
 /// Likewise of any place.
@@ -168,70 +130,108 @@ fn contains_any(places: &[SlotPlace], place: SlotPlace) -> bool
 
 /// Whether a place is among places.
 #[inline(always)]
-fn contains(places: &[SlotPlace], place: SlotPlace) -> bool
+fn contains(rows: &Vec<Vec<usize>>, places: &[SlotPlace], place: SlotPlace) -> bool
+    requires { AreIndexed rows.now.items (map place_of places.now) }
     ensures { result ≡ is_read (place_of place) (map place_of places.now) }
 {
     match place {
-        SlotPlace::At(object, spot) => contains_at(places, object, spot),
+        SlotPlace::At(object, spot) => contains_at(rows, places, object, spot),
         _ => contains_any(places, place),
     }
 }
 
-/// The last of the tops, which no place exceeds.
-#[inline(always)]
-fn last_top(tops: &[u64]) -> u64
-    ensures { result ≡ last_top tops.now }
+/// Adds empty rows until an object has one.
+fn add_rows(alloc: Global, rows: &mut Vec<Vec<usize>>, object: Obj) -> Result<(), NoMemory>
+    ensures kept { KeepNumbers rows.old.items rows.new.items }
+    ensures long { OnOk result (object < length rows.new.items) }
 {
-    let count = tops.len();
-    if count == 0 {
-        return 0;
+    'adding: while rows.len() <= object as usize {
+        rows.push(Vec::new(alloc))?;
     }
-    tops[count - 1]
+    Ok(())
 }
 
-/// Whether a place of a rank is among places, by the top of all.
-#[inline(always)]
-fn is_among(places: &[SlotPlace], first: Option<Obj>, top: u64, place: SlotPlace, rank: u64) -> bool
-    requires top { IsTop first top (map place_of places.now) }
-    requires rank { rank ≡ rank_in first (place_of place) }
-    ensures { result ≡ is_read (place_of place) (map place_of places.now) }
+/// Lengthens a row until it has a column.
+fn widen(row: &mut Vec<usize>, column: usize) -> Result<(), NoMemory>
+    requires { column < 2 ^ 34 }
+    ensures kept { (c k : ℕ) → slice_get row.old.items c ≡ Some k → slice_get row.new.items c ≡ Some k }
+    ensures long { OnOk result (column < length row.new.items) }
 {
-    if top < rank {
-        return false;
+    if column < row.len() {
+        return Ok(());
     }
-    contains(places, place)
+    row.resize(column + 1, 0)?;
+    Ok(())
 }
 
-/// One more place with its top, or neither.
-#[inline(always)]
-fn append_both(
-    places: &mut Vec<SlotPlace>,
-    tops: &mut Vec<u64>,
-    place: SlotPlace,
-    top: u64,
+/// Likewise of an object's row.
+#[inline(never)]
+fn make_room(
+    alloc: Global,
+    rows: &mut Vec<Vec<usize>>,
+    object: Obj,
+    column: usize,
 ) -> Result<(), NoMemory>
-    ensures added { OnOk result (places.new.items ≡ places.old.items ++ place ∷ []) }
-    ensures topped { OnOk result (tops.new.items ≡ tops.old.items ++ top ∷ []) }
-    ensures unchanged { OnErr result (places.new.items ≡ places.old.items) }
-    ensures untopped { OnErr result (tops.new.items ≡ tops.old.items) }
+    requires { column < 2 ^ 34 }
+    ensures kept { KeepNumbers rows.old.items rows.new.items }
+    ensures there { OnOk result (HasNumber rows.new.items object column) }
 {
-    append(tops, top)?;
-    match append(places, place) {
-        Ok(()) => Ok(()),
-        Err(why) => {
-            let _ = tops.pop();
-            Err(why)
+    add_rows(alloc, rows, object)?;
+    widen(&mut rows[object as usize], column)
+}
+
+/// A number in place of another.
+#[inline(always)]
+fn write(rows: &mut Vec<Vec<usize>>, object: Obj, column: usize, number: usize)
+    requires { HasNumber rows.old.items object column }
+    ensures { IsWritten rows.old.items rows.new.items object column number }
+{
+    let row = &mut rows[object as usize];
+    row[column] = number;
+}
+
+/// Writes the index of a spot, which may have no number yet.
+#[inline(always)]
+fn index_spot(
+    alloc: Global,
+    rows: &mut Vec<Vec<usize>>,
+    object: Obj,
+    spot: Spot,
+    number: usize,
+) -> Result<(), NoMemory>
+    ensures kept { OnErr result (KeepNumbers rows.old.items rows.new.items) }
+    ensures written { OnOk result (IsWrittenAfter rows.old.items rows.new.items object (column_of spot) number) }
+{
+    let column = column(spot);
+    match number_at(&*rows, object, column) {
+        Some(_) => {
+            write(rows, object, column, number);
+            Ok(())
+        }
+        None => {
+            make_room(alloc, rows, object, column)?;
+            write(rows, object, column, number);
+            Ok(())
         }
     }
 }
 
-/// The greater of two ranks.
+/// Writes the index of a place that comes after so many others.
 #[inline(always)]
-fn greater(a: u64, b: u64) -> u64
-    ensures first { a ≤ result }
-    ensures second { b ≤ result }
+fn index_place(
+    alloc: Global,
+    rows: &mut Vec<Vec<usize>>,
+    place: SlotPlace,
+    number: usize,
+) -> Result<(), NoMemory>
+    ensures indexed { OnOk result ((ps : List Place) → AreIndexed rows.old.items ps → number ≡ length ps → is_read (place_of place) ps ≡ false → AreIndexed rows.new.items (ps ++ place_of place ∷ [])) }
+    ensures kept { OnErr result ((ps : List Place) → AreIndexed rows.old.items ps → AreIndexed rows.new.items ps) }
 {
-    if a < b { b } else { a }
+    match place {
+        SlotPlace::At(object, spot) => index_spot(alloc, rows, object, spot, number),
+        SlotPlace::This => Ok(()),
+        SlotPlace::Parameter(_) => Ok(()),
+    }
 }
 
 impl Reads {
@@ -240,9 +240,9 @@ impl Reads {
         ensures { result ≡ [] }
     {
         Reads {
+            alloc,
             places: Vec::new(alloc),
-            tops: Vec::new(alloc),
-            first: None,
+            rows: Vec::new(alloc),
         }
     }
 
@@ -252,14 +252,12 @@ impl Reads {
         ensures noted { OnOk result (self.new ≡ with_read self.old (place_of place)) }
         ensures unchanged { OnErr result (self.new ≡ self.old) }
     {
-        let first = begun(self.first, place);
-        self.first = first;
-        let rank = rank(place, first);
-        let top = last_top(self.tops.as_slice());
-        if is_among(self.places.as_slice(), first, top, place, rank) {
+        if contains(&self.rows, self.places.as_slice(), place) {
             return Ok(());
         }
-        append_both(&mut self.places, &mut self.tops, place, greater(top, rank))
+        let count = self.places.len();
+        index_place(self.alloc, &mut self.rows, place, count)?;
+        append(&mut self.places, place)
     }
 
     /// Whether a place was read.
@@ -267,22 +265,15 @@ impl Reads {
     pub fn contains(&self, place: SlotPlace) -> bool
         ensures { result ≡ is_read (place_of place) self.now }
     {
-        let top = last_top(self.tops.as_slice());
-        is_among(
-            self.places.as_slice(),
-            self.first,
-            top,
-            place,
-            rank(place, self.first),
-        )
+        contains(&self.rows, self.places.as_slice(), place)
     }
 
     /// The first places alone.
+    #[inline(always)]
     pub fn truncate(&mut self, count: usize)
         ensures { self.new ≡ take count self.old }
     {
         self.places.truncate(count);
-        self.tops.truncate(count);
     }
 
     /// Nothing was read, and the room stays.
@@ -290,8 +281,6 @@ impl Reads {
         ensures { self.new ≡ [] }
     {
         self.places.clear();
-        self.tops.clear();
-        self.first = None;
     }
 
     /// The places, in the order of their first reads.

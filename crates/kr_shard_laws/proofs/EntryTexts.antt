@@ -16,7 +16,7 @@ use Rattle.kr_mean.specs.Runs.{End, end_on, key_along, order_of}
 use Rattle.kr_mean.specs.Space.{IsVector, no_choice, space_of}
 use Rattle.kr_mean.specs.declared.mode.Mode.TheVariants.{List as Listing}
 use Rattle.kr_mean.specs.declared.row.Row.{Row}
-use Rattle.kr_laws_slots.proofs.Membership.{has_filter_from, has_map_from}
+use Rattle.kr_laws_pruning.proofs.Membership.{has_filter_from, has_map_from}
 use Rattle.kr_laws_pruning.proofs.Listed.{vectors_are}
 use Rattle.kr_laws_pruning.proofs.Sorting.{among_sorted, ascends_sorted}
 use Rattle.kr_report.specs.Texts.{structure_text}

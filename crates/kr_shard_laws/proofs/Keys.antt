@@ -11,10 +11,10 @@ use Rattle.kr_mean.specs.Problem.{Problem, all_objects, slot_at, slots, upto}
 use Rattle.kr_mean.specs.Runs.{accepted_walk, end_on, is_accepted, is_same_number, is_same_place, key_along, order_of, outcome_of, read_slots, slots_for}
 use Rattle.kr_mean.specs.Space.{IsVector, space_of}
 use Rattle.kr_laws_runs.proofs.Respects.{AllOf}
-use Rattle.kr_laws_slots.proofs.Membership.{range_has}
-use Rattle.kr_laws_slots.proofs.Reached.{apart_distinct, at_most}
-use Rattle.kr_laws_slots.proofs.SlotForks.{all_append, all_distinct, all_filter, all_from}
-use Rattle.kr_laws_slots.proofs.Walked.{Below, all_flat, walk_below}
+use Rattle.kr_laws_pruning.proofs.Membership.{range_has}
+use Rattle.kr_laws_pruning.proofs.Reached.{apart_distinct, at_most}
+use Rattle.kr_laws_pruning.proofs.SlotForks.{all_append, all_distinct, all_filter, all_from}
+use Rattle.kr_laws_pruning.proofs.Walked.{Below, all_flat, walk_below}
 use Rattle.kr_shard_laws.specs.Listings.{IsCut}
 use Rattle.kr_shard_laws.specs.Entries.{MakesLines}
 

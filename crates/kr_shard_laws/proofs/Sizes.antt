@@ -19,8 +19,8 @@ use Rattle.kr_space_meaning.specs.Names.{array_type}
 use Rattle.kr_space_meaning.specs.Order.{break_if}
 use Rattle.kr_space_meaning.proofs.Given.{given_holds}
 use Rattle.kr_space_meaning.proofs.Each.{each_at, each_mapped, each_of_both, each_weaker, none_each, unbroken}
-use Rattle.kr_laws_slots.proofs.Numbering.{no_spot, object_slot, parameter_slot, spotted_at, SlotCase, is_this, is_parameter, is_spot, slot_case}
-use Rattle.kr_laws_slots.proofs.Spaces.{objects_long}
+use Rattle.kr_laws_pruning.proofs.Numbering.{no_spot, object_slot, parameter_slot, spotted_at, SlotCase, is_this, is_parameter, is_spot, slot_case}
+use Rattle.kr_laws_pruning.proofs.Spaces.{objects_long}
 use Rattle.kr_shard_laws.proofs.Counts.{HasFew, IsNamed, of_declared}
 use Rattle.kr_shard_laws.proofs.Numbers.{IsLine}
 use Rattle.kr_shard_laws.proofs.Types.{array_line, class_line}

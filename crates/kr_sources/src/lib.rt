@@ -1,11 +1,12 @@
 //! Small sources for tests, read to trees and programs.
 #![tactic(auto)]
 
+mod sources;
 mod unread;
 
 ghost use Rattle.std.specs.Prelude.{◌≡◌, ◌<◌, ◌^◌, ◌∷◌, [], IfOk, length};
 ghost use Rattle.kr_ast.specs.Arena.{root};
-ghost use Rattle.kr_laws_shapes.specs.Shapes.{AreClasses};
+ghost use Rattle.kr_laws_types.specs.Derivation.{AreClasses};
 ghost use Rattle.kr_classes.specs.ClassTables.{IsClassTable};
 ghost use Rattle.kr_code_members.specs.Nodes.{AreShaped};
 ghost use Rattle.kr_types.specs.Programs.{IsProgram};
@@ -13,10 +14,11 @@ ghost use Rattle.kr_types.specs.Programs.{IsProgram};
 use kr_ast::Tree;
 use kr_base::NoMemory;
 use kr_classes::{ClassTable, classes};
-use kr_laws_shapes::shape_law;
+use kr_laws_types::shape_law;
 use kr_lex::{Tokens, lex};
 use kr_parse::parse;
 use kr_types::{Program, check};
+pub use sources::{Check, Sources, holds_of};
 use std::alloc::Global;
 pub use unread::Unread;
 

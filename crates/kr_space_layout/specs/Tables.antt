@@ -2,7 +2,6 @@
 use Rattle.std.specs.Prelude.{ℕ, ◌+◌, List, [], ◌∷◌, ◌++◌, length, map, flat_map, Option, Some, None}
 use Rattle.std.specs.List.{range_with_len}
 use Rattle.std.proofs.Common.{get_or}
-use Rattle.kr_mean.specs.Places as places
 use Rattle.kr_mean.specs.Places.{place_of}
 use Rattle.kr_mean.specs.Problem.{Domain, Slot, Objects}
 use Rattle.kr_iso.specs.Objects.{shown}

@@ -2,6 +2,7 @@
 ghost use Rattle.std.specs.Prelude.{◌≡◌, ◌<◌, ◌≤◌, All, IfOk, length, map, option_copied, unwrap_or, []};
 ghost use Rattle.std.proofs.Common.{get_or};
 ghost use Rattle.kr_iso.specs.Objects.{object_of, shown};
+ghost use Rattle.kr_iso.specs.Rows.{IsRow};
 ghost use Rattle.kr_mean.specs.Problem.{choices_at, domain_at, heap_number, slot_at, slots};
 ghost use Rattle.kr_mean.specs.Space.{no_choice, space_of};
 ghost use Rattle.kr_space_layout.specs.Items.{domain_of};
@@ -158,6 +159,7 @@ impl Layout {
     }
 
     /// Its place.
+    #[inline(always)]
     pub fn place(&self, slot: u32) -> SlotPlace
         requires { slot < length (slots (bare self.now)) }
         ensures { place_of result ≡ (slot_at (bare self.now) slot).place }
@@ -223,7 +225,21 @@ impl Layout {
         requires index { index < length (choices_at (bare self.now) slot) }
         ensures { result ≡ (get_or (choices_at (bare self.now) slot) index no_choice).value }
     {
+        let shape = &self.shapes[slot as usize];
+        if shape.has_object(index) {
+            return shape.reference(index);
+        }
         self.choice(slot, index).value
+    }
+
+    /// How many values from an index on are no objects, or objects of one class domain one after another, as far as is known.
+    #[inline(always)]
+    pub fn row(&self, slot: u32, index: u32) -> u32
+        requires slot { slot < length (slots (bare self.now)) }
+        requires index { index < length (choices_at (bare self.now) slot) }
+        ensures { IsRow (space_of (bare self.now)) slot index result }
+    {
+        self.shapes[slot as usize].row(index)
     }
 }
 
@@ -358,6 +374,11 @@ impl Slots for Layout {
     #[tactic(auto, unfolding(kr_mean::specs::Space::space_of))]
     fn object_at(&self, slot: u32, index: u32) -> Option<Object> {
         self.object(slot, index)
+    }
+
+    #[tactic(auto, unfolding(kr_mean::specs::Space::space_of))]
+    fn row(&self, slot: u32, index: u32) -> u32 {
+        Layout::row(self, slot, index)
     }
 }
 

@@ -11,7 +11,7 @@ use Rattle.kr_base.proofs.Bounds.{transitive, not_above_less, irreflexive}
 use Rattle.kr_mean.specs.Problem.{Problem}
 use Rattle.kr_mean.specs.Space.{Space, space_of}
 use Rattle.kr_mean.specs.Runs.{order_of, key_of, key_along}
-use Rattle.kr_mean.specs.Entries.{IsListed, mark_of, all_entries}
+use Rattle.kr_mean.specs.Entries.{mark_of, all_entries}
 use Rattle.kr_mean.specs.declared.row.Row.{Row}
 use Rattle.kr_laws_pruning.specs.Laws.{PlainLaw}
 use Rattle.kr_step.specs.declared.candidates.Ending.{Ending}

@@ -9,3 +9,4 @@ pub mod Keeps
 pub mod Carried
 pub mod Uptos
 pub mod Left
+pub mod Limits

@@ -6,3 +6,4 @@ pub mod Bases
 pub mod Keeps
 pub mod Scans
 pub mod Upto
+pub mod Limits

@@ -4,6 +4,7 @@ ghost use Rattle.kr_step.specs.Steps.{IsMoved, path_of};
 ghost use Rattle.kr_step.specs.Stages.{StandsAt, ahead_of};
 ghost use Rattle.kr_step.specs.Found.{Finds, Counts};
 ghost use Rattle.kr_step.specs.Keeps.{Keeps};
+ghost use Rattle.kr_step.specs.Limits.{Opens};
 ghost use Rattle.kr_step.specs.Upto.{ComesUpto, Compares, is_past};
 ghost use Rattle.kr_base.specs.Bounds.{less};
 ghost use Rattle.kr_base.specs.declared.span.Bound.TheVariants.{At};
@@ -18,33 +19,49 @@ use std::alloc::Global;
 use std::marker::Model;
 use std::sync::ledger::Ledger;
 
-/// A search: the candidate, the cut above which it looks, and the path to its position.
+/// A search: the candidate, the cut above which it looks, the path to its position, and up to which index the last slot of the
+/// path is known to be allowed to go.
 #[derive(Drop)]
 pub struct Search<C: Candidate> {
     candidates: C,
     after: Vec<u32>,
     path: Vec<(u32, u32)>,
+    limit: u32,
     stage: Stage,
 }
 
 impl<C: Candidate> Model for Search<C> {
+    ghost use Rattle.kr_step.specs.Limits.{Opens};
     ghost use Rattle.kr_step.specs.Stages.{Seen, StandsAt, ahead_of};
 
     ghost Value = { Seen C };
 
     ghost view = { λ s. record { candidates = s.candidates; cut = s.after.items; ahead = ahead_of s.stage } };
 
-    ghost invariant = { λ s. StandsAt (C.space s.candidates) (C.order s.candidates) (C.ending s.candidates) s.stage s.after.items (C.vector s.candidates) s.path.items };
+    ghost invariant = { λ s. StandsAt (C.space s.candidates) (C.order s.candidates) (C.ending s.candidates) s.stage s.after.items (C.vector s.candidates) s.path.items
+        × Opens (C.space s.candidates) s.path.items s.limit };
 }
 
-/// Runs the candidate at a search's position, and writes its path down in full.
+/// The limit of the last slot of a path that has this length now, where the limit was that of the path at an earlier length.
+#[inline(always)]
+fn limit_at(limit: u32, depth: usize, length: usize) -> u32
+    ensures same { length ≡ depth → result ≡ limit }
+    ensures grown { (length ≡ depth → ⊥) → result ≡ 0 }
+{
+    if length == depth { limit } else { 0 }
+}
+
+/// Runs the candidate at a search's position, and writes its path down in full: nothing is known of the last slot of a longer
+/// path.
 #[inline(always)]
 fn arrive<C: Candidate, L: Ledger>(
     candidates: &mut C,
     path: &mut Vec<(u32, u32)>,
+    limit: &mut u32,
     runs: &mut Steps<L>,
 ) -> Result<Ending, NoMemory>
-    requires { (c : List ℕ) × IsMoved (C.space candidates.old) (C.order candidates.old) c (C.vector candidates.old) path.old.items }
+    requires opens { Opens (C.space candidates.old) path.old.items limit.old }
+    requires moved { (c : List ℕ) × IsMoved (C.space candidates.old) (C.order candidates.old) c (C.vector candidates.old) path.old.items }
     ensures space { C.space candidates.new ≡ C.space candidates.old }
     ensures order { C.order candidates.new ≡ C.order candidates.old }
     ensures ending { C.ending candidates.new ≡ C.ending candidates.old }
@@ -52,11 +69,14 @@ fn arrive<C: Candidate, L: Ledger>(
     ensures ends { IfOk result (λ end. end ≡ C.ending candidates.old (C.vector candidates.old)) }
     ensures path { OnOk result (path.new.items ≡ path_of (C.vector candidates.old) (C.order candidates.old (C.vector candidates.old))) }
     ensures err { OnErr result (path.new.items ≡ path.old.items) }
+    ensures opens { Opens (C.space candidates.old) path.new.items limit.new }
     ensures runs { runs.new ≡ runs.old + 1 }
 {
     candidates.laws();
+    let depth = path.as_slice().len();
     let ending = candidates.run(runs)?;
     extend(&*candidates, path)?;
+    *limit = limit_at(*limit, depth, path.as_slice().len());
     Ok(ending)
 }
 
@@ -65,17 +85,20 @@ fn arrive<C: Candidate, L: Ledger>(
 fn find<C: Candidate, L: Ledger>(
     candidates: &mut C,
     path: &mut Vec<(u32, u32)>,
+    limit: &mut u32,
     stage: &mut Stage,
     kept: &mut usize,
     runs: &mut Steps<L>,
 ) -> Result<Option<Ending>, NoMemory>
     requires none { kept.old ≡ 0 }
+    requires opens { Opens (C.space candidates.old) path.old.items limit.old }
     requires stands { (c : List ℕ) × StandsAt (C.space candidates.old) (C.order candidates.old) (C.ending candidates.old) stage.old c (C.vector candidates.old) path.old.items }
     ensures space { C.space candidates.new ≡ C.space candidates.old }
     ensures order { C.order candidates.new ≡ C.order candidates.old }
     ensures ending { C.ending candidates.new ≡ C.ending candidates.old }
     ensures stands { (c : List ℕ) → StandsAt (C.space candidates.old) (C.order candidates.old) (C.ending candidates.old) stage.old c (C.vector candidates.old) path.old.items →
         StandsAt (C.space candidates.old) (C.order candidates.old) (C.ending candidates.old) stage.new c (C.vector candidates.new) path.new.items }
+    ensures opens { Opens (C.space candidates.old) path.new.items limit.new }
     ensures found { IfOk result (λ found. (c : List ℕ) → StandsAt (C.space candidates.old) (C.order candidates.old) (C.ending candidates.old) stage.old c (C.vector candidates.old) path.old.items →
         Finds (C.space candidates.old) (C.order candidates.old) (C.ending candidates.old) c found (C.vector candidates.new) path.new.items) }
     ensures kept { IfOk result (λ found. (c : List ℕ) → StandsAt (C.space candidates.old) (C.order candidates.old) (C.ending candidates.old) stage.old c (C.vector candidates.old) path.old.items →
@@ -86,17 +109,17 @@ fn find<C: Candidate, L: Ledger>(
     match *stage {
         Stage::Ahead(ending) => Ok(Some(ending)),
         Stage::Moved => {
-            let ending = arrive(candidates, path, runs)?;
+            let ending = arrive(candidates, path, limit, runs)?;
             *stage = Stage::Ahead(ending);
             Ok(Some(ending))
         }
         Stage::Behind => {
-            if !advance(candidates, path) {
+            if !advance(candidates, path, limit) {
                 return Ok(None);
             }
             *kept = path.as_slice().len() - 1;
             *stage = Stage::Moved;
-            let ending = arrive(candidates, path, runs)?;
+            let ending = arrive(candidates, path, limit, runs)?;
             *stage = Stage::Ahead(ending);
             Ok(Some(ending))
         }
@@ -132,6 +155,7 @@ impl<C: Candidate + Drop> Search<C> {
     ghost use Rattle.kr_step.specs.Stages.{Answers, count_of};
 
     /// A search at a cut. The candidate has index 0 in every slot.
+    #[tactic(auto, using(crate::proofs::Limits::opens_none))]
     pub fn seek<L: Ledger>(
         alloc: Global,
         candidates: C,
@@ -154,6 +178,7 @@ impl<C: Candidate + Drop> Search<C> {
             candidates,
             after: cut,
             path,
+            limit: 0,
             stage,
         })
     }
@@ -174,6 +199,7 @@ impl<C: Candidate + Drop> Search<C> {
         match find(
             &mut self.candidates,
             &mut self.path,
+            &mut self.limit,
             &mut self.stage,
             &mut kept,
             runs,
@@ -208,6 +234,7 @@ impl<C: Candidate + Drop> Search<C> {
         match find(
             &mut self.candidates,
             &mut self.path,
+            &mut self.limit,
             &mut self.stage,
             &mut kept,
             runs,

@@ -53,6 +53,10 @@ impl Slots for Bases {
             number: index - 2,
         })
     }
+
+    fn row(&self, _slot: u32, _index: u32) -> u32 {
+        1
+    }
 }
 
 impl Candidate for Bases {

@@ -3,18 +3,6 @@ use Rattle.std.specs.Prelude.{List, Option, Some, None}
 use Rattle.kr_classes_table.specs.Types.{JavaType}
 use Rattle.kr_types_meaning.specs.Rules as rules
 
-abbrev pub with_one : (JavaType → rules.Judgement) → Option JavaType → rules.Judgement
-with_one f (Some a) = f a
-with_one f None = rules.fine
-
-abbrev pub with_two : (JavaType → JavaType → rules.Judgement) → Option JavaType → Option JavaType → rules.Judgement
-with_two f (Some a) (Some b) = f a b
-with_two f a b = rules.fine
-
-abbrev pub with_three : (JavaType → JavaType → JavaType → rules.Judgement) → Option JavaType → Option JavaType → Option JavaType → rules.Judgement
-with_three f (Some a) (Some b) (Some c) = f a b c
-with_three f a b c = rules.fine
-
 -- the values of a list, where all have types
 abbrev pub values_in : rules.Typed → Option (List JavaType)
 values_in (rules.Values ts) = Some ts

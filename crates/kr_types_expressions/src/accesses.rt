@@ -1,35 +1,17 @@
 // The notes of fields and constants after a dot.
-ghost use Rattle.std.specs.Prelude.{◌≡◌, ◌<◌, ℕ, List, IfSome, option_map};
+ghost use Rattle.std.specs.Prelude.{◌≡◌, ℕ, List};
 ghost use Rattle.kr_types_meaning.specs.Rules as rules;
 ghost use Rattle.kr_types_meaning.specs.Noting as noting;
-ghost use Rattle.kr_types_expressions.specs.Vocabulary.{AreClassTypes, Binding, count, HasNoRest, IsNoteWithin, IsVerdictWithin, note_shown, scope_in, Setting, table_in, type_at, verdict_shown};
-ghost use Rattle.kr_types_expressions.specs.Parts.{with_one};
+ghost use Rattle.kr_types_expressions.specs.Vocabulary.{AreClassTypes, Binding, HasNoRest, IsNoteWithin, note_shown, scope_in, Setting, table_in};
 
 use crate::parts::part_type;
 use kr_base::Place;
-use kr_classes_table::{ClassId, TypeId};
-use kr_types_judging::{ClassTypes, Judgement, Note, access_rule, conclude, constant_rule};
+use kr_classes_table::ClassId;
+use kr_types_judging::{ClassTypes, Note, access_rule, conclude, constant_rule, plain};
 use kr_types_scopes::Within;
 
-/// The verdict of T22 on a field, if the object has a type.
-fn access_verdict(
-    classes: &ClassTypes<'_>,
-    here: Within,
-    name: &[u8],
-    object: Option<TypeId>,
-) -> Judgement
-    requires classes { AreClassTypes classes.now }
-    requires object { IfSome object (λ t. t < count classes.now.types.now) }
-    ensures within { IsVerdictWithin classes.now.types.now result }
-    ensures says { (g : Setting) (bs : List Binding) → g.table ≡ table_in classes.now.trees.now → verdict_shown classes.now.types.now result ≡ with_one (rules.access_rule (scope_in g bs here) name.now) (option_map (type_at classes.now.types.now) object) }
-{
-    match object {
-        None => Judgement::fine(),
-        Some(object) => access_rule(classes, here, name, object),
-    }
-}
-
-/// The note of a name after a dot; the node before the dot is a class if the name is one.
+/// The note of a name after a dot; the node before the dot is a class if the name is one, and else an object: T22, if it
+/// has a type.
 pub fn field_note(
     classes: &ClassTypes<'_>,
     here: Within,
@@ -50,10 +32,9 @@ pub fn field_note(
             let verdict = constant_rule(classes, found);
             conclude(place, verdict, None)
         }
-        None => {
-            let object = part_type(x.known);
-            let verdict = access_verdict(classes, here, name, object);
-            conclude(place, verdict, x.least)
-        }
+        None => match part_type(x.known) {
+            None => plain(x.least),
+            Some(object) => conclude(place, access_rule(classes, here, name, object), x.least),
+        },
     }
 }

@@ -14,32 +14,13 @@ use kr_base::{NoMemory, Place};
 use kr_classes_members::Method;
 use kr_classes_table::{ClassId, TypeId};
 use kr_types_judging::{
-    ClassTypes, Judgement, Note, call_rule, conclude, earlier, object_call_rule, static_rule,
-    super_rule,
+    ClassTypes, Judgement, Note, call_rule, conclude, earlier, object_call_rule, plain,
+    static_rule, super_rule,
 };
 use kr_types_scopes::Within;
 use std::alloc::Global;
 
-/// The verdict of T5, T24 and T32 on a call, if all arguments have types.
-fn call_verdict(
-    classes: &ClassTypes<'_>,
-    here: Within,
-    found: Option<Method>,
-    arguments: Option<Vec<TypeId>>,
-) -> Judgement
-    requires classes { AreClassTypes classes.now }
-    requires found { IfSome found (IsMethod classes.now.trees.now) }
-    requires arguments { IfSome arguments (λ ts. All (λ t. t < count classes.now.types.now) ts.items) }
-    ensures within { IsVerdictWithin classes.now.types.now result }
-    ensures says { (g : Setting) (bs : List Binding) → g.table ≡ table_in classes.now.trees.now → verdict_shown classes.now.types.now result ≡ with_list (rules.call_rule (scope_in g bs here) (option_map (method_shown classes.now.trees.now) found)) (option_map (λ ts. map (type_at classes.now.types.now) ts.items) arguments) }
-{
-    match arguments {
-        None => Judgement::fine(),
-        Some(arguments) => call_rule(classes, here, found, &arguments),
-    }
-}
-
-/// A call without object of this method: its arguments.
+/// A call without object of this method: T5, T24 and T32, if all arguments have types.
 pub fn call_note(
     alloc: Global,
     classes: &ClassTypes<'_>,
@@ -59,30 +40,16 @@ pub fn call_note(
     ensures shown { IfOk result (λ n. (g : Setting) (bs : List Binding) → g.table ≡ table_in classes.now.trees.now → let look = typed_in classes.now.types.now notes.now in let s = scope_in g bs here in note_shown classes.now.types.now look n ≡ noting.list place (rules.call_rule s (option_map (method_shown classes.now.trees.now) found)) (note_shown classes.now.types.now look x)) }
 {
     let arguments = value_types(alloc, classes.types, notes, x.known)?;
-    let verdict = call_verdict(classes, here, found, arguments);
-    Ok(conclude(place, verdict, x.least))
-}
-
-/// The verdict of T5, T24 and T33 on a call of `super.m`, if all arguments have types.
-fn super_call_verdict(
-    classes: &ClassTypes<'_>,
-    here: Within,
-    found: Option<Method>,
-    arguments: Option<Vec<TypeId>>,
-) -> Judgement
-    requires classes { AreClassTypes classes.now }
-    requires found { IfSome found (IsMethod classes.now.trees.now) }
-    requires arguments { IfSome arguments (λ ts. All (λ t. t < count classes.now.types.now) ts.items) }
-    ensures within { IsVerdictWithin classes.now.types.now result }
-    ensures says { (g : Setting) (bs : List Binding) (name : List ℕ) → g.table ≡ table_in classes.now.trees.now → option_map (method_shown classes.now.trees.now) found ≡ option_and_then (λ c. method_named g.table c name) (scopes.super_class (scope_in g bs here)) → verdict_shown classes.now.types.now result ≡ with_list (rules.super_rule (scope_in g bs here) name) (option_map (λ ts. map (type_at classes.now.types.now) ts.items) arguments) }
-{
     match arguments {
-        None => Judgement::fine(),
-        Some(arguments) => super_rule(classes, here, found, &arguments),
+        None => Ok(plain(x.least)),
+        Some(arguments) => {
+            let verdict = call_rule(classes, here, found, &arguments);
+            Ok(conclude(place, verdict, x.least))
+        }
     }
 }
 
-/// A call of `super.m`, by the method that the superclass has: its arguments.
+/// A call of `super.m`, by the method that the superclass has: T5, T24 and T33, if all arguments have types.
 pub fn super_call_note(
     alloc: Global,
     classes: &ClassTypes<'_>,
@@ -102,8 +69,13 @@ pub fn super_call_note(
     ensures shown { IfOk result (λ n. (g : Setting) (bs : List Binding) (name : List ℕ) → g.table ≡ table_in classes.now.trees.now → option_map (method_shown classes.now.trees.now) found ≡ option_and_then (λ c. method_named g.table c name) (scopes.super_class (scope_in g bs here)) → let look = typed_in classes.now.types.now notes.now in note_shown classes.now.types.now look n ≡ noting.list place (rules.super_rule (scope_in g bs here) name) (note_shown classes.now.types.now look x)) }
 {
     let arguments = value_types(alloc, classes.types, notes, x.known)?;
-    let verdict = super_call_verdict(classes, here, found, arguments);
-    Ok(conclude(place, verdict, x.least))
+    match arguments {
+        None => Ok(plain(x.least)),
+        Some(arguments) => {
+            let verdict = super_rule(classes, here, found, &arguments);
+            Ok(conclude(place, verdict, x.least))
+        }
+    }
 }
 
 /// The verdict of T24 on a call after a class's name, if all arguments have types.

@@ -21,4 +21,3 @@ pub use Rattle.kr_types_judging.specs.Classes.{AreClassTypes}
 pub use Rattle.kr_types_judging.specs.Shown.{HasNoRest, IsKnownWithin, IsNoteWithin, IsThrowable, IsVerdictWithin, known_shown, note_shown, typed_shown, verdict_shown}
 pub use Rattle.kr_types_expressions.specs.Constructors.{AreSingle}
 pub use Rattle.kr_types_expressions.specs.Links.{IsLinked}
-pub use Rattle.kr_types_expressions.specs.Parts.{with_one, with_two}

@@ -1,33 +1,19 @@
 // The notes of `throw`, `catch` and `signals`, from those of their parts.
-ghost use Rattle.std.specs.Prelude.{◌≡◌, ◌<◌, ℕ, List, IfSome, length, option_map};
+ghost use Rattle.std.specs.Prelude.{◌≡◌, ◌<◌, ℕ, List, length};
 ghost use Rattle.kr_types_meaning.specs.Rules as rules;
-ghost use Rattle.kr_types_statements.specs.Vocabulary.{AreClassTypes, AreNodeTypes, Binding, class_caught, concluded, count, file_at, HasNoRest, IsNoteWithin, IsThrowable, IsVerdictWithin, note_shown, one, Scope, scope_in, Setting, signals, sooner, table_in, tree_in, type_at, verdict_shown, with_one, written};
+ghost use Rattle.kr_types_statements.specs.Vocabulary.{AreClassTypes, AreNodeTypes, Binding, class_caught, concluded, count, file_at, HasNoRest, IsNoteWithin, IsThrowable, note_shown, one, Scope, scope_in, Setting, signals, sooner, table_in, tree_in, type_at, written};
 
 use kr_ast::{Node, Tree, tree_of};
 use kr_base::Place;
 use kr_classes_table::TypeId;
 use kr_types_expressions::part_type;
 use kr_types_judging::{
-    ClassTypes, Judgement, Note, TypingRule, caught_rule, conclude, contract_rule, earlier,
-    throw_rule, type_of_node,
+    ClassTypes, Note, TypingRule, caught_rule, conclude, contract_rule, earlier, plain, throw_rule,
+    type_of_node,
 };
 use kr_types_scopes::Within;
 
-/// The verdict of T41, if the thrown value has a type.
-fn throw_verdict(classes: &ClassTypes<'_>, throwable: TypeId, a: Option<TypeId>) -> Judgement
-    requires classes { AreClassTypes classes.now }
-    requires throwable { IsThrowable classes.now.trees.now classes.now.types.now throwable }
-    requires thrown { IfSome a (λ t. t < count classes.now.types.now) }
-    ensures within { IsVerdictWithin classes.now.types.now result }
-    ensures says { (s : Scope) → s.table ≡ table_in classes.now.trees.now → verdict_shown classes.now.types.now result ≡ with_one (rules.throw_rule s) (option_map (type_at classes.now.types.now) a) }
-{
-    match a {
-        None => Judgement::fine(),
-        Some(a) => throw_rule(classes, throwable, a),
-    }
-}
-
-/// `throw` (Java Language Specification 14.18).
+/// `throw` (Java Language Specification 14.18): T41, if the thrown value has a type.
 pub fn throw_note(classes: &ClassTypes<'_>, throwable: TypeId, place: Place, x: Note) -> Note
     requires classes { AreClassTypes classes.now }
     requires throwable { IsThrowable classes.now.trees.now classes.now.types.now throwable }
@@ -36,8 +22,10 @@ pub fn throw_note(classes: &ClassTypes<'_>, throwable: TypeId, place: Place, x: 
     ensures no_rest { HasNoRest result.known }
     ensures shown { (s : Scope) (look : ℕ → rules.Typed) → s.table ≡ table_in classes.now.trees.now → note_shown classes.now.types.now look result ≡ one place (rules.throw_rule s) (note_shown classes.now.types.now look x) }
 {
-    let verdict = throw_verdict(classes, throwable, part_type(x.known));
-    conclude(place, verdict, x.least)
+    match part_type(x.known) {
+        None => plain(x.least),
+        Some(a) => conclude(place, throw_rule(classes, throwable, a), x.least),
+    }
 }
 
 /// The node of the class that a `catch` or a `signals` names, by the node of what it declares.
@@ -95,33 +83,7 @@ pub fn catch_note(
     conclude(place, verdict, earlier(x.least, y.least))
 }
 
-/// The verdict of T28, T40 and T43, if the condition has a type; the clause names the class of number `caught`.
-fn signals_verdict(
-    classes: &ClassTypes<'_>,
-    throwable: TypeId,
-    here: Within,
-    caught: TypeId,
-    a: Option<TypeId>,
-) -> Judgement
-    requires classes { AreClassTypes classes.now }
-    requires throwable { IsThrowable classes.now.trees.now classes.now.types.now throwable }
-    requires caught { caught < count classes.now.types.now }
-    requires condition { IfSome a (λ t. t < count classes.now.types.now) }
-    ensures within { IsVerdictWithin classes.now.types.now result }
-    ensures says { (g : Setting) (bs : List Binding) → g.table ≡ table_in classes.now.trees.now → verdict_shown classes.now.types.now result ≡ with_one (λ t. rules.then_rule (rules.contract_rule (scope_in g bs here) t) (rules.caught_rule (scope_in g bs here) 43 (type_at classes.now.types.now caught))) (option_map (type_at classes.now.types.now) a) }
-{
-    match a {
-        None => Judgement::fine(),
-        Some(a) => contract_rule(classes.types, classes.members, here, a).and(caught_rule(
-            classes,
-            throwable,
-            TypingRule::Signals,
-            caught,
-        )),
-    }
-}
-
-/// `signals`, from the notes of what it declares and of its condition.
+/// `signals`, from the notes of what it declares and of its condition: T28, T40 and T43, if the condition has a type.
 pub fn signals_note(
     classes: &ClassTypes<'_>,
     throwable: TypeId,
@@ -142,6 +104,13 @@ pub fn signals_note(
     ensures shown { (g : Setting) (bs : List Binding) (look : ℕ → rules.Typed) → g.table ≡ table_in classes.now.trees.now → note_shown classes.now.types.now look result ≡ signals place (scope_in g bs here) (tree_in (file_at classes.now.trees.now file) declared) (note_shown classes.now.types.now look x) (note_shown classes.now.types.now look y) }
 {
     let caught = caught_type(classes, file, declared);
-    let verdict = signals_verdict(classes, throwable, here, caught, part_type(y.known));
-    conclude(place, verdict, earlier(x.least, y.least))
+    let least = earlier(x.least, y.least);
+    match part_type(y.known) {
+        None => plain(least),
+        Some(a) => {
+            let condition = contract_rule(classes.types, classes.members, here, a);
+            let class = caught_rule(classes, throwable, TypingRule::Signals, caught);
+            conclude(place, condition.and(class), least)
+        }
+    }
 }

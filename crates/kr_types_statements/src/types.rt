@@ -1,14 +1,13 @@
 // The notes of types as written.
-ghost use Rattle.std.specs.Prelude.{◌≡◌, ◌<◌, ℕ, IfOk, IfSome, option_map};
+ghost use Rattle.std.specs.Prelude.{◌≡◌, ℕ, IfOk};
 ghost use Rattle.kr_types_meaning.specs.Rules as rules;
-ghost use Rattle.kr_types_statements.specs.Vocabulary.{applied, AreNodeTypes, count, Extends, file_at, HasNoRest, IsNoteWithin, IsVerdictWithin, leaf, note_shown, one, Scope, table_in, tree_in, type_at, verdict_shown, with_one, written};
+ghost use Rattle.kr_types_statements.specs.Vocabulary.{applied, AreNodeTypes, Extends, file_at, HasNoRest, IsNoteWithin, leaf, note_shown, one, Scope, table_in, tree_in, written};
 
 use kr_ast::Tree;
 use kr_base::{NoMemory, Place};
 use kr_classes_names::{NodeTypes, TypeForm, Types};
-use kr_classes_table::TypeId;
 use kr_types_expressions::part_type;
-use kr_types_judging::{Judgement, Note, conclude, diamond_rule, type_of_node, type_rule};
+use kr_types_judging::{Judgement, Note, conclude, diamond_rule, plain, type_of_node, type_rule};
 
 /// A primitive type or the name of a class (Java Language Specification 4.2, 4.3).
 pub fn named_type_note(
@@ -48,28 +47,7 @@ pub fn diamond_type_note(
     conclude(place, verdict, None)
 }
 
-/// The verdict of T1 on a head with an argument that has a type.
-fn generic_verdict(
-    types: &mut Types,
-    head: TypeId,
-    a: Option<TypeId>,
-) -> Result<Judgement, NoMemory>
-    requires head { head < count types.old }
-    requires argument { IfSome a (λ t. t < count types.old) }
-    ensures extends { Extends types.old types.new }
-    ensures within { IfOk result (λ v. IsVerdictWithin types.new v) }
-    ensures says { IfOk result (λ v. verdict_shown types.new v ≡ with_one (λ t. rules.type_rule (applied (type_at types.old head) t)) (option_map (type_at types.old) a)) }
-{
-    match a {
-        None => Ok(Judgement::fine()),
-        Some(a) => {
-            let number = types.applied(head, a)?;
-            Ok(type_rule(types, number))
-        }
-    }
-}
-
-/// `Head<Argument>`, by the node of its head (Java Language Specification 4.5).
+/// `Head<Argument>`, by the node of its head (Java Language Specification 4.5): T1, if the argument has a type.
 pub fn generic_type_note(
     trees: &[Tree],
     types: &mut Types,
@@ -87,27 +65,16 @@ pub fn generic_type_note(
     ensures shown { IfOk result (λ note. (s : Scope) (look : ℕ → rules.Typed) → s.table ≡ table_in trees.now → note_shown types.new look note ≡ one place (λ t. rules.type_rule (applied (written s (tree_in (file_at trees.now file) head)) t)) (note_shown types.old look x)) }
 {
     let number = type_of_node(trees, types, node_types, file, Some(head));
-    let verdict = generic_verdict(types, number, part_type(x.known))?;
-    Ok(conclude(place, verdict, x.least))
-}
-
-/// The verdict on an array whose elements have a type.
-fn array_verdict(types: &mut Types, a: Option<TypeId>) -> Result<Judgement, NoMemory>
-    requires { IfSome a (λ t. t < count types.old) }
-    ensures extends { Extends types.old types.new }
-    ensures within { IfOk result (λ v. IsVerdictWithin types.new v) }
-    ensures says { IfOk result (λ v. verdict_shown types.new v ≡ with_one rules.array_rule (option_map (type_at types.old) a)) }
-{
-    match a {
-        None => Ok(Judgement::fine()),
+    match part_type(x.known) {
+        None => Ok(plain(x.least)),
         Some(a) => {
-            let number = types.number(TypeForm::Array(a))?;
-            Ok(Judgement::value(number))
+            let made = types.applied(number, a)?;
+            Ok(conclude(place, type_rule(types, made), x.least))
         }
     }
 }
 
-/// `Element[]` (Java Language Specification 10.1).
+/// `Element[]` (Java Language Specification 10.1), if the elements have a type.
 pub fn array_type_note(types: &mut Types, place: Place, x: Note) -> Result<Note, NoMemory>
     requires { IsNoteWithin types.old x }
     ensures extends { Extends types.old types.new }
@@ -115,6 +82,11 @@ pub fn array_type_note(types: &mut Types, place: Place, x: Note) -> Result<Note,
     ensures no_rest { IfOk result (λ note. HasNoRest note.known) }
     ensures shown { IfOk result (λ note. (look : ℕ → rules.Typed) → note_shown types.new look note ≡ one place rules.array_rule (note_shown types.old look x)) }
 {
-    let verdict = array_verdict(types, part_type(x.known))?;
-    Ok(conclude(place, verdict, x.least))
+    match part_type(x.known) {
+        None => Ok(plain(x.least)),
+        Some(a) => {
+            let number = types.number(TypeForm::Array(a))?;
+            Ok(conclude(place, Judgement::value(number), x.least))
+        }
+    }
 }

@@ -1,16 +1,15 @@
 // The notes of assignments, from those of target and value.
-ghost use Rattle.std.specs.Prelude.{◌≡◌, ◌<◌, ℕ, List, IfSome, option_map};
+ghost use Rattle.std.specs.Prelude.{◌≡◌, ℕ, List};
 ghost use Rattle.kr_types_meaning.specs.Rules as rules;
-ghost use Rattle.kr_types_statements.specs.Vocabulary.{AreMembers, Arena, Binding, count, HasNoRest, IsNoteWithin, IsVerdictWithin, known_shown, note_shown, one, scope_in, Setting, table_in, two, type_at, typed_shown, TypeList, verdict_shown, with_one, with_two};
+ghost use Rattle.kr_types_statements.specs.Vocabulary.{AreMembers, Arena, Binding, HasNoRest, IsNoteWithin, known_shown, note_shown, one, scope_in, Setting, table_in, two, typed_shown, TypeList};
 
 use kr_ast::BinaryOperator;
 use kr_base::Place;
 use kr_classes_members::Members;
 use kr_classes_names::Types;
-use kr_classes_table::TypeId;
 use kr_types_expressions::part_type;
 use kr_types_judging::{
-    Judgement, Known, Note, Typed, assignment_rule, compound_rule, conclude, earlier, step_rule,
+    Known, Note, Typed, assignment_rule, compound_rule, conclude, earlier, plain, step_rule,
 };
 use kr_types_scopes::Within;
 
@@ -25,25 +24,8 @@ fn target_of(known: Known) -> Typed
     }
 }
 
-/// The verdict of T18, T19 and T39, if the target has a type.
-fn step_verdict(
-    types: &Types,
-    members: &Members,
-    here: Within,
-    target: Typed,
-    a: Option<TypeId>,
-) -> Judgement
-    requires { IfSome a (λ t. t < count types.now) }
-    ensures within { IsVerdictWithin types.now result }
-    ensures says { (files : List Arena) (g : Setting) (bs : List Binding) → AreMembers files members.now → g.table ≡ table_in files → verdict_shown types.now result ≡ with_one (rules.step_rule (scope_in g bs here) (typed_shown types.now target)) (option_map (type_at types.now) a) }
-{
-    match a {
-        None => Judgement::fine(),
-        Some(a) => step_rule(types, members, here, target, a),
-    }
-}
-
-/// `++` or `--` (Java Language Specification 15.14.2, 15.14.3, 15.15.1, 15.15.2).
+/// `++` or `--` (Java Language Specification 15.14.2, 15.14.3, 15.15.1, 15.15.2): T18, T19 and T39, if the target has a
+/// type.
 pub fn step_note(types: &Types, members: &Members, here: Within, place: Place, x: Note) -> Note
     requires { IsNoteWithin types.now x }
     ensures within { IsNoteWithin types.now result }
@@ -51,31 +33,13 @@ pub fn step_note(types: &Types, members: &Members, here: Within, place: Place, x
     ensures shown { (files : List Arena) (g : Setting) (bs : List Binding) (look : ℕ → rules.Typed) → AreMembers files members.now → g.table ≡ table_in files → note_shown types.now look result ≡ one place (rules.step_rule (scope_in g bs here) (note_shown types.now look x).typed) (note_shown types.now look x) }
 {
     let target = target_of(x.known);
-    let verdict = step_verdict(types, members, here, target, part_type(x.known));
-    conclude(place, verdict, x.least)
-}
-
-/// The verdict of T16, T19 and T39, if both sides have types.
-fn assignment_verdict(
-    types: &Types,
-    members: &Members,
-    here: Within,
-    target: Typed,
-    a: Option<TypeId>,
-    b: Option<TypeId>,
-) -> Judgement
-    requires first { IfSome a (λ t. t < count types.now) }
-    requires second { IfSome b (λ t. t < count types.now) }
-    ensures within { IsVerdictWithin types.now result }
-    ensures says { (files : List Arena) (g : Setting) (bs : List Binding) → AreMembers files members.now → g.table ≡ table_in files → verdict_shown types.now result ≡ with_two (rules.assignment_rule (scope_in g bs here) (typed_shown types.now target)) (option_map (type_at types.now) a) (option_map (type_at types.now) b) }
-{
-    match (a, b) {
-        (Some(a), Some(b)) => assignment_rule(types, members, here, target, a, b),
-        _ => Judgement::fine(),
+    match part_type(x.known) {
+        None => plain(x.least),
+        Some(a) => conclude(place, step_rule(types, members, here, target, a), x.least),
     }
 }
 
-/// An assignment: the target, then the value (Java Language Specification 15.26.1).
+/// An assignment: the target, then the value (Java Language Specification 15.26.1); T16, T19 and T39, if both have types.
 pub fn assignment_note(
     types: &Types,
     members: &Members,
@@ -91,34 +55,18 @@ pub fn assignment_note(
     ensures shown { (files : List Arena) (g : Setting) (bs : List Binding) (look : ℕ → rules.Typed) → AreMembers files members.now → g.table ≡ table_in files → note_shown types.now look result ≡ two place (rules.assignment_rule (scope_in g bs here) (note_shown types.now look x).typed) (note_shown types.now look x) (note_shown types.now look y) }
 {
     let target = target_of(x.known);
-    let first = part_type(x.known);
-    let second = part_type(y.known);
-    let verdict = assignment_verdict(types, members, here, target, first, second);
-    conclude(place, verdict, earlier(x.least, y.least))
-}
-
-/// The verdict of T17, T19 and T39, if both sides have types.
-fn compound_verdict(
-    types: &Types,
-    members: &Members,
-    here: Within,
-    operator: BinaryOperator,
-    target: Typed,
-    a: Option<TypeId>,
-    b: Option<TypeId>,
-) -> Judgement
-    requires first { IfSome a (λ t. t < count types.now) }
-    requires second { IfSome b (λ t. t < count types.now) }
-    ensures within { IsVerdictWithin types.now result }
-    ensures says { (files : List Arena) (g : Setting) (bs : List Binding) → AreMembers files members.now → g.table ≡ table_in files → verdict_shown types.now result ≡ with_two (rules.compound_rule (scope_in g bs here) operator (typed_shown types.now target)) (option_map (type_at types.now) a) (option_map (type_at types.now) b) }
-{
-    match (a, b) {
-        (Some(a), Some(b)) => compound_rule(types, members, here, operator, target, a, b),
-        _ => Judgement::fine(),
+    let least = earlier(x.least, y.least);
+    match (part_type(x.known), part_type(y.known)) {
+        (Some(a), Some(b)) => {
+            let verdict = assignment_rule(types, members, here, target, a, b);
+            conclude(place, verdict, least)
+        }
+        _ => plain(least),
     }
 }
 
-/// A compound assignment: the target, then the value (Java Language Specification 15.26.2).
+/// A compound assignment: the target, then the value (Java Language Specification 15.26.2); T17, T19 and T39, if both
+/// have types.
 pub fn compound_note(
     types: &Types,
     members: &Members,
@@ -135,8 +83,12 @@ pub fn compound_note(
     ensures shown { (files : List Arena) (g : Setting) (bs : List Binding) (look : ℕ → rules.Typed) → AreMembers files members.now → g.table ≡ table_in files → note_shown types.now look result ≡ two place (rules.compound_rule (scope_in g bs here) operator (note_shown types.now look x).typed) (note_shown types.now look x) (note_shown types.now look y) }
 {
     let target = target_of(x.known);
-    let first = part_type(x.known);
-    let second = part_type(y.known);
-    let verdict = compound_verdict(types, members, here, operator, target, first, second);
-    conclude(place, verdict, earlier(x.least, y.least))
+    let least = earlier(x.least, y.least);
+    match (part_type(x.known), part_type(y.known)) {
+        (Some(a), Some(b)) => {
+            let verdict = compound_rule(types, members, here, operator, target, a, b);
+            conclude(place, verdict, least)
+        }
+        _ => plain(least),
+    }
 }

@@ -1,14 +1,8 @@
 // Two small files, and what is made of their members.
-ghost use Rattle.std.specs.Prelude.{◌<◌, length};
-ghost use Rattle.kr_classes_members.specs.Kept.{AreMembers};
-ghost use Rattle.kr_classes_names.specs.Shown.{AreHeads};
 
 use crate::tests::{runnable, tables};
-use kr_ast::Tree;
 use kr_base::NoMemory;
-use kr_classes_members::Members;
-use kr_classes_names::Heads;
-use kr_sources::{Unread, two_trees};
+use kr_sources::{Check, Sources, Unread, holds_of};
 use std::alloc::Global;
 
 /// The layers under test.
@@ -19,40 +13,14 @@ enum Layer {
     Created,
 }
 
-fn members_fit(
-    alloc: Global,
-    layer: Layer,
-    trees: &[Tree],
-    heads: &Heads,
-    members: &Members,
-) -> Result<bool, NoMemory>
-    requires heads { AreHeads trees.now heads.now }
-    requires members { AreMembers trees.now members.now }
-{
-    match layer {
-        Layer::Tables => tables::fit(alloc, trees, heads, members),
-        Layer::Runnable => runnable::methods_fit(alloc, trees, members),
-        Layer::Created => runnable::classes_fit(alloc, members),
+impl Check for Layer {
+    fn holds(&self, alloc: Global, sources: &Sources<'_>) -> Result<bool, NoMemory> {
+        match self {
+            Layer::Tables => tables::fit(alloc, sources),
+            Layer::Runnable => runnable::methods_fit(alloc, sources),
+            Layer::Created => runnable::classes_fit(alloc, sources.members),
+        }
     }
-}
-
-fn heads_fit(alloc: Global, layer: Layer, trees: &[Tree], heads: &Heads) -> Result<bool, NoMemory>
-    requires { AreHeads trees.now heads.now }
-{
-    let members = Members::read(alloc, trees, heads)?;
-    members_fit(alloc, layer, trees, heads, &members)
-}
-
-fn trees_fit(alloc: Global, layer: Layer, trees: &[Tree]) -> Result<bool, NoMemory>
-    requires { length trees.now < 65 }
-{
-    let heads = Heads::read(alloc, trees)?;
-    heads_fit(alloc, layer, trees, &heads)
-}
-
-fn fits(alloc: Global, layer: Layer, first: &str, second: &str) -> Result<bool, Unread> {
-    let trees = two_trees(alloc, first, second)?;
-    Ok(trees_fit(alloc, layer, &trees)?)
 }
 
 #[test]
@@ -66,7 +34,7 @@ fn two_files(rt: HostRuntime) -> Result<(), Unread> {
         (Layer::Runnable, "class A { int m() { } }", ""),
         (Layer::Created, "class A { int m() { } }", ""),
     ] {
-        let fits = fits(rt.alloc(), layer, first, second)?;
+        let fits = holds_of(rt.alloc(), &layer, first, second)?;
         assert!(rt; fits, "{first} {second}");
     }
     Ok(())

@@ -1,22 +1,23 @@
 // `class A { int m() { } }`: a call of its method may run that one, and its creation the code of `A`.
-ghost use Rattle.kr_classes_members.specs.Kept.{AreMembers};
+ghost use Rattle.kr_sources.specs.Sources.{AreSources};
 
-use kr_ast::Tree;
 use kr_base::NoMemory;
 use kr_classes_members::{Members, Roster};
 use kr_classes_names::{TypeForm, Types};
 use kr_pure_effects::{created_classes, overriders};
+use kr_sources::Sources;
 use std::alloc::Global;
 
 /// A call of the method may run one.
-pub fn methods_fit(alloc: Global, trees: &[Tree], members: &Members) -> Result<bool, NoMemory>
-    requires { AreMembers trees.now members.now }
+pub fn methods_fit(alloc: Global, sources: &Sources<'_>) -> Result<bool, NoMemory>
+    requires { AreSources sources.now }
 {
+    let members = sources.members;
     match members.method_named(0, b"m") {
         None => Ok(false),
         Some(method) => {
             let roster = Roster::read(alloc, members)?;
-            Ok(overriders(alloc, trees, members, &roster, method)?.len() == 1)
+            Ok(overriders(alloc, sources.trees, members, &roster, method)?.len() == 1)
         }
     }
 }

@@ -1,15 +1,14 @@
 // The tables of two classes, one below the other.
 ghost use Rattle.std.specs.Prelude.{◌≡◌, ◌∷◌, [], IfOk, codes, map};
 ghost use Rattle.kr_code.specs.Tables.{row_items};
-ghost use Rattle.kr_classes_members.specs.Kept.{AreMembers};
 ghost use Rattle.kr_classes_members.specs.Rosters.{IsRoster};
-ghost use Rattle.kr_classes_names.specs.Shown.{AreHeads};
+ghost use Rattle.kr_sources.specs.Sources.{AreSources};
 
-use kr_ast::Tree;
 use kr_base::NoMemory;
-use kr_classes_members::{Members, Roster};
-use kr_classes_names::{Heads, TypeForm, Types};
+use kr_classes_members::Roster;
+use kr_classes_names::{TypeForm, Types};
 use kr_code_bodies::Tables;
+use kr_sources::Sources;
 use std::alloc::Global;
 
 /// Whether a table has this row.
@@ -74,15 +73,12 @@ fn two_names(alloc: Global, second: &[u8]) -> Result<Vec<Vec<u8>>, NoMemory>
 /// The tables over the types of the two classes, and of an array.
 fn tables_fit(
     alloc: Global,
-    trees: &[Tree],
-    heads: &Heads,
-    members: &Members,
+    sources: &Sources<'_>,
     roster: &Roster,
     types: &mut Types,
 ) -> Result<bool, NoMemory>
-    requires heads { AreHeads trees.now heads.now }
-    requires members { AreMembers trees.now members.now }
-    requires roster { IsRoster trees.now roster.now }
+    requires sources { AreSources sources.now }
+    requires roster { IsRoster sources.now.trees.now roster.now }
 {
     let above = types.number(TypeForm::Class(0))?;
     let below = types.number(TypeForm::Class(1))?;
@@ -90,9 +86,9 @@ fn tables_fit(
     let names = two_names(alloc, b"second")?;
     let tables = Tables::read(
         alloc,
-        trees,
-        heads,
-        members,
+        sources.trees,
+        sources.heads,
+        sources.members,
         types,
         roster,
         &[array],
@@ -106,31 +102,18 @@ fn tables_fit(
     )
 }
 
-fn roster_fits(
-    alloc: Global,
-    trees: &[Tree],
-    heads: &Heads,
-    members: &Members,
-    roster: &Roster,
-) -> Result<bool, NoMemory>
-    requires heads { AreHeads trees.now heads.now }
-    requires members { AreMembers trees.now members.now }
-    requires roster { IsRoster trees.now roster.now }
+fn roster_fits(alloc: Global, sources: &Sources<'_>, roster: &Roster) -> Result<bool, NoMemory>
+    requires sources { AreSources sources.now }
+    requires roster { IsRoster sources.now.trees.now roster.now }
 {
     let mut types = Types::new(alloc)?;
-    tables_fit(alloc, trees, heads, members, roster, &mut types)
+    tables_fit(alloc, sources, roster, &mut types)
 }
 
 /// `Above` with the field `first` and the method `run`, and below it `Below` with the field `second` and the method `run`.
-pub fn fit(
-    alloc: Global,
-    trees: &[Tree],
-    heads: &Heads,
-    members: &Members,
-) -> Result<bool, NoMemory>
-    requires heads { AreHeads trees.now heads.now }
-    requires members { AreMembers trees.now members.now }
+pub fn fit(alloc: Global, sources: &Sources<'_>) -> Result<bool, NoMemory>
+    requires { AreSources sources.now }
 {
-    let roster = Roster::read(alloc, members)?;
-    roster_fits(alloc, trees, heads, members, &roster)
+    let roster = Roster::read(alloc, sources.members)?;
+    roster_fits(alloc, sources, &roster)
 }

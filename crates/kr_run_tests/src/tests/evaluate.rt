@@ -16,7 +16,6 @@ use kr_mean::Stop;
 use kr_run_method::{Env, Executed, evaluate};
 use kr_value::{Class, Value};
 use std::alloc::Global;
-use std::process::Abort;
 use std::test::Fail;
 
 const FIRST_OLD: Place = Place {
@@ -125,7 +124,9 @@ fn ends(
     Ok(run.end == end && run.left == left && run.heap.len() == 1)
 }
 
-fn evaluate_all(rt: &impl Abort, alloc: Global, code: &Code) -> Result<(), Fail> {
+#[test]
+fn postconditions(rt: HostRuntime) -> Result<(), Fail> {
+    let code = code_of::<Inc>(rt.alloc())?;
     let yes = Ok(Some(Value::Bool(true)));
     let no = Ok(Some(Value::Bool(false)));
     for (node, given, olds, fuel, end, left) in [
@@ -140,15 +141,9 @@ fn evaluate_all(rt: &impl Abort, alloc: Global, code: &Code) -> Result<(), Fail>
         (GREATER, None, &[2, 2][..], 9, Err(Stop::Stuck), 6),
     ] {
         assert!(rt;
-            ends(alloc, code, node, given, olds, fuel, end, left)?,
+            ends(rt.alloc(), &code, node, given, olds, fuel, end, left)?,
             "{fuel}"
         );
     }
     Ok(())
-}
-
-#[test]
-fn postconditions(rt: HostRuntime) -> Result<(), Fail> {
-    let code = code_of::<Inc>(rt.alloc())?;
-    evaluate_all(&rt, rt.alloc(), &code)
 }

@@ -26,48 +26,30 @@ use kr_mean::{Kind, Stop};
 use kr_run_method::{Executed, Method, execute};
 use kr_value::{Class, Spot, Value};
 use std::alloc::Global;
-use std::process::Abort;
 use std::test::Fail;
 
-const MINUS: Method = Method {
-    number: 0,
-    is_static: true,
-};
+/// A method of the class, by its number.
+#[derive(Clone, Copy)]
+enum Called {
+    Static(u32),
+    OnObject(u32),
+}
 
-const SET: Method = Method {
-    number: 1,
-    is_static: false,
-};
+const MINUS: Called = Called::Static(0);
 
-const OVER: Method = Method {
-    number: 2,
-    is_static: true,
-};
+const SET: Called = Called::OnObject(1);
 
-const COPY: Method = Method {
-    number: 3,
-    is_static: false,
-};
+const OVER: Called = Called::Static(2);
 
-const FILL: Method = Method {
-    number: 4,
-    is_static: true,
-};
+const COPY: Called = Called::OnObject(3);
 
-const DEEP: Method = Method {
-    number: 5,
-    is_static: false,
-};
+const FILL: Called = Called::Static(4);
 
-const VALID: Method = Method {
-    number: 7,
-    is_static: false,
-};
+const DEEP: Called = Called::OnObject(5);
 
-const ABSENT: Method = Method {
-    number: 8,
-    is_static: true,
-};
+const VALID: Called = Called::OnObject(7);
+
+const ABSENT: Called = Called::Static(8);
 
 fn write_arithmetic(parts: &mut Parts) -> Result<(), NoMemory> {
     let first = parts.put(Expression::Local(0))?;
@@ -200,11 +182,21 @@ fn heap(alloc: Global) -> Result<Heap, NoMemory> {
 fn executed(
     alloc: Global,
     code: &Code,
-    method: Method,
+    called: Called,
     values: &[Value],
     fuel: u64,
 ) -> Result<Executed, NoMemory> {
     let heap = heap(alloc)?;
+    let method = match called {
+        Called::Static(number) => Method {
+            number,
+            is_static: true,
+        },
+        Called::OnObject(number) => Method {
+            number,
+            is_static: false,
+        },
+    };
     execute(alloc, code, heap, method, values, fuel)
 }
 
@@ -229,24 +221,26 @@ fn traps(kind: Kind) -> Ending {
 fn ends(
     alloc: Global,
     code: &Code,
-    method: Method,
+    called: Called,
     values: &[Value],
     fuel: u64,
     end: Ending,
     left: u64,
 ) -> Result<bool, NoMemory> {
-    let run = executed(alloc, code, method, values, fuel)?;
+    let run = executed(alloc, code, called, values, fuel)?;
     Ok(run.end == end && run.left == left)
 }
 
-fn run_all(rt: &impl Abort, alloc: Global, code: &Code) -> Result<(), Fail> {
+#[test]
+fn values_and_ends(rt: HostRuntime) -> Result<(), Fail> {
+    let code = code_of::<Cells>(rt.alloc())?;
     let cell = Value::Ref(0);
     let seven = [Value::Int(7), Value::Int(3)];
     let zero = [Value::Int(0), Value::Int(0)];
     let receiver = [cell, Value::Int(5)];
     let null = [Value::Null, Value::Int(5)];
     let one = [cell, Value::Int(1)];
-    for (method, values, fuel, end, left) in [
+    for (called, values, fuel, end, left) in [
         (MINUS, &seven[..], 1000, gives(Value::Int(4)), 996),
         (MINUS, &seven[..], 4, gives(Value::Int(4)), 0),
         (MINUS, &seven[..], 3, SPENT, 0),
@@ -271,17 +265,11 @@ fn run_all(rt: &impl Abort, alloc: Global, code: &Code) -> Result<(), Fail> {
         (ABSENT, &seven[..0], 10, STUCK, 10),
     ] {
         assert!(rt;
-            ends(alloc, code, method, values, fuel, end, left)?,
+            ends(rt.alloc(), &code, called, values, fuel, end, left)?,
             "{fuel}"
         );
     }
     Ok(())
-}
-
-#[test]
-fn values_and_ends(rt: HostRuntime) -> Result<(), Fail> {
-    let code = code_of::<Cells>(rt.alloc())?;
-    run_all(&rt, rt.alloc(), &code)
 }
 
 /// Whether `set` writes the cell's field, and makes no object.
@@ -307,19 +295,15 @@ fn copies(
     )
 }
 
-fn make_all(rt: &impl Abort, alloc: Global, code: &Code) -> Result<(), Fail> {
-    assert!(rt; sets(alloc, code)?);
-    let made = gives(Value::Ref(3));
-    assert!(rt; copies(alloc, code, 10, made, 3)?);
-    // spent before the field of the new object is written
-    assert!(rt; copies(alloc, code, 5, SPENT, 0)?);
-    Ok(())
-}
-
 #[test]
 fn heaps(rt: HostRuntime) -> Result<(), Fail> {
     let code = code_of::<Cells>(rt.alloc())?;
-    make_all(&rt, rt.alloc(), &code)
+    assert!(rt; sets(rt.alloc(), &code)?);
+    let made = gives(Value::Ref(3));
+    assert!(rt; copies(rt.alloc(), &code, 10, made, 3)?);
+    // spent before the field of the new object is written
+    assert!(rt; copies(rt.alloc(), &code, 5, SPENT, 0)?);
+    Ok(())
 }
 
 /// Whether list and set are filled.
@@ -343,7 +327,9 @@ fn collections(rt: HostRuntime) -> Result<(), Fail> {
 }
 
 // `f` costs 6 and 9 for each call below it, `repOk` 5 more, `valid` 2 more.
-fn call_deep(rt: &impl Abort, alloc: Global, code: &Code) -> Result<(), Fail> {
+#[test]
+fn deep_calls(rt: HostRuntime) -> Result<(), Fail> {
+    let code = code_of::<Cells>(rt.alloc())?;
     let receiver = [Value::Ref(0)];
     for (fuel, end, left) in [
         (900_013, gives(Value::Bool(true)), 0),
@@ -351,15 +337,9 @@ fn call_deep(rt: &impl Abort, alloc: Global, code: &Code) -> Result<(), Fail> {
         (1_000_000_000, gives(Value::Bool(true)), 999_099_987),
     ] {
         assert!(rt;
-            ends(alloc, code, VALID, &receiver, fuel, end, left)?,
+            ends(rt.alloc(), &code, VALID, &receiver, fuel, end, left)?,
             "{fuel}"
         );
     }
     Ok(())
-}
-
-#[test]
-fn deep_calls(rt: HostRuntime) -> Result<(), Fail> {
-    let code = code_of::<Cells>(rt.alloc())?;
-    call_deep(&rt, rt.alloc(), &code)
 }

@@ -22,7 +22,6 @@ use kr_mean::{Kind, Stop};
 use kr_run_method::{Executed, Method, execute};
 use kr_value::{Class, Value};
 use std::alloc::Global;
-use std::process::Abort;
 use std::test::Fail;
 
 const BROKEN: u32 = 1;
@@ -51,11 +50,16 @@ fn returned(parts: &mut Parts, value: u32) -> Result<u32, NoMemory> {
     block(parts, statement)
 }
 
+/// A clause that catches objects of a class.
+fn catch(parts: &mut Parts, caught: u32, body: u32) -> Result<u32, NoMemory> {
+    parts.node(Node::Catch(Catch { caught, body }))
+}
+
 /// A clause that returns a number.
 fn clause(parts: &mut Parts, caught: u32, number: i64) -> Result<u32, NoMemory> {
     let value = parts.int(number)?;
     let body = returned(parts, value)?;
-    parts.node(Node::Catch(Catch { caught, body }))
+    catch(parts, caught, body)
 }
 
 /// A static method that is one `try`.
@@ -87,10 +91,7 @@ fn write_same(parts: &mut Parts) -> Result<(), NoMemory> {
     let body = block(parts, statement)?;
     let is_same = parts.binary(BinaryOperator::Equal, argument, caught)?;
     let answer = returned(parts, is_same)?;
-    let first = parts.node(Node::Catch(Catch {
-        caught: BROKEN,
-        body: answer,
-    }))?;
+    let first = catch(parts, BROKEN, answer)?;
     attempt(parts, body, &[first])
 }
 
@@ -118,10 +119,7 @@ fn write_anew(parts: &mut Parts) -> Result<(), NoMemory> {
     let caught = parts.put(Expression::Local(1))?;
     let statement = parts.statement(Statement::Throw(caught))?;
     let again = block(parts, statement)?;
-    let first = parts.node(Node::Catch(Catch {
-        caught: ARITHMETIC,
-        body: again,
-    }))?;
+    let first = catch(parts, ARITHMETIC, again)?;
     attempt(parts, body, &[first])
 }
 
@@ -205,7 +203,9 @@ fn ends(
     Ok(run.end == end && run.left == left && run.thrown == thrown)
 }
 
-fn run_all(rt: &impl Abort, alloc: Global, code: &Code) -> Result<(), Fail> {
+#[test]
+fn thrown_and_caught(rt: HostRuntime) -> Result<(), Fail> {
+    let code = code_of::<Cells>(rt.alloc())?;
     let zero = Value::Int(0);
     let object = Value::Ref(0);
     let made = Value::Ref(1);
@@ -230,15 +230,9 @@ fn run_all(rt: &impl Abort, alloc: Global, code: &Code) -> Result<(), Fail> {
         (ANEW, zero, 20, again, 10, Some(made)),
     ] {
         assert!(rt;
-            ends(alloc, code, number, value, fuel, end, left, thrown)?,
+            ends(rt.alloc(), &code, number, value, fuel, end, left, thrown)?,
             "{number} {fuel}"
         );
     }
     Ok(())
-}
-
-#[test]
-fn thrown_and_caught(rt: HostRuntime) -> Result<(), Fail> {
-    let code = code_of::<Cells>(rt.alloc())?;
-    run_all(&rt, rt.alloc(), &code)
 }

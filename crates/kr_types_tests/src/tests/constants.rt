@@ -1,12 +1,10 @@
 // Constants of two files: a quotient, and one with a zero divisor.
-ghost use Rattle.kr_classes_members.specs.Kept.{AreMembers};
-ghost use Rattle.kr_classes_names.specs.Shown.{AreHeads};
+ghost use Rattle.kr_sources.specs.Sources.{AreSources};
 
-use kr_ast::Tree;
 use kr_base::{NoMemory, Place};
 use kr_classes_constants::Values;
 use kr_classes_members::Members;
-use kr_classes_names::Heads;
+use kr_sources::Sources;
 use kr_value::Value;
 use std::alloc::Global;
 
@@ -22,15 +20,9 @@ fn values_fit(values: &Values, members: &Members) -> bool {
 }
 
 /// The half of 7, and 7 by 0.
-pub fn fit(
-    alloc: Global,
-    trees: &[Tree],
-    heads: &Heads,
-    members: &Members,
-) -> Result<bool, NoMemory>
-    requires heads { AreHeads trees.now heads.now }
-    requires members { AreMembers trees.now members.now }
+pub fn fit(alloc: Global, sources: &Sources<'_>) -> Result<bool, NoMemory>
+    requires { AreSources sources.now }
 {
-    let values = Values::read(alloc, trees, heads, members)?;
-    Ok(values_fit(&values, members))
+    let values = Values::read(alloc, sources.trees, sources.heads, sources.members)?;
+    Ok(values_fit(&values, sources.members))
 }

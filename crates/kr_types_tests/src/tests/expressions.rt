@@ -1,17 +1,14 @@
 // The creation of one array; a list of one value; calls and creations in a program without classes.
 ghost use Rattle.std.specs.Prelude.{◌≡◌, ◌<◌, length, IfOk};
-ghost use Rattle.kr_classes_members.specs.Kept.{AreMembers};
-ghost use Rattle.kr_classes_names.specs.Shown.{AreHeads};
 ghost use Rattle.kr_classes_names.specs.Types.{TypeList, count};
-ghost use Rattle.kr_classes_names.specs.Numbers.{AreNodeTypes};
 ghost use Rattle.kr_types_judging.specs.Classes.{AreClassTypes};
 ghost use Rattle.kr_types_judging.specs.Shown.{HasNoRest, IsKnownWithin, IsNoteWithin};
 ghost use Rattle.kr_types_expressions.specs.Notes.{AreNotesWithin, IsRestBelow};
+ghost use Rattle.kr_sources.specs.Sources.{AreSources};
 
-use kr_ast::Tree;
 use kr_base::{NoMemory, Place};
-use kr_classes_members::Members;
-use kr_classes_names::{Heads, NodeTypes, TypeForm, Types};
+use kr_classes_names::{NodeTypes, TypeForm, Types};
+use kr_sources::Sources;
 use kr_types_expressions::{
     NoteList, absent_note, array_creation_note, call_note, constructor_call_note, creation_note,
     list_note, method_call_note, super_call_note, this_note, value_types,
@@ -146,73 +143,43 @@ fn types_given(
 }
 
 /// All these, where the list has one int.
-fn rules_fit(
-    alloc: Global,
-    trees: &[Tree],
-    types: &Types,
-    members: &Members,
-    numbers: &NodeTypes,
-    notes: &NoteList,
-) -> Result<bool, NoMemory>
-    requires members { AreMembers trees.now members.now }
-    requires numbers { AreNodeTypes trees.now types.now numbers.now }
-    requires notes { AreNotesWithin types.now notes.now }
+fn rules_fit(alloc: Global, classes: &ClassTypes<'_>, notes: &NoteList) -> Result<bool, NoMemory>
+    requires classes { AreClassTypes classes.now }
+    requires notes { AreNotesWithin classes.now.types.now notes.now }
     requires two { length notes.now ≡ 2 }
 {
-    let classes = ClassTypes {
-        trees,
-        types,
-        members,
-        node_types: numbers,
-    };
-    let x = standing(types, notes, 1);
-    let given = types_given(alloc, types, notes, x.known)?;
-    let calls = broken_calls(alloc, &classes, notes, x)?;
-    let creations = broken_creations(alloc, &classes, notes, x)?;
+    let x = standing(classes.types, notes, 1);
+    let given = types_given(alloc, classes.types, notes, x.known)?;
+    let calls = broken_calls(alloc, classes, notes, x)?;
+    let creations = broken_creations(alloc, classes, notes, x)?;
     Ok(given == 1 && calls == (24, 33) && creations == (26, 34, 24))
 }
 
 /// The list is read beside the members and the types.
-fn list_fits(
-    alloc: Global,
-    trees: &[Tree],
-    types: &Types,
-    members: &Members,
-    numbers: &NodeTypes,
-) -> Result<bool, NoMemory>
-    requires members { AreMembers trees.now members.now }
-    requires numbers { AreNodeTypes trees.now types.now numbers.now }
+fn list_fits(alloc: Global, classes: &ClassTypes<'_>) -> Result<bool, NoMemory>
+    requires { AreClassTypes classes.now }
 {
-    let notes = one_int(alloc, types)?;
-    rules_fit(alloc, trees, types, members, numbers, &notes)
+    let notes = one_int(alloc, classes.types)?;
+    rules_fit(alloc, classes, &notes)
 }
 
-fn read_fits(
-    alloc: Global,
-    trees: &[Tree],
-    heads: &Heads,
-    members: &Members,
-    types: &mut Types,
-) -> Result<bool, NoMemory>
-    requires few { length trees.now < 65 }
-    requires heads { AreHeads trees.now heads.now }
-    requires members { AreMembers trees.now members.now }
+fn read_fits(alloc: Global, sources: &Sources<'_>, types: &mut Types) -> Result<bool, NoMemory>
+    requires { AreSources sources.now }
 {
-    let numbers = NodeTypes::read(alloc, trees, heads, types)?;
-    list_fits(alloc, trees, types, members, &numbers)
+    let numbers = NodeTypes::read(alloc, sources.trees, sources.heads, types)?;
+    let classes = ClassTypes {
+        trees: sources.trees,
+        types: &*types,
+        members: sources.members,
+        node_types: &numbers,
+    };
+    list_fits(alloc, &classes)
 }
 
 /// Calls and creations in a program without classes.
-pub fn calls_fit(
-    alloc: Global,
-    trees: &[Tree],
-    heads: &Heads,
-    members: &Members,
-) -> Result<bool, NoMemory>
-    requires few { length trees.now < 65 }
-    requires heads { AreHeads trees.now heads.now }
-    requires members { AreMembers trees.now members.now }
+pub fn calls_fit(alloc: Global, sources: &Sources<'_>) -> Result<bool, NoMemory>
+    requires { AreSources sources.now }
 {
     let mut types = Types::new(alloc)?;
-    read_fits(alloc, trees, heads, members, &mut types)
+    read_fits(alloc, sources, &mut types)
 }

@@ -1,16 +1,10 @@
 // Two small files, and each layer's answers.
-ghost use Rattle.std.specs.Prelude.{◌<◌, length};
-ghost use Rattle.kr_classes_members.specs.Kept.{AreMembers};
-ghost use Rattle.kr_classes_names.specs.Shown.{AreHeads};
 
 use crate::tests::{
     classes, constants, expressions, members, names, roster, statements, type_numbers,
 };
-use kr_ast::Tree;
 use kr_base::NoMemory;
-use kr_classes_members::Members;
-use kr_classes_names::Heads;
-use kr_sources::{Unread, two_trees};
+use kr_sources::{Check, Sources, Unread, holds_of};
 use std::alloc::Global;
 
 /// A layer to test.
@@ -27,49 +21,20 @@ enum Layer {
     Table,
 }
 
-/// Whether a layer says of the files what it should.
-fn members_fit(
-    alloc: Global,
-    layer: Layer,
-    trees: &[Tree],
-    heads: &Heads,
-    members: &Members,
-) -> Result<bool, NoMemory>
-    requires few { length trees.now < 65 }
-    requires heads { AreHeads trees.now heads.now }
-    requires members { AreMembers trees.now members.now }
-{
-    match layer {
-        Layer::Names => names::fit(alloc, trees, heads),
-        Layer::Members => members::fit(alloc, members),
-        Layer::Roster => roster::fit(alloc, members),
-        Layer::Constants => constants::fit(alloc, trees, heads, members),
-        Layer::NodeTypes => type_numbers::fit(alloc, trees, heads),
-        Layer::Sets => statements::set_fits(alloc, trees, heads),
-        Layer::Calls => expressions::calls_fit(alloc, trees, heads, members),
-        Layer::Hierarchy => Ok(classes::hierarchy_fits(alloc, trees)),
-        Layer::Table => Ok(classes::table_fits(alloc, trees)),
+impl Check for Layer {
+    fn holds(&self, alloc: Global, sources: &Sources<'_>) -> Result<bool, NoMemory> {
+        match self {
+            Layer::Names => names::fit(alloc, sources),
+            Layer::Members => members::fit(alloc, sources.members),
+            Layer::Roster => roster::fit(alloc, sources.members),
+            Layer::Constants => constants::fit(alloc, sources),
+            Layer::NodeTypes => type_numbers::fit(alloc, sources),
+            Layer::Sets => statements::set_fits(alloc, sources),
+            Layer::Calls => expressions::calls_fit(alloc, sources),
+            Layer::Hierarchy => Ok(classes::hierarchy_fits(alloc, sources.trees)),
+            Layer::Table => Ok(classes::table_fits(alloc, sources.trees)),
+        }
     }
-}
-
-fn heads_fit(alloc: Global, layer: Layer, trees: &[Tree], heads: &Heads) -> Result<bool, NoMemory>
-    requires few { length trees.now < 65 }
-    requires heads { AreHeads trees.now heads.now }
-{
-    let members = Members::read(alloc, trees, heads)?;
-    members_fit(alloc, layer, trees, heads, &members)
-}
-
-fn trees_fit(alloc: Global, layer: Layer, trees: &[Tree]) -> Result<bool, NoMemory>
-    requires { length trees.now < 65 }
-{
-    let heads = Heads::read(alloc, trees)?;
-    heads_fit(alloc, layer, trees, &heads)
-}
-
-fn fits(alloc: Global, layer: Layer, first: &str, second: &str) -> Result<bool, Unread> {
-    let trees = two_trees(alloc, first, second)?;
-    Ok(trees_fit(alloc, layer, &trees)?)
 }
 
 #[test]
@@ -109,7 +74,7 @@ fn two_files(rt: HostRuntime) -> Result<(), Unread> {
             "class Below extends Above { }",
         ),
     ] {
-        let fits = fits(rt.alloc(), layer, first, second)?;
+        let fits = holds_of(rt.alloc(), &layer, first, second)?;
         assert!(rt; fits, "{first} {second}");
     }
     Ok(())

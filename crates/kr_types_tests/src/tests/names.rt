@@ -1,16 +1,17 @@
 // The classes of two small files.
-ghost use Rattle.kr_classes_names.specs.Shown.{AreHeads};
+ghost use Rattle.kr_sources.specs.Sources.{AreSources};
 
-use kr_ast::Tree;
 use kr_base::NoMemory;
-use kr_classes_names::{Heads, superclasses};
+use kr_classes_names::superclasses;
+use kr_sources::Sources;
 use std::alloc::Global;
 
 /// `Above`, which extends none of the classes, and `Below`, which extends it.
-pub fn fit(alloc: Global, trees: &[Tree], heads: &Heads) -> Result<bool, NoMemory>
-    requires { AreHeads trees.now heads.now }
+pub fn fit(alloc: Global, sources: &Sources<'_>) -> Result<bool, NoMemory>
+    requires { AreSources sources.now }
 {
-    let supers = superclasses(alloc, trees, heads)?;
+    let heads = sources.heads;
+    let supers = superclasses(alloc, sources.trees, heads)?;
     Ok(
         heads.len() == 2
             && heads.number_of(b"Below") == Some(1)

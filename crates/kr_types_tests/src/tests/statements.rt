@@ -1,13 +1,14 @@
 // Types that are made of others: an array, and a set of arrays.
-ghost use Rattle.std.specs.Prelude.{◌<◌, IfSome, length};
-ghost use Rattle.kr_classes_names.specs.Shown.{AreHeads};
+ghost use Rattle.std.specs.Prelude.{◌<◌, IfSome};
 ghost use Rattle.kr_classes_names.specs.Types.{TypeList, count};
 ghost use Rattle.kr_classes_names.specs.Numbers.{AreNodeTypes};
 ghost use Rattle.kr_types_judging.specs.Shown.{IsNoteWithin};
+ghost use Rattle.kr_sources.specs.Sources.{AreSources};
 
 use kr_ast::{Node, Tree};
 use kr_base::{NoMemory, Place};
-use kr_classes_names::{Heads, NodeTypes, TypeForm, Types};
+use kr_classes_names::{NodeTypes, TypeForm, Types};
+use kr_sources::Sources;
 use kr_types_judging::{Known, Note, Typed};
 use kr_types_statements::{array_type_note, generic_type_note};
 use std::alloc::Global;
@@ -103,30 +104,23 @@ fn applied_fits(
     Ok(is_collection(types, set))
 }
 
-fn read_fits(
-    alloc: Global,
-    trees: &[Tree],
-    heads: &Heads,
-    types: &mut Types,
-) -> Result<bool, NoMemory>
-    requires few { length trees.now < 65 }
-    requires heads { AreHeads trees.now heads.now }
+fn read_fits(alloc: Global, sources: &Sources<'_>, types: &mut Types) -> Result<bool, NoMemory>
+    requires { AreSources sources.now }
 {
     let int = types.int();
     let array = types.number(TypeForm::Array(int))?;
-    let numbers = NodeTypes::read(alloc, trees, heads, types)?;
+    let numbers = NodeTypes::read(alloc, sources.trees, sources.heads, types)?;
     if (array as usize) < types.len() {
-        applied_fits(trees, types, &numbers, array)
+        applied_fits(sources.trees, types, &numbers, array)
     } else {
         Ok(false)
     }
 }
 
 /// The name `HashSet` of a file, applied to `int[]`.
-pub fn set_fits(alloc: Global, trees: &[Tree], heads: &Heads) -> Result<bool, NoMemory>
-    requires few { length trees.now < 65 }
-    requires heads { AreHeads trees.now heads.now }
+pub fn set_fits(alloc: Global, sources: &Sources<'_>) -> Result<bool, NoMemory>
+    requires { AreSources sources.now }
 {
     let mut types = Types::new(alloc)?;
-    read_fits(alloc, trees, heads, &mut types)
+    read_fits(alloc, sources, &mut types)
 }

@@ -1,10 +1,9 @@
 // The types of one small class, and a set of arrays.
-ghost use Rattle.std.specs.Prelude.{◌<◌, length};
-ghost use Rattle.kr_classes_names.specs.Shown.{AreHeads};
+ghost use Rattle.kr_sources.specs.Sources.{AreSources};
 
-use kr_ast::Tree;
 use kr_base::NoMemory;
-use kr_classes_names::{Heads, NodeTypes, TypeForm, Types};
+use kr_classes_names::{NodeTypes, TypeForm, Types};
+use kr_sources::Sources;
 use std::alloc::Global;
 
 /// Whether a node of the first file names the type of a number.
@@ -24,28 +23,21 @@ fn numbers_fit(types: &mut Types, numbers: &NodeTypes) -> Result<bool, NoMemory>
     Ok(types.len() == 7 && is_named(numbers, element) && is_named(numbers, array))
 }
 
-fn read_fit(
-    alloc: Global,
-    trees: &[Tree],
-    heads: &Heads,
-    types: &mut Types,
-) -> Result<bool, NoMemory>
-    requires few { length trees.now < 65 }
-    requires heads { AreHeads trees.now heads.now }
+fn read_fit(alloc: Global, sources: &Sources<'_>, types: &mut Types) -> Result<bool, NoMemory>
+    requires { AreSources sources.now }
 {
     let before = types.len();
-    let numbers = NodeTypes::read(alloc, trees, heads, types)?;
+    let numbers = NodeTypes::read(alloc, sources.trees, sources.heads, types)?;
     let fit = numbers_fit(types, &numbers)?;
     Ok(before == 6 && fit)
 }
 
 /// A class with a field of type `int[]`.
-pub fn fit(alloc: Global, trees: &[Tree], heads: &Heads) -> Result<bool, NoMemory>
-    requires few { length trees.now < 65 }
-    requires heads { AreHeads trees.now heads.now }
+pub fn fit(alloc: Global, sources: &Sources<'_>) -> Result<bool, NoMemory>
+    requires { AreSources sources.now }
 {
     let mut types = Types::new(alloc)?;
-    read_fit(alloc, trees, heads, &mut types)
+    read_fit(alloc, sources, &mut types)
 }
 
 /// A set of arrays is known, and an array type equals itself.

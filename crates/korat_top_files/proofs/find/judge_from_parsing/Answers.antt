@@ -4,8 +4,8 @@ use Rattle.std.specs.Prelude.{map}
 use Rattle.kr_ast.specs.Arena.{Arena, root}
 use Rattle.kr_ast.specs.Tree.{Tree}
 use Rattle.kr_classes_table.specs.Predefined.{predefined, with_predefined}
-use Rattle.kr_laws_shapes.specs.Shapes.{AreClasses}
-use Rattle.kr_laws_shapes.proofs.Predefined.{predefined_shape}
+use Rattle.kr_laws_types.specs.Derivation.{AreClasses}
+use Rattle.kr_laws_types.proofs.Predefined.{predefined_shape}
 use Rattle.kr_space_problem.specs.Posed.{posed}
 use Rattle.korat_top_files.specs.Chains.{MOST_NODES, each, growing, from_grown}
 use Rattle.korat_top_files.specs.Found.{AreGrown, Meets}

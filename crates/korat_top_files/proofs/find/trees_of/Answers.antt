@@ -3,7 +3,7 @@ use Rattle.std.specs.Prelude.{All, Ok, map}
 use Rattle.std.proofs.lemmas.List.{map-append}
 use Rattle.std.proofs.lemmas.List.Elements.{All-push}
 use Rattle.kr_ast.specs.Arena.{Arena, root}
-use Rattle.kr_laws_shapes.specs.Shapes.{AreClasses}
+use Rattle.kr_laws_types.specs.Derivation.{AreClasses}
 use Rattle.korat_top_files.specs.Found.{AreShaped}
 use Rattle.korat_top_files.specs.Chains.{MOST_NODES, each, growing}
 use Rattle.korat_top_files.proofs.Outcomes.{each_next, stops_each}

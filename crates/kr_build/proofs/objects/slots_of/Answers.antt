@@ -7,7 +7,7 @@ use Rattle.kr_space_layout.specs.Bounds.{bare}
 use Rattle.kr_space_layout.specs.Layouts.{first_slot}
 use Rattle.kr_iso.specs.Objects.{object_of}
 use Rattle.kr_build.specs.Extents.{extent_of, is_array}
-use Rattle.kr_laws_slots.proofs.Numbering.{width_at}
+use Rattle.kr_laws_pruning.proofs.Numbering.{width_at}
 use Rattle.kr_build.proofs.Rows.{row, narrow, array_short}
 use Rattle.kr_build.proofs.objects.slots_of.Goals as goal
 

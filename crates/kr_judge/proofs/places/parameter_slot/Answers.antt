@@ -1,7 +1,7 @@
 use Rattle.std.proofs.Common.{◌<◌, ◌+◌, ◌^◌, arith, rules, sym}
 use Rattle.kr_space_layout.specs.Bounds.{bare}
 use Rattle.kr_build.proofs.Rows.{roots_inside}
-use Rattle.kr_laws_slots.proofs.Places.{parameter_slots_are}
+use Rattle.kr_laws_pruning.proofs.Places.{parameter_slots_are}
 use Rattle.kr_judge.proofs.Spots.{no_parameter}
 use Rattle.kr_judge.proofs.places.parameter_slot.Goals as goal
 

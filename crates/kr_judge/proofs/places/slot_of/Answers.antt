@@ -4,7 +4,7 @@ use Rattle.kr_iso.specs.declared.object.Object.{Object}
 use Rattle.kr_mean.specs.Runs.{slots_for}
 use Rattle.kr_space_layout.specs.Bounds.{bare}
 use Rattle.kr_space_layout.specs.Numbers.{IsFound}
-use Rattle.kr_laws_slots.proofs.Places.{this_slots}
+use Rattle.kr_laws_pruning.proofs.Places.{this_slots}
 use Rattle.kr_mean.specs.Places.{place_of}
 use Rattle.kr_value.specs.declared.place.SlotPlace.{SlotPlace}
 use Rattle.kr_judge.proofs.Spots.{no_object}

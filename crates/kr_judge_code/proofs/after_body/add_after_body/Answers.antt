@@ -2,7 +2,7 @@ use Rattle.std.proofs.Common.{◌≡◌, refl, sym, ap, ◌∙◌, subst, List, 
 use Rattle.kr_ast.specs.Tree.{Tree}
 use Rattle.kr_classes_table.specs.Table.{items}
 use Rattle.kr_types_meaning.specs.Running.{running}
-use Rattle.kr_laws_shapes.specs.Shapes.{AreContractLines, IsContractLine}
+use Rattle.kr_laws_types.specs.Derivation.{AreContractLines, IsContractLine}
 use Rattle.kr_code_lowering.specs.declared.site.Site.{Site}
 use Rattle.kr_code_lowering.specs.Origins.{numbering_of}
 use Rattle.kr_code_lowering.specs.Sites.{IsSite, scope_at, tree_at}

@@ -3,7 +3,7 @@ use Rattle.kr_ast.specs.Tree.{Tree}
 use Rattle.kr_classes_table.specs.Table.{items}
 use Rattle.kr_types_meaning.specs.Scopes.{Scope}
 use Rattle.kr_types_meaning.specs.Running.{running}
-use Rattle.kr_laws_shapes.specs.Shapes.{AreContractLines}
+use Rattle.kr_laws_types.specs.Derivation.{AreContractLines}
 use Rattle.kr_code_lowering.specs.Origins.{Final, numbering_of}
 use Rattle.kr_code_lowering.specs.Sites.{IsSite, scope_at, tree_at}
 use Rattle.kr_judge_code.specs.Olds.{AreAdded}

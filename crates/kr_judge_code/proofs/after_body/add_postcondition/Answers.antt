@@ -1,6 +1,6 @@
 use Rattle.std.proofs.Common.{◌≡◌, refl, sym, subst, false, ◌++◌}
 use Rattle.kr_ast.specs.declared.node.Node.TheVariants as nodes
-use Rattle.kr_laws_shapes.specs.Shapes.{IsContractLine, IsExpression}
+use Rattle.kr_laws_types.specs.Derivation.{IsContractLine, IsExpression}
 use Rattle.kr_code_lowering.specs.declared.site.Site.{Site}
 use Rattle.kr_code_lowering.specs.Sites.{IsSite, tree_at}
 use Rattle.kr_code_lowering.proofs.Naming.{parts_are}

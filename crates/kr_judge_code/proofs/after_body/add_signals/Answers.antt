@@ -1,6 +1,6 @@
 use Rattle.std.proofs.Common.{◌≡◌, refl, sym, ap, ◌∙◌, subst, ◌++◌, ◌+◌, Bool}
 use Rattle.kr_ast.specs.declared.node.Node.TheVariants as nodes
-use Rattle.kr_laws_shapes.specs.Shapes.{IsContractLine, IsExpression, IsSignalled}
+use Rattle.kr_laws_types.specs.Derivation.{IsContractLine, IsExpression, IsSignalled}
 use Rattle.kr_mean.specs.Verdicts.{names_thrown}
 use Rattle.kr_code_lowering.specs.declared.site.Site.{Site}
 use Rattle.kr_code_lowering.specs.Origins.{node_tree}

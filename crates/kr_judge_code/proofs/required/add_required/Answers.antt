@@ -3,7 +3,7 @@ use Rattle.std.specs.Prelude.{option_to_list}
 use Rattle.kr_ast.specs.Tree.{Tree}
 use Rattle.kr_classes_table.specs.Table.{items}
 use Rattle.kr_types_meaning.specs.Running.{running}
-use Rattle.kr_laws_shapes.specs.Shapes.{AreContractLines}
+use Rattle.kr_laws_types.specs.Derivation.{AreContractLines}
 use Rattle.kr_code_lowering.specs.declared.site.Site.{Site}
 use Rattle.kr_code_lowering.specs.Origins.{numbering_of}
 use Rattle.kr_code_lowering.specs.Sites.{IsSite, scope_at, tree_at}

@@ -2,7 +2,7 @@ use Rattle.std.proofs.Common.{◌≡◌, ℕ, ◌+◌, ◌⊎◌, inl, inr, List
 use Rattle.std.proofs.lemmas.Bool.{cases_eq}
 use Rattle.kr_mean.specs.Readings.{Lacks}
 use Rattle.kr_mean.specs.Runs.{contains_number}
-use Rattle.kr_laws_slots.proofs.Numbers.{has_number, lacks_number, has_not, no_lacks}
+use Rattle.kr_laws_pruning.proofs.Numbers.{has_number, lacks_number, has_not, no_lacks}
 use Rattle.kr_plain.specs.Plain.{IsSettledUpto}
 use Rattle.kr_plain.proofs.listed.is_settled.Goals as goal
 use Rattle.kr_plain.proofs.listed.is_settled.Goals.{else-index-ne0-via-then-index-ne0+else-not-has_slot, else-index-ne0-via-else-index-ne0}

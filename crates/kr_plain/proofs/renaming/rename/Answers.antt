@@ -5,7 +5,7 @@ use Rattle.kr_mean.specs.Blocks.{on_slot, on_index}
 use Rattle.kr_mean.specs.Problem.{choices_at, slots}
 use Rattle.kr_space_layout.specs.Bounds.{bare}
 use Rattle.kr_iso.proofs.Moves.{renames}
-use Rattle.kr_laws_slots.proofs.Spaces.{is_space}
+use Rattle.kr_laws_pruning.proofs.Spaces.{is_space}
 use Rattle.kr_plain.proofs.Moving.{Renames, index_room, renamed_whole, renames_more, slot_room, starts}
 use Rattle.kr_plain.proofs.renaming.rename.Goals as goal
 

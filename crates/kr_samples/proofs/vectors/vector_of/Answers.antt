@@ -2,7 +2,7 @@ use Rattle.std.proofs.Common.{◌<◌, ◌∙◌, ℕ, List, sym, subst, arith, 
 use Rattle.kr_mean.specs.Problem.{slots}
 use Rattle.kr_mean.specs.Space.{IsVector, space_of}
 use Rattle.kr_space_layout.specs.Bounds.{bare}
-use Rattle.kr_laws_slots.proofs.Spaces.{is_space}
+use Rattle.kr_laws_pruning.proofs.Spaces.{is_space}
 use Rattle.kr_plain.proofs.Moving.{vector_set, vector_zero}
 use Rattle.kr_samples.proofs.vectors.vector_of.Goals as goal
 use Rattle.kr_samples.proofs.vectors.vector_of.Goals.{then-index-size, else-index-size}

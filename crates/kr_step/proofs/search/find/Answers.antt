@@ -1,5 +1,7 @@
-use Rattle.std.proofs.Common.{◌≡◌, ◌++◌, ℕ, List, true, false, ap, ◌∙◌, subst}
+use Rattle.std.proofs.Common.{◌≡◌, ◌++◌, ℕ, List, true, false, ap, sym, ◌∙◌, subst}
+use Rattle.kr_mean.specs.Space.{Space}
 use Rattle.kr_step.specs.declared.stage.Stage.{Stage}
+use Rattle.kr_step.specs.Limits.{Opens}
 use Rattle.kr_step.specs.Steps.{IsStuck, path_of}
 use Rattle.kr_step.specs.Stages.{StandsAt}
 use Rattle.kr_step.proofs.Keeps.{keeps_cut}
@@ -24,8 +26,8 @@ returns-then-not-advance-clause-found g c = λ after stands.
     let on = back S o m c.args.stage.now after w (g.C.Candidate.vector c.advance.new.candidates) c.args.path.now.items c.advance.new.path.items c.advance.result false c.in-Behind.is c.if-not-advance.true (c.advance.ensures.advanced after) stands in
     on.1
 
-pub arrive-requires-in-Behind : goal.arrive-requires-in-Behind
-arrive-requires-in-Behind g c =
+pub arrive-requires-in-Behind-clause-moved : goal.arrive-requires-in-Behind-clause-moved
+arrive-requires-in-Behind-clause-moved g c =
     let S = g.C.Slots.space c.args.candidates.now in
     let o = g.C.Candidate.order c.args.candidates.now in
     let m = g.C.Candidate.ending c.args.candidates.now in
@@ -45,3 +47,6 @@ returns-in_ok-ending-in-Behind-clause-kept g c = λ after stands.
     let path : c.arrive-in-Behind.new.path.items ≡ c.advance.new.path.items ++ on.leads.0 = c.in_ok-ending-in-Behind.ensures.path ∙ (ap (λ (q : List ℕ → List ℕ). path_of x (q x)) c.advance.ensures.order ∙ on.leads.1) in
     let keeps = keeps_cut after stuck.cut.0 c.args.path.now.items c.advance.new.path.items c.arrive-in-Behind.new.path.items on.leads.0 stuck.cut.1 (c.advance.ensures.front c.if-not-advance.false) path in
     rw c.as_slice.ensures.value keeps
+
+pub arrive-requires-in-Behind-clause-opens : goal.arrive-requires-in-Behind-clause-opens
+arrive-requires-in-Behind-clause-opens g c = subst (λ (S : Space). Opens S c.advance.new.path.items c.advance.new.limit) (sym c.advance.ensures.space) c.advance.ensures.opens

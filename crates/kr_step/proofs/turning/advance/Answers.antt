@@ -1,65 +1,42 @@
-use Rattle.std.proofs.Common.{◌≡◌, ℕ, List, [], ◌∷◌, ◌++◌, Bool, true, false, Vec, Global, sym, subst, ap, ◌∙◌, ◌-◌, take, append-nil, arith, vec_len}
+use Rattle.std.proofs.Common.{ℕ, Bool, Vec, Global, subst}
+use Rattle.kr_step.specs.Keeps.{Follows}
 use Rattle.kr_step.specs.Steps.{IsStuck}
 use Rattle.kr_step.specs.Turns.{Turned}
-use Rattle.kr_step.proofs.Turns.{stuck_along, turned_along, none_left}
-use Rattle.kr_step.proofs.Keeps.{one_less, follows_on}
+use Rattle.kr_step.proofs.Limits.{advanced_along, opens_none}
+use Rattle.kr_step.proofs.Turns.{stuck_along}
 use Rattle.kr_step.proofs.turning.advance.Goals as goal
 
-pub returns-then-raise-clause-advanced : goal.returns-then-raise-clause-advanced
-returns-then-raise-clause-advanced g c = λ after stuck.
+pub returns-then-step_on-clause-advanced : goal.returns-then-step_on-clause-advanced
+returns-then-step_on-clause-advanced g c = λ after stuck.
     let S = g.C.Slots.space c.args.candidates.now in
     let o = g.C.Candidate.order c.args.candidates.now in
-    let T = g.C.Slots.space c.loop-slot.candidates in
-    let p = g.C.Candidate.order c.loop-slot.candidates in
-    let v = g.C.Candidate.vector c.loop-slot.candidates in
-    let inv = c.loop-slot.invariant in
-    let here : IsStuck S o after v (c.pop.new.self.items ++ (c.in-Some.slot, c.in-Some.index) ∷ []) = subst (IsStuck S o after v) c.in-Some.ensures.items (inv.stuck after stuck) in
-    let there = stuck_along S T o p after v (c.pop.new.self.items ++ (c.in-Some.slot, c.in-Some.index) ∷ []) inv.space inv.order here in
-    let turned : Turned T p after true (g.C.Candidate.vector c.raise.new.candidates) c.raise.new.path.items = subst (λ (b : Bool). Turned T p after b (g.C.Candidate.vector c.raise.new.candidates) c.raise.new.path.items) c.if-raise.true (c.raise.ensures.turned after there) in
-    turned_along S T o p after true (g.C.Candidate.vector c.raise.new.candidates) c.raise.new.path.items inv.space inv.order turned
+    subst (λ (b : Bool). Turned S o after b (g.C.Candidate.vector c.step_on.new.candidates) c.step_on.new.path.items) c.if-step_on.true (c.step_on.ensures.stepped after stuck)
 
-pub loop-slot-smaller : goal.loop-slot-smaller
-loop-slot-smaller g c =
-    let kept = ap vec_len (c.raise.ensures.kept c.if-raise.false) in
-    omega (arith, kept, c.in-Some.ensures.len)
-
-pub loop-slot-preserved : goal.loop-slot-preserved
-loop-slot-preserved g c =
+pub go_back-requires : goal.go_back-requires
+go_back-requires g c =
     let S = g.C.Slots.space c.args.candidates.now in
     let o = g.C.Candidate.order c.args.candidates.now in
-    let T = g.C.Slots.space c.loop-slot.candidates in
-    let p = g.C.Candidate.order c.loop-slot.candidates in
-    let v = g.C.Candidate.vector c.loop-slot.candidates in
-    let inv = c.loop-slot.invariant in
-    let fewer = one_less c.args.path.now.items c.loop-slot.path.items inv.gone.0 c.pop.new.self.items (c.in-Some.slot, c.in-Some.index) inv.gone.1 c.in-Some.ensures.items in
-    let gone : c.args.path.now.items ≡ c.raise.new.path.items ++ ((c.in-Some.slot, c.in-Some.index) ∷ [] ++ inv.gone.0) = fewer ∙ ap (λ (v : Vec (ℕ × ℕ) Global). v.items ++ ((c.in-Some.slot, c.in-Some.index) ∷ [] ++ inv.gone.0)) (sym (c.raise.ensures.kept c.if-raise.false)) in
-    let on : (after : List ℕ) → IsStuck S o after v c.loop-slot.path.items → IsStuck S o after (g.C.Candidate.vector c.raise.new.candidates) c.raise.new.path.items = λ after stuck.
-    let here : IsStuck S o after v (c.pop.new.self.items ++ (c.in-Some.slot, c.in-Some.index) ∷ []) = subst (IsStuck S o after v) c.in-Some.ensures.items stuck in
-    let there = stuck_along S T o p after v (c.pop.new.self.items ++ (c.in-Some.slot, c.in-Some.index) ∷ []) inv.space inv.order here in
-    let turned : Turned T p after false (g.C.Candidate.vector c.raise.new.candidates) c.raise.new.path.items = subst (λ (b : Bool). Turned T p after b (g.C.Candidate.vector c.raise.new.candidates) c.raise.new.path.items) c.if-raise.false (c.raise.ensures.turned after there) in
-    turned_along S T o p after false (g.C.Candidate.vector c.raise.new.candidates) c.raise.new.path.items inv.space inv.order turned in
-    record {
-      space = c.raise.ensures.space ∙ inv.space;
-      order = c.raise.ensures.order ∙ inv.order;
-      ending = c.raise.ensures.ending ∙ inv.ending;
-      some = (inv.some.0, on inv.some.0 inv.some.1);
-      stuck = λ after stuck. on after (inv.stuck after stuck);
-      gone = ((c.in-Some.slot, c.in-Some.index) ∷ [] ++ inv.gone.0, gone);
-    }
+    let v = g.C.Candidate.vector c.step_on.new.candidates in
+    let path = c.step_on.new.path.items in
+    let after = c.requires.stuck.0 in
+    let here : IsStuck S o after v path = subst (λ (b : Bool). Turned S o after b v path) c.if-step_on.false (c.step_on.ensures.stepped after c.requires.stuck.1) in
+    (after, stuck_along S (g.C.Slots.space c.step_on.new.candidates) o (g.C.Candidate.order c.step_on.new.candidates) after v path c.step_on.ensures.space c.step_on.ensures.order here)
+
+pub returns-clause-opens : goal.returns-clause-opens
+returns-clause-opens g c = opens_none (g.C.Slots.space c.args.candidates.now) c.go_back.new.path.items
 
 pub returns-clause-advanced : goal.returns-clause-advanced
 returns-clause-advanced g c = λ after stuck.
     let S = g.C.Slots.space c.args.candidates.now in
     let o = g.C.Candidate.order c.args.candidates.now in
-    let m = g.C.Candidate.ending c.args.candidates.now in
-    let v = g.C.Candidate.vector c.loop-slot.candidates in
-    let empty : c.pop.new.self.items ≡ [] = c.in_default.ensures.rest ∙ ap (λ (n : ℕ). take (n - 1) c.loop-slot.path.items) c.in_default.ensures.cases.0 in
-    let items : c.loop-slot.path.items ≡ c.pop.new.self.items = c.in_default.ensures.items ∙ append-nil c.pop.new.self.items in
-    let here : IsStuck S o after v c.pop.new.self.items = subst (IsStuck S o after v) items (c.loop-slot.invariant.stuck after stuck) in
-    (here, none_left S o m c.laws.ensures.space c.laws.ensures.reading after v c.pop.new.self.items empty here)
+    let T = g.C.Slots.space c.step_on.new.candidates in
+    let p = g.C.Candidate.order c.step_on.new.candidates in
+    let v = g.C.Candidate.vector c.step_on.new.candidates in
+    let path = c.step_on.new.path.items in
+    let here : IsStuck S o after v path = subst (λ (b : Bool). Turned S o after b v path) c.if-step_on.false (c.step_on.ensures.stepped after stuck) in
+    advanced_along S T o p after c.go_back.result (g.C.Candidate.vector c.go_back.new.candidates) c.go_back.new.path.items c.step_on.ensures.space c.step_on.ensures.order
+    (c.go_back.ensures.advanced after (stuck_along S T o p after v path c.step_on.ensures.space c.step_on.ensures.order here))
 
-pub returns-then-raise-clause-front : goal.returns-then-raise-clause-front
-returns-then-raise-clause-front g c = λ t.
-    let gone = c.loop-slot.invariant.gone in
-    let old = one_less c.args.path.now.items c.loop-slot.path.items gone.0 c.pop.new.self.items (c.in-Some.slot, c.in-Some.index) gone.1 c.in-Some.ensures.items in
-    follows_on c.args.path.now.items c.pop.new.self.items c.raise.new.path.items ((c.in-Some.slot, c.in-Some.index) ∷ [] ++ gone.0) old (c.raise.ensures.front c.if-raise.true)
+pub returns-clause-front : goal.returns-clause-front
+returns-clause-front g c = λ t.
+    subst (λ (x : Vec (ℕ × ℕ) Global). Follows x.items c.go_back.new.path.items) (c.step_on.ensures.kept c.if-step_on.false) (c.go_back.ensures.front t)

@@ -1,12 +1,16 @@
 use Rattle.kr_types_meaning.specs.Rules as rules
 use Rattle.kr_types_judging.specs.Shown.{note_shown}
-use Rattle.kr_types_expressions.proofs.Asking.{concludes_two}
+use Rattle.kr_types_expressions.proofs.Asking.{judged_two}
 use Rattle.kr_types_expressions.proofs.elements.element_note.Goals as goal
 
-pub returns-clause-within : goal.returns-clause-within
-returns-clause-within c = c.conclude.ensures.within c.args.types.now c.element_verdict-verdict.ensures.within
+pub returns-in-Some-Some-clause-within : goal.returns-in-Some-Some-clause-within
+returns-in-Some-Some-clause-within c = c.conclude.ensures.within c.args.types.now c.element_rule.ensures.within
 
-pub returns-clause-shown : goal.returns-clause-shown
-returns-clause-shown c = λ look.
+pub returns-in-Some-Some-clause-shown : goal.returns-in-Some-Some-clause-shown
+returns-in-Some-Some-clause-shown c = λ look.
     let l = c.args.types.now in
-    concludes_two c.args.place rules.element_rule (note_shown l look c.args.x) (note_shown l look c.args.y) c.element_verdict-verdict.ensures.says (c.part_type-first.ensures.shown l look) (c.part_type-second.ensures.shown l look) c.earlier.ensures (c.conclude.ensures.shown l look)
+    let p = c.in-Some-Some in
+    judged_two c.args.place rules.element_rule (note_shown l look c.args.x) (note_shown l look c.args.y) c.element_rule.ensures.says (p.ensures.shown l look) (p.ensures'.shown l look) c.earlier-least.ensures (c.conclude.ensures.shown l look)
+
+pub returns-in_default-clause-within : goal.returns-in_default-clause-within
+returns-in_default-clause-within c = c.plain.ensures.within c.args.types.now

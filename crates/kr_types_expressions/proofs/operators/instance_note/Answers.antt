@@ -1,13 +1,17 @@
 use Rattle.kr_types_meaning.specs.Rules as rules
 use Rattle.kr_types_scopes.specs.Settings.{scope_in}
 use Rattle.kr_types_judging.specs.Shown.{note_shown}
-use Rattle.kr_types_expressions.proofs.Asking.{concludes_two}
+use Rattle.kr_types_expressions.proofs.Asking.{judged_two}
 use Rattle.kr_types_expressions.proofs.operators.instance_note.Goals as goal
 
-pub returns-clause-within : goal.returns-clause-within
-returns-clause-within c = c.conclude.ensures.within c.args.types.now c.instance_verdict-verdict.ensures.within
+pub returns-in-Some-Some-clause-within : goal.returns-in-Some-Some-clause-within
+returns-in-Some-Some-clause-within c = c.conclude.ensures.within c.args.types.now c.instance_rule.ensures.within
 
-pub returns-clause-shown : goal.returns-clause-shown
-returns-clause-shown c = λ files g bs look h e.
+pub returns-in-Some-Some-clause-shown : goal.returns-in-Some-Some-clause-shown
+returns-in-Some-Some-clause-shown c = λ files g bs look h e.
     let l = c.args.types.now in
-    concludes_two c.args.place (rules.instance_rule (scope_in g bs c.args.here)) (note_shown l look c.args.x) (note_shown l look c.args.y) (c.instance_verdict-verdict.ensures.says files g bs h e) (c.part_type-first.ensures.shown l look) (c.part_type-second.ensures.shown l look) c.earlier.ensures (c.conclude.ensures.shown l look)
+    let p = c.in-Some-Some in
+    judged_two c.args.place (rules.instance_rule (scope_in g bs c.args.here)) (note_shown l look c.args.x) (note_shown l look c.args.y) (c.instance_rule.ensures.says files g bs h e) (p.ensures.shown l look) (p.ensures'.shown l look) c.earlier-least.ensures (c.conclude.ensures.shown l look)
+
+pub returns-in_default-clause-within : goal.returns-in_default-clause-within
+returns-in_default-clause-within c = c.plain.ensures.within c.args.types.now

@@ -1,12 +1,7 @@
-use Rattle.kr_types_meaning.specs.Rules as rules
-use Rattle.kr_types_judging.specs.Shown.{note_shown}
-use Rattle.kr_types_expressions.proofs.Asking.{concludes_one}
 use Rattle.kr_types_expressions.proofs.operators.unary_note.Goals as goal
 
-pub returns-clause-within : goal.returns-clause-within
-returns-clause-within c = c.conclude.ensures.within c.args.types.now c.unary_verdict-verdict.ensures.within
+pub returns-in-None-clause-within : goal.returns-in-None-clause-within
+returns-in-None-clause-within c = c.plain.ensures.within c.args.types.now
 
-pub returns-clause-shown : goal.returns-clause-shown
-returns-clause-shown c = λ look.
-    let l = c.args.types.now in
-    concludes_one c.args.place (rules.unary_rule c.args.operator) (note_shown l look c.args.x) c.unary_verdict-verdict.ensures.says (c.part_type.ensures.shown l look) (c.conclude.ensures.shown l look)
+pub returns-in-Some-clause-within : goal.returns-in-Some-clause-within
+returns-in-Some-clause-within c = c.conclude.ensures.within c.args.types.now c.unary_rule.ensures.within

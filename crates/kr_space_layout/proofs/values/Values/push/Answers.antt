@@ -6,8 +6,8 @@ use Rattle.kr_space_layout.specs.Stretches.{ArePieces, all_choices, choices_of, 
 use Rattle.kr_space_layout.proofs.Pieces.{all_long, all_push, counted_push, fit_push}
 use Rattle.kr_space_layout.proofs.values.Values.push.Goals as goal
 
-pub with-shape-requires : goal.with-shape-requires
-with-shape-requires c =
+pub with-shape-requires-clause-size : goal.with-shape-requires-clause-size
+with-shape-requires-clause-size c =
     let long = all_long 0 c.self.inside.pieces.items c.self.inside.size c.self.invariant.0.counted in
     let size : c.in-Ok.size ≡ c.self.inside.size + count_of c.args.stretch = search rules in
     omega (arith, size, long, c.self.invariant.1.size)

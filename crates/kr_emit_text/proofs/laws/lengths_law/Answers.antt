@@ -1,5 +1,0 @@
-use Rattle.kr_emit_text.proofs.Sized.{lengths}
-use Rattle.kr_emit_text.proofs.laws.lengths_law.Goals as goal
-
-pub returns : goal.returns
-returns c = λ problem vector w is. lengths problem w vector is

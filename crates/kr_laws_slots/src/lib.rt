@@ -1,2 +1,0 @@
-//! Lemmas on slots, walks and reads of every problem, which crates that run use. Nothing here runs.
-#![tactic(auto)]

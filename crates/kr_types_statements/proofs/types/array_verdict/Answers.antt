@@ -1,4 +1,0 @@
-use Rattle.kr_types_statements.proofs.types.array_verdict.Goals as goal
-
-pub returns-in-None-clause-within : goal.returns-in-None-clause-within
-returns-in-None-clause-within c = c.fine.ensures.within c.args.types.now
