@@ -3,11 +3,11 @@
 // segments that are gone, the end and whether it is spent, and then each segment as its number, owner or `-`, after, mark,
 // upto, rows and tried.
 
-use crate::texts::{
-    after_bound, after_cut, after_number, after_word, are_segments, ends, is_lease,
-};
+use crate::texts::{after_bound, after_number, after_word, are_segments, is_lease};
 use kr_base::{Bound, Cut, Span};
 use kr_core::{Core, CoreRefusal, Event, Reply, Segment, counting_law, kept_law};
+use kr_report_streaming::put_event;
+use kr_text::Line;
 use std::alloc::Global;
 use std::process::Abort;
 
@@ -96,50 +96,14 @@ fn event_of(alloc: Global, line: &str) -> Option<Event> {
     }
 }
 
-/// `KIND NUMBER NUMBER`, of an event that names a segment.
-fn after_owned<'a>(line: &'a str, kind: &str, seat: u32, segment: u64) -> Option<&'a str> {
-    let text = after_word(line, kind)?;
-    let text = after_number(text, u64::from(seat))?;
-    after_number(text, segment)
-}
-
-/// What is left of a line whose front is an event.
-fn after_event<'a>(line: &'a str, event: &Event) -> Option<&'a str> {
-    match event {
-        Event::Take { seat, segment } => after_owned(line, "take", *seat, *segment),
-        Event::Steal {
-            seat,
-            victim,
-            cut,
-            segment,
-        } => {
-            let text = after_owned(line, "steal", *seat, *victim)?;
-            let text = after_cut(text, cut)?;
-            after_number(text, *segment)
+/// Whether a text is the line of an event.
+fn is_line(alloc: Global, event: &Event, text: &str) -> bool {
+    let mut line = Line::new(alloc);
+    put_event(event, &mut line).is_ok()
+        && match line.bytes().split_last() {
+            Some((end, front)) => *end == b'\n' && front == text.as_bytes(),
+            None => false,
         }
-        Event::Report {
-            seat,
-            segment,
-            reach,
-            rows,
-            tried,
-            spent,
-        } => {
-            let text = after_owned(line, "report", *seat, *segment)?;
-            let text = after_bound(text, reach)?;
-            let text = after_number(text, *rows)?;
-            let text = after_number(text, *tried)?;
-            if *spent {
-                after_word(text, "spent")
-            } else {
-                Some(text)
-            }
-        }
-        Event::GiveUp { seat, segment } => after_owned(line, "giveup", *seat, *segment),
-        Event::Drain { rows } => after_number(after_word(line, "drain")?, *rows),
-        Event::StopAt { mark } => after_cut(after_word(line, "stop")?, mark),
-        Event::Look { seat } => after_number(after_word(line, "look")?, u64::from(*seat)),
-    }
 }
 
 fn is_reply(reply: &Reply, text: &str) -> bool {
@@ -152,12 +116,10 @@ fn is_reply(reply: &Reply, text: &str) -> bool {
 }
 
 /// Whether an event is answered so: `illegal`, where it comes back as it was.
-fn is_answered(core: &mut Core, event: Event, line: &str, reply: &str) -> bool {
+fn is_answered(alloc: Global, core: &mut Core, event: Event, line: &str, reply: &str) -> bool {
     match core.apply(event) {
         Ok(made) => is_reply(&made, reply),
-        Err(CoreRefusal::Illegal(event)) => {
-            reply == "illegal" && ends(after_event(line, &event))
-        }
+        Err(CoreRefusal::Illegal(event)) => reply == "illegal" && is_line(alloc, &event, line),
         Err(CoreRefusal::NoMemory(_)) => false,
     }
 }
@@ -246,7 +208,9 @@ fn steps(alloc: Global, core: &mut Core, line: &str, reply: &str, state: &str) -
         return false;
     };
     let fits = core.fits(&event);
-    fits == (reply != "illegal") && is_answered(core, event, line, reply) && is_state(core, state)
+    fits == (reply != "illegal")
+        && is_answered(alloc, core, event, line, reply)
+        && is_state(core, state)
 }
 
 /// Takes the events one after another. An empty state stands for the one before.

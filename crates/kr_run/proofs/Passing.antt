@@ -29,7 +29,7 @@ use Rattle.kr_run_frames.specs.declared.task.Task.{Task}
 use Rattle.kr_run_frames.specs.declared.task.Task.TheVariants as tasks
 use Rattle.kr_run_frames.specs.Frame.{Frame}
 use Rattle.kr_run_frames.specs.Frame as frames
-use Rattle.kr_run_frames.specs.Frames.{out_flow, stopped}
+use Rattle.kr_run_frames.specs.Frames.{out_flow, resumed, stopped}
 use Rattle.kr_run_frames.specs.Kept.{IsOnTop, frame_of, locals_on}
 use Rattle.kr_run_frames.specs.Leads.{Leads}
 use Rattle.kr_run_frames.proofs.Outcomes.{flow_stops, leads_same}
@@ -177,6 +177,28 @@ steps_same code (Ok More) task fs gs e w middle before o l h = leads_same code (
 steps_same code (Ok (Finished v)) task fs gs e w middle before o l h = λ x b. let y = h x b in let z = l x y.0.allowed in (kept_then before middle w x z.0 y.0, λ d m. z.1 d m ∙ y.1 d m)
 steps_same code (Err (Ended f)) task fs gs e w middle before o l h = λ x b. let y = h x b in let z = l x y.0.allowed in (kept_then before middle w x z.0 y.0, λ d m. z.1 d m ∙ y.1 d m)
 steps_same code (Err (Memory why)) task fs gs e w middle before o l h = tt
+
+-- a step that ends well, by what is in it
+pub well_is : (r : Result Step Halt) (s t : Step) → r ≡ Ok s → s ≡ t → r ≡ Ok t
+well_is r s t e f = subst (λ (u : Step). r ≡ Ok u) f e
+
+-- a step after those before
+pub step_then : (code : Code) (r : Result Step Halt) (task there : Task) (fs gs : List Frame) (w middle before : World) (o : Doing → Others → Outcome Value) → Leads code (Ok there) gs middle before o
+    → StepsTo code r task fs w middle (λ d x. resumed code d gs there (state_at middle x)) → StepsTo code r task fs w before o
+step_then code (Ok More) task there fs gs w middle before o l h = leads_same code (Ok task) fs w middle before o (λ d x. resumed code d gs there (state_at middle x)) l h
+step_then code (Ok (Finished v)) task there fs gs w middle before o l h = λ x b. let y = h x b in let z = l x y.0.allowed in (kept_then before middle w x z.0 y.0, λ d m. z.1 d m ∙ y.1 d m)
+step_then code (Err (Ended f)) task there fs gs w middle before o l h = λ x b. let y = h x b in let z = l x y.0.allowed in (kept_then before middle w x z.0 y.0, λ d m. z.1 d m ∙ y.1 d m)
+step_then code (Err (Memory why)) task there fs gs w middle before o l h = tt
+
+-- the same of what is the same
+pub step_is : (code : Code) (r r' : Result Step Halt) (task task' there there' : Task) (fs fs' gs : List Frame) (w w' before : World) → r ≡ r' → task ≡ task' → fs ≡ fs' → w ≡ w' → there ≡ there'
+    → StepsTo code r' task' fs' w' before (λ d x. resumed code d gs there' (state_at before x)) → StepsTo code r task fs w before (λ d x. resumed code d gs there (state_at before x))
+step_is code r r' task task' there there' fs fs' gs w w' before er et ef ew eh h =
+    subst (λ (q : Result Step Halt). StepsTo code q task fs w before (λ d x. resumed code d gs there (state_at before x))) (sym er)
+    (subst (λ (t : Task). StepsTo code r' t fs w before (λ d x. resumed code d gs there (state_at before x))) (sym et)
+    (subst (λ (hs : List Frame). StepsTo code r' task' hs w before (λ d x. resumed code d gs there (state_at before x))) (sym ef)
+    (subst (λ (v : World). StepsTo code r' task' fs' v before (λ d x. resumed code d gs there (state_at before x))) (sym ew)
+    (subst (λ (t : Task). StepsTo code r' task' fs' w' before (λ d x. resumed code d gs t (state_at before x))) (sym eh) h))))
 
 -- frames have been left, and then
 pub ends_then : (code : Code) (r : Result Step Halt) (task : Task) (fs gs here : List Frame) (e : Stop) (w middle before : World) → Comes code (passing.Stop e) gs middle before (λ d x. out_passing code d here (passing.Stop e) (state_at before x))

@@ -9,5 +9,5 @@ mod run;
 mod steps;
 mod unwinding;
 
-pub use run::{advance, evaluate, step};
+pub use run::{advance, evaluate};
 pub use steps::Step;

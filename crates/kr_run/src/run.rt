@@ -3,7 +3,6 @@ ghost use Rattle.std.specs.Prelude.{◌≡◌, ◌∷◌, List, MatchOption, Ok,
 ghost use Rattle.kr_value.specs.declared.value.Value.{Value as Argument};
 ghost use Rattle.kr_run_frames.specs.Frame.{Frame};
 ghost use Rattle.kr_run_frames.specs.Frame as frames;
-ghost use Rattle.kr_run_frames.specs.Kept.{IsOnTop};
 ghost use Rattle.kr_code.specs.declared.statement.Statement.TheVariants.{Declare as Declarations};
 ghost use Rattle.kr_run.specs.Statements.{IsTicked};
 ghost use Rattle.kr_run_frames.specs.declared.task.Task.TheVariants as tasks;
@@ -11,7 +10,7 @@ ghost use Rattle.kr_code.specs.Doing.{statement_done, flow_of};
 ghost use Rattle.kr_code.specs.Steps.{store_initial as store_step};
 ghost use Rattle.kr_run_frames.specs.declared.frame.Change.TheVariants as changes;
 ghost use Rattle.kr_run_frames.specs.declared.frame.FlowFrame.TheVariants as flows;
-ghost use Rattle.kr_run_frames.specs.Frames.{resumed, out_value, out_flow, out_unit, altered, cut_to, led};
+ghost use Rattle.kr_run_frames.specs.Frames.{resumed, out_value, out_flow, out_unit, altered, cut_to, led, stopped};
 ghost use Rattle.kr_mean.specs.Meaning.{completed};
 ghost use Rattle.kr_run_state.specs.Actions.{acted};
 ghost use Rattle.kr_run_frames.specs.Leads.{Leads, next_task};
@@ -214,20 +213,22 @@ fn value_frame(
     code: &Code,
     world: &mut World,
     stack: &mut Stack,
-    frame: Waiting,
     given: Value,
     task: &mut Task,
 ) -> Result<(), Halt>
-    requires { IsOnTop frame stack.old }
+    requires { (frame : Frame) × (fs : List Frame) × (stack.old ≡ frame ∷ fs) }
     ensures { Leads code.now (next_task result task.new) stack.new world.new world.old (λ d x. out_value code.now d stack.old (give given (state_at world.old x))) }
 {
-    match frame {
+    let Some(top) = stack.top() else {
+        return Err(Halt::Ended(Stop::Stuck));
+    };
+    match *top {
         Waiting::Value(waiting) => {
-            stack.drop_top();
+            stack.drop_plain();
             return take_value(alloc, code, world, stack, waiting, given, task);
         }
         Waiting::Test(waiting) => {
-            stack.drop_top();
+            stack.drop_plain();
             return take_test(code, world, stack, waiting, given, task);
         }
         Waiting::Arguments(goal, others, _) => {
@@ -237,13 +238,13 @@ fn value_frame(
             return take_up_argument(alloc, code, world, stack, up, others, given, task);
         }
         Waiting::UpEnter(up, nodes) => {
-            stack.drop_top();
+            stack.drop_plain();
             stack.push_up_arguments(up, nodes, &[])?;
             *task = Task::Arguments;
             return Ok(());
         }
         Waiting::Store(field, object) => {
-            stack.drop_top();
+            stack.drop_plain();
             return store(code, world, stack, field, object, given, task);
         }
         _ => return Err(Halt::Ended(Stop::Stuck)),
@@ -355,33 +356,34 @@ fn next_round(
 /// The topmost frame receives a statement's end.
 #[inline(always)]
 #[tactic(auto, unfolding(kr_mean::specs::Steps::bind))]
-fn flow_frame(
+fn arrive(
     alloc: Global,
     code: &Code,
     world: &mut World,
     stack: &mut Stack,
-    frame: Waiting,
     flow: Flow,
     task: &mut Task,
 ) -> Result<(), Halt>
-    requires { IsOnTop frame stack.old }
     ensures { Leads code.now (next_task result task.new) stack.new world.new world.old (λ d x. out_flow code.now d stack.old (give flow (state_at world.old x))) }
 {
-    match frame {
+    let Some(top) = stack.top() else {
+        return Err(Halt::Ended(Stop::Stuck));
+    };
+    match *top {
         Waiting::Flow(FlowFrame::Again(turn)) => {
-            stack.drop_top();
+            stack.drop_plain();
             return next_round(alloc, code, world, stack, turn, flow, task);
         }
         Waiting::Flow(waiting) => {
-            stack.drop_top();
+            stack.drop_plain();
             return take_flow(code, world, stack, waiting, flow, task);
         }
         Waiting::Scope(count) => {
-            stack.drop_top();
+            stack.drop_plain();
             return end_scope(code, world, stack, count as usize, flow, task);
         }
         Waiting::Catch(_) => {
-            stack.drop_top();
+            stack.drop_plain();
             *task = Task::Led(flow);
             return Ok(());
         }
@@ -389,7 +391,7 @@ fn flow_frame(
             return leave(code, world, stack, is_void, this, flow, task);
         }
         Waiting::Complete => {
-            stack.drop_top();
+            stack.drop_plain();
             return complete(code, world, stack, flow, task);
         }
         _ => return Err(Halt::Ended(Stop::Stuck)),
@@ -435,20 +437,21 @@ fn construct_on(
 
 /// A step without a value is done, and the topmost frame waited for it.
 #[tactic(auto, unfolding(kr_mean::specs::Steps::bind))]
-fn unit_frame(
+fn give_nothing(
     alloc: Global,
     code: &Code,
     world: &mut World,
     stack: &mut Stack,
-    frame: Waiting,
     task: &mut Task,
 ) -> Result<(), Halt>
-    requires { IsOnTop frame stack.old }
     ensures { Leads code.now (next_task result task.new) stack.new world.new world.old (λ d x. out_unit code.now d stack.old (give tt (state_at world.old x))) }
 {
-    match frame {
+    let Some(top) = stack.top() else {
+        return Err(Halt::Ended(Stop::Stuck));
+    };
+    match *top {
         Waiting::Unit(waiting) => {
-            stack.drop_top();
+            stack.drop_plain();
             return take_unit(code, world, stack, waiting, task);
         }
         Waiting::Construct(line, object, _) => {
@@ -456,7 +459,7 @@ fn unit_frame(
         }
         Waiting::Back(this, _) => return go_back(code, world, stack, this, task),
         Waiting::Made(object) => {
-            stack.drop_top();
+            stack.drop_plain();
             *task = Task::Got(object);
             return Ok(());
         }
@@ -483,7 +486,38 @@ fn act_on(
     }
 }
 
-/// The next task, except where a frame receives a value.
+/// An expression, not in the loop.
+#[inline(never)]
+fn evaluate_apart(
+    alloc: Global,
+    code: &Code,
+    world: &mut World,
+    stack: &mut Stack,
+    node: u32,
+    task: &mut Task,
+) -> Result<(), Halt>
+    ensures { Leads code.now (next_task result task.new) stack.new world.new world.old (λ d x. out_value code.now d stack.old (d.value node (state_at world.old x))) }
+{
+    evaluate_node(alloc, code, world, stack, node, task)
+}
+
+/// A statement, not in the loop.
+#[inline(never)]
+fn execute_apart(
+    alloc: Global,
+    code: &Code,
+    world: &mut World,
+    stack: &mut Stack,
+    node: u32,
+    task: &mut Task,
+) -> Result<(), Halt>
+    ensures { Leads code.now (next_task result task.new) stack.new world.new world.old (λ d x. out_flow code.now d stack.old (d.exec node (state_at world.old x))) }
+{
+    execute_node(alloc, code, world, stack, node, task)
+}
+
+/// The next task, except where a frame receives a value. Expressions and statements, which the loop has itself, are calls here, so
+/// that this is small enough to stand in the loop too.
 #[inline(always)]
 #[tactic(auto, unfolding(kr_mean::specs::Steps::bind))]
 fn do_task(
@@ -496,8 +530,8 @@ fn do_task(
     ensures { Leads code.now (next_task result task.new) stack.new world.new world.old (λ d x. resumed code.now d stack.old task.old (state_at world.old x)) }
 {
     match *task {
-        Task::Evaluate(node) => return evaluate_node(alloc, code, world, stack, node, task),
-        Task::Execute(node) => return execute_node(alloc, code, world, stack, node, task),
+        Task::Evaluate(node) => return evaluate_apart(alloc, code, world, stack, node, task),
+        Task::Execute(node) => return execute_apart(alloc, code, world, stack, node, task),
         Task::Led(flow) => return give_flow(alloc, code, world, stack, flow, task),
         Task::Done => return give_nothing(alloc, code, world, stack, task),
         Task::Act(action) => return act_on(alloc, code, world, stack, action, task),
@@ -520,50 +554,6 @@ fn do_task(
     }
 }
 
-/// The topmost frame receives a value, or the run has it.
-#[inline(always)]
-#[tactic(auto, using(crate::proofs::Passing::steps_same))]
-fn give_value(
-    alloc: Global,
-    code: &Code,
-    world: &mut World,
-    stack: &mut Stack,
-    given: Value,
-    task: &mut Task,
-) -> Result<Step, Halt>
-    ensures { StepsTo code.now result task.new stack.new world.new world.old (λ d x. out_value code.now d stack.old (give given (state_at world.old x))) }
-{
-    let Some(top) = stack.top() else {
-        return Ok(Step::Finished(given));
-    };
-    let frame = *top;
-    match value_frame(alloc, code, world, stack, frame, given, task) {
-        Ok(()) => return Ok(Step::More),
-        Err(Halt::Ended(why)) => return end(code, world, stack, why, task),
-        Err(Halt::Memory(why)) => return Err(Halt::Memory(why)),
-    }
-}
-
-/// The topmost frame receives a statement's end.
-#[inline(always)]
-#[tactic(auto, unfolding(kr_mean::specs::Steps::bind))]
-fn arrive(
-    alloc: Global,
-    code: &Code,
-    world: &mut World,
-    stack: &mut Stack,
-    flow: Flow,
-    task: &mut Task,
-) -> Result<(), Halt>
-    ensures { Leads code.now (next_task result task.new) stack.new world.new world.old (λ d x. out_flow code.now d stack.old (give flow (state_at world.old x))) }
-{
-    let Some(top) = stack.top() else {
-        return Err(Halt::Ended(Stop::Stuck));
-    };
-    let frame = *top;
-    return flow_frame(alloc, code, world, stack, frame, flow, task);
-}
-
 /// The frame that waits for it receives a statement's end.
 #[inline(always)]
 #[tactic(auto, using(crate::proofs::Passing::comes_then))]
@@ -584,28 +574,92 @@ fn give_flow(
     return arrive(alloc, code, world, stack, flow, task);
 }
 
-/// A step without a value is done.
-#[tactic(auto, unfolding(kr_mean::specs::Steps::bind))]
-fn give_nothing(
+/// The run stops: what `end` answers, in parts.
+#[inline(always)]
+fn stops(
+    code: &Code,
+    world: &mut World,
+    stack: &mut Stack,
+    why: Stop,
+    task: &mut Task,
+) -> Result<Step, Halt>
+    ensures { StepsTo code.now result task.new stack.new world.new world.old (λ d x. stopped code.now d stack.old why (state_at world.old x)) }
+{
+    match end(code, world, stack, why, task) {
+        Ok(Step::More) => return Ok(Step::More),
+        Ok(Step::Finished(given)) => return Ok(Step::Finished(given)),
+        Err(Halt::Ended(why)) => return Err(Halt::Ended(why)),
+        Err(Halt::Memory(why)) => return Err(Halt::Memory(why)),
+    }
+}
+
+/// The topmost frame receives a value, or the run has it.
+#[inline(always)]
+#[tactic(auto, using(crate::proofs::Passing::steps_same))]
+fn value_step(
     alloc: Global,
     code: &Code,
     world: &mut World,
     stack: &mut Stack,
+    given: Value,
     task: &mut Task,
-) -> Result<(), Halt>
-    ensures { Leads code.now (next_task result task.new) stack.new world.new world.old (λ d x. out_unit code.now d stack.old (give tt (state_at world.old x))) }
+) -> Result<Step, Halt>
+    ensures { StepsTo code.now result task.new stack.new world.new world.old (λ d x. out_value code.now d stack.old (give given (state_at world.old x))) }
 {
-    let Some(top) = stack.top() else {
-        return Err(Halt::Ended(Stop::Stuck));
+    let Some(_) = stack.top() else {
+        return Ok(Step::Finished(given));
     };
-    let frame = *top;
-    return unit_frame(alloc, code, world, stack, frame, task);
+    match value_frame(alloc, code, world, stack, given, task) {
+        Ok(()) => return Ok(Step::More),
+        Err(Halt::Ended(why)) => return stops(code, world, stack, why, task),
+        Err(Halt::Memory(why)) => return Err(Halt::Memory(why)),
+    }
 }
 
-/// One step: the next task comes in place of the one that is done. Where the run stops frames are left, all of them unless one catches it.
+/// An expression, as one step.
 #[inline(always)]
 #[tactic(auto, using(crate::proofs::Passing::steps_same))]
-pub fn step(
+fn evaluate_step(
+    alloc: Global,
+    code: &Code,
+    world: &mut World,
+    stack: &mut Stack,
+    node: u32,
+    task: &mut Task,
+) -> Result<Step, Halt>
+    ensures { StepsTo code.now result task.new stack.new world.new world.old (λ d x. out_value code.now d stack.old (d.value node (state_at world.old x))) }
+{
+    match evaluate_node(alloc, code, world, stack, node, task) {
+        Ok(()) => return Ok(Step::More),
+        Err(Halt::Ended(why)) => return stops(code, world, stack, why, task),
+        Err(Halt::Memory(why)) => return Err(Halt::Memory(why)),
+    }
+}
+
+/// A statement, as one step.
+#[inline(always)]
+#[tactic(auto, using(crate::proofs::Passing::steps_same))]
+fn execute_step(
+    alloc: Global,
+    code: &Code,
+    world: &mut World,
+    stack: &mut Stack,
+    node: u32,
+    task: &mut Task,
+) -> Result<Step, Halt>
+    ensures { StepsTo code.now result task.new stack.new world.new world.old (λ d x. out_flow code.now d stack.old (d.exec node (state_at world.old x))) }
+{
+    match execute_node(alloc, code, world, stack, node, task) {
+        Ok(()) => return Ok(Step::More),
+        Err(Halt::Ended(why)) => return stops(code, world, stack, why, task),
+        Err(Halt::Memory(why)) => return Err(Halt::Memory(why)),
+    }
+}
+
+/// Any other task, as one step.
+#[inline(always)]
+#[tactic(auto, using(crate::proofs::Passing::steps_same))]
+fn other_step(
     alloc: Global,
     code: &Code,
     world: &mut World,
@@ -614,13 +668,10 @@ pub fn step(
 ) -> Result<Step, Halt>
     ensures { StepsTo code.now result task.new stack.new world.new world.old (λ d x. resumed code.now d stack.old task.old (state_at world.old x)) }
 {
-    match *task {
-        Task::Got(given) => return give_value(alloc, code, world, stack, given, task),
-        _ => match do_task(alloc, code, world, stack, task) {
-            Ok(()) => return Ok(Step::More),
-            Err(Halt::Ended(why)) => return end(code, world, stack, why, task),
-            Err(Halt::Memory(why)) => return Err(Halt::Memory(why)),
-        },
+    match do_task(alloc, code, world, stack, task) {
+        Ok(()) => return Ok(Step::More),
+        Err(Halt::Ended(why)) => return stops(code, world, stack, why, task),
+        Err(Halt::Memory(why)) => return Err(Halt::Memory(why)),
     }
 }
 
@@ -634,7 +685,8 @@ fn may_read(task: &Task) -> bool {
     }
 }
 
-/// Steps on to where a step may read, or to the run's end.
+/// Steps on to where a step may read, or to the run's end: the next task comes in place of the one that is done. Where the run
+/// stops frames are left, all of them unless one catches it. The tasks that come most are told apart here, in the loop.
 pub fn advance(
     alloc: Global,
     code: &Code,
@@ -647,15 +699,22 @@ pub fn advance(
     let mut left = Countdown::start();
     'steps: while !left.is_over() {
         left.count();
-        match step(alloc, code, world, stack, task) {
-            Err(Halt::Ended(end)) => return Err(Halt::Ended(end)),
-            Err(Halt::Memory(why)) => return Err(Halt::Memory(why)),
-            Ok(Step::Finished(given)) => return Ok(Step::Finished(given)),
-            Ok(Step::More) => {
-                if may_read(task) {
-                    return Ok(Step::More);
+        let step = match *task {
+            Task::Got(given) => value_step(alloc, code, world, stack, given, task),
+            Task::Evaluate(node) => evaluate_step(alloc, code, world, stack, node, task),
+            Task::Execute(node) => execute_step(alloc, code, world, stack, node, task),
+            _ => other_step(alloc, code, world, stack, task),
+        };
+        match step {
+            Err(halt) => return Err(halt),
+            Ok(next) => match next {
+                Step::Finished(given) => return Ok(Step::Finished(given)),
+                Step::More => {
+                    if may_read(task) {
+                        return Ok(Step::More);
+                    }
                 }
-            }
+            },
         }
     }
     Err(Halt::Memory(left.at_end()))

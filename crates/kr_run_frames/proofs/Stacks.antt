@@ -122,6 +122,28 @@ values_there ws n w vs ls some below is = its_values w (reverse (take (n - 1) ws
 pub locals_there : (ws : List Waiting) (n : ℕ) (w : Waiting) (vs : List Value) (ls : List Local) → 0 < n → n ≤ length ws → w ≡ get_or ws (n - 1) w → drop (locals_from w (length ls)) ls ≡ locals_on (unpacked (reverse (take n ws)) vs ls)
 locals_there ws n w vs ls some below is = its_locals w (reverse (take (n - 1) ws)) vs ls ∙ ap (λ (us : List Waiting). locals_on (unpacked us vs ls)) (sym (top_first ws n w some below is))
 
+-- where nothing is left after so many, those are all
+none_left : {A : Type 0} (k : ℕ) (xs : List A) → drop k xs ≡ [] → take k xs ≡ xs
+none_left zero [] e = refl
+none_left zero (x ∷ xs) e = absurd (cc (e))
+none_left (suc k) [] e = refl
+none_left (suc k) (x ∷ xs) e = ap (λ ys. x ∷ ys) (none_left k xs e)
+
+-- a frame whose lists are empty goes, and the lists stay
+pub plainly : (ws : List Waiting) (n : ℕ) (vs : List Value) (ls : List Local) → 0 < n → n ≤ length ws → values_on (unpacked (reverse (take n ws)) vs ls) ≡ [] → locals_on (unpacked (reverse (take n ws)) vs ls) ≡ [] → unpacked (reverse (take (n - 1) ws)) vs ls ≡ drop 1 (unpacked (reverse (take n ws)) vs ls)
+plainly ws n vs ls some below no_vs no_ls =
+    let w : Waiting = get_or ws (n - 1) kept.Complete in
+    let in_them : n - 1 < length ws = omega (arith, some, below) in
+    let is = get_or_default ws (n - 1) kept.Complete w in_them in
+    let us = reverse (take (n - 1) ws) in
+    let values = none_left (values_from w (length vs)) vs (values_there ws n w vs ls some below is ∙ no_vs) in
+    let locals = none_left (locals_from w (length ls)) ls (locals_there ws n w vs ls some below is ∙ no_ls) in
+    sym (
+    ap (λ (xs : List Waiting). drop 1 (unpacked xs vs ls)) (top_first ws n w some below is)
+    ∙ ap (λ (xs : List Value). unpacked us xs (take (locals_from w (length ls)) ls)) values
+    ∙ ap (λ (xs : List Local). unpacked us vs xs) locals
+    )
+
 -- ---- one frame more
 
 same_lists : (w : Waiting) → HasNoList w → (vs us : List Value) (ls ms : List Local) → frame_of w vs ls ≡ frame_of w us ms

@@ -193,6 +193,20 @@ impl Stack {
         self.top = top;
     }
 
+    /// The topmost frame goes, if there is one: one whose lists are empty.
+    #[inline(always)]
+    #[tactic(auto, using(crate::proofs::Stacks::plainly))]
+    pub fn drop_plain(&mut self)
+        requires values { values_on self.old ≡ [] }
+        requires locals { locals_on self.old ≡ [] }
+        ensures { self.new ≡ drop 1 self.old }
+    {
+        if self.top == 0 {
+            return;
+        }
+        self.top = self.top - 1;
+    }
+
     /// The topmost frame goes, if there is one, and the values that it has come in place of these.
     #[tactic(auto, using(crate::proofs::Stacks::values_there))]
     pub fn take_values(&mut self, into: &mut Vec<Value>) -> Result<(), NoMemory>

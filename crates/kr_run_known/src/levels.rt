@@ -97,7 +97,7 @@ fn local_of(code: &Code, world: &World, number: u32, fuel: u64) -> Option<Known>
 }
 
 /// The field of a name, of `this`.
-#[inline(always)]
+#[inline(never)]
 fn own_field(code: &Code, world: &World, name: u32, fuel: u64) -> Option<Known>
     ensures { IfSome result (λ k. Knows code.now world.now fuel k (λ d. bind get_this (load_named code.now name))) }
 {
@@ -437,7 +437,7 @@ fn value_in<L: Look>(
             fuel,
         }),
         Expression::Local(number) => local_of(code, world, *number, fuel),
-        Expression::OwnField(name) => own_field(code, world, *name, fuel),
+        Expression::OwnField(name) => again(own_field(code, world, *name, fuel)),
         Expression::FieldOf { object, name } => {
             near_field::<L>(code, world, *object, *name, fuel)
         }

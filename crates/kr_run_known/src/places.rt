@@ -1,6 +1,7 @@
 // Locals, fields and elements whose values are known.
-ghost use Rattle.std.specs.Prelude.{◌≡◌, ◌+◌, ◌<◌, [], true, IfSome, length, option_map, slice_get, ◌∷◌};
+ghost use Rattle.std.specs.Prelude.{◌≡◌, ◌+◌, ◌<◌, [], true, IfSome, Some, length, option_map, slice_get, ◌∷◌};
 ghost use Rattle.kr_value.specs.declared.value.Value.TheVariants.{Int, Ref as Reference};
+ghost use Rattle.kr_value.specs.declared.object.Spot.TheVariants.{Length};
 ghost use Rattle.kr_value.specs.Heaps.{object_in};
 ghost use Rattle.kr_code.specs.Steps.{load_named};
 ghost use Rattle.kr_mean.specs.Steps.{bind, collect as collect_step, element as element_step, load as load_step, place_reads, read_local};
@@ -24,6 +25,14 @@ fn found_in(locals: &Vec<Local>, local: u32) -> Option<Local>
     locals.get(local as usize).copied()
 }
 
+/// Whether a parameter that a candidate gives was read.
+#[inline(never)]
+fn was_asked(world: &World, number: u32) -> bool
+    ensures { result ≡ true → noted_once world.now.reads (place_reads (Some (Parameter number))) ≡ world.now.reads }
+{
+    world.reads.contains(SlotPlace::Parameter(number))
+}
+
 /// Whether a local is no parameter that a candidate gives, or one that was read.
 #[inline(always)]
 fn is_free(world: &World, parameter: Option<u32>) -> bool
@@ -31,7 +40,7 @@ fn is_free(world: &World, parameter: Option<u32>) -> bool
 {
     match parameter {
         None => true,
-        Some(number) => world.reads.contains(SlotPlace::Parameter(number)),
+        Some(number) => was_asked(world, number),
     }
 }
 
@@ -86,6 +95,14 @@ fn loaded(world: &World, object: Obj, spot: Spot) -> Option<Value>
     }
 }
 
+/// An array's length. It is no part of the code of fields, which stands in each place that looks for a value.
+#[inline(never)]
+fn array_length(world: &World, object: Obj) -> Option<Value>
+    ensures { IfSome result (λ v. Shows world.now v (load_step (Reference object) Length)) }
+{
+    loaded(world, object, Spot::Length)
+}
+
 /// The field of a name, or an array's length.
 #[inline(always)]
 #[tactic(auto, unfolding(kr_mean::specs::Steps::bind))]
@@ -100,7 +117,7 @@ pub fn field(code: &Code, world: &World, name: u32, object: Value) -> Option<Val
             },
             Class::Array(_) => {
                 if name == 0 {
-                    loaded(world, number, Spot::Length)
+                    array_length(world, number)
                 } else {
                     None
                 }

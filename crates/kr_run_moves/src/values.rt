@@ -136,7 +136,7 @@ pub(crate) fn feed_test(
     };
     match *top {
         Waiting::Test(frame) => {
-            stack.drop_top();
+            stack.drop_plain();
             return take_test(code, world, stack, frame, given, task);
         }
         _ => {
@@ -217,27 +217,27 @@ pub fn feed(
     };
     match *top {
         Waiting::Value(ValueFrame::Unary(operation)) => {
-            stack.drop_top();
+            stack.drop_plain();
             return operate_alone(code, world, stack, operation, given, task);
         }
         Waiting::Value(ValueFrame::Left(operation, right)) => {
-            stack.drop_top();
+            stack.drop_plain();
             return take_left(code, world, stack, operation, right, given, task);
         }
         Waiting::Value(ValueFrame::Right(operation, left)) => {
-            stack.drop_top();
+            stack.drop_plain();
             return operate(code, world, stack, operation, left, given, task);
         }
         Waiting::Value(ValueFrame::Write(WriteFrame::Put(Cell::Local(local)))) => {
-            stack.drop_top();
+            stack.drop_plain();
             return store_local(code, world, stack, local, given, given, task);
         }
         Waiting::Test(TestFrame::Initial(local, others)) => {
-            stack.drop_top();
+            stack.drop_plain();
             return take_initial(code, world, stack, local, others, given, task);
         }
         Waiting::Test(frame) => {
-            stack.drop_top();
+            stack.drop_plain();
             return take_test(code, world, stack, frame, given, task);
         }
         _ => {

@@ -1,13 +1,10 @@
 // The array types that `class A { int[][] v = new A[7]; }` names.
-ghost use Rattle.std.specs.Prelude.{◌<◌, length};
 ghost use Rattle.kr_space_names.specs.Collected.{AreNumbers};
-ghost use Rattle.kr_classes_names.specs.Shown.{AreHeads};
+ghost use Rattle.kr_sources.specs.Sources.{AreSources};
 
-use crate::tests::files::one_file;
-use kr_ast::Tree;
 use kr_base::NoMemory;
-use kr_classes_names::{Heads, NodeTypes, TypeForm, Types};
-use kr_sources::Unread;
+use kr_classes_names::{NodeTypes, TypeForm, Types};
+use kr_sources::{Check, Sources, Unread, holds_of};
 use kr_space_names::array_types;
 use std::alloc::Global;
 
@@ -21,40 +18,30 @@ fn forms_fit(types: &Types, arrays: &[u32], class: u32) -> bool
         && types.form(arrays[2]) == TypeForm::Array(class)
 }
 
-fn types_fit(
-    alloc: Global,
-    trees: &[Tree],
-    heads: &Heads,
-    types: &mut Types,
-) -> Result<bool, NoMemory>
-    requires few { length trees.now < 65 }
-    requires heads { AreHeads trees.now heads.now }
+fn types_fit(alloc: Global, sources: &Sources<'_>, types: &mut Types) -> Result<bool, NoMemory>
+    requires { AreSources sources.now }
 {
     let class = types.number(TypeForm::Class(0))?;
-    let numbers = NodeTypes::read(alloc, trees, heads, types)?;
-    let arrays = array_types(alloc, types, trees, &numbers)?.into_vec();
+    let numbers = NodeTypes::read(alloc, sources.trees, sources.heads, types)?;
+    let arrays = array_types(alloc, types, sources.trees, &numbers)?.into_vec();
     Ok(forms_fit(types, &arrays, class))
 }
 
-fn heads_fit(alloc: Global, trees: &[Tree], heads: &Heads) -> Result<bool, NoMemory>
-    requires few { length trees.now < 65 }
-    requires heads { AreHeads trees.now heads.now }
-{
-    let mut types = Types::new(alloc)?;
-    types_fit(alloc, trees, heads, &mut types)
-}
+/// The array types that the sources name are these three.
+#[derive(Clone, Copy)]
+struct ThreeArrays;
 
-fn trees_fit(alloc: Global, trees: &[Tree]) -> Result<bool, NoMemory>
-    requires { length trees.now < 65 }
-{
-    let heads = Heads::read(alloc, trees)?;
-    heads_fit(alloc, trees, &heads)
+impl Check for ThreeArrays {
+    fn holds(&self, alloc: Global, sources: &Sources<'_>) -> Result<bool, NoMemory> {
+        let mut types = Types::new(alloc)?;
+        types_fit(alloc, sources, &mut types)
+    }
 }
 
 #[test]
 fn three_array_types(rt: HostRuntime) -> Result<(), Unread> {
-    let trees = one_file(rt.alloc(), "class A { int[][] v = new A[7]; }")?;
-    let fit = trees_fit(rt.alloc(), &trees)?;
-    assert!(rt; fit);
+    let source = "class A { int[][] v = new A[7]; }";
+    let holds = holds_of(rt.alloc(), &ThreeArrays, source, "")?;
+    assert!(rt; holds);
     Ok(())
 }

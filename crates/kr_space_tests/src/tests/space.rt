@@ -1,18 +1,14 @@
 // The least rule that small documents break beside a class without members.
-ghost use Rattle.std.specs.Prelude.{◌<◌, length};
 ghost use Rattle.kr_space_meaning.specs.Limits.{IsWithinLimits};
 ghost use Rattle.kr_space_rules.specs.Classes.{AreClasses, AreTyped};
-ghost use Rattle.kr_classes_members.specs.Kept.{AreMembers};
-ghost use Rattle.kr_classes_names.specs.Shown.{AreHeads};
+ghost use Rattle.kr_sources.specs.Sources.{AreSources};
 
-use crate::tests::files::{document_of, one_file};
-use kr_ast::Tree;
+use crate::tests::files::document_of;
 use kr_base::{Fault, NoMemory};
-use kr_classes_members::Members;
-use kr_classes_names::{Heads, NodeTypes, Types};
+use kr_classes_names::{NodeTypes, Types};
 use kr_fin::FinDoc;
 use kr_mean::Mode;
-use kr_sources::Unread;
+use kr_sources::{Check, Sources, Unread, holds_of};
 use kr_space::judge_space;
 use kr_space_meaning::{SpaceRefusal, SpaceRule};
 use kr_space_rules::Classes;
@@ -22,96 +18,68 @@ fn is_fault(fault: &Fault<SpaceRule>, code: &str, item: &str) -> bool {
     fault.rule.code() == code && fault.item.as_bytes() == item.as_bytes()
 }
 
-// Whether that is the least rule that a document breaks, at that item.
+/// A document, the first rule that it breaks, and at which item.
+#[derive(Clone, Copy)]
+struct Row {
+    text: &'static str,
+    code: &'static str,
+    item: &'static str,
+}
+
 fn is_least(
     alloc: Global,
     classes: &Classes,
     types: &mut Types,
     document: &FinDoc,
-    code: &str,
-    item: &str,
+    row: Row,
 ) -> bool
     requires classes { AreClasses classes.now }
     requires typed { AreTyped classes.now types.old }
     requires limits { IsWithinLimits document.now }
 {
     match judge_space(alloc, classes, types, document, &Mode::List) {
-        Err(SpaceRefusal::Broken(fault)) => is_fault(&fault, code, item),
+        Err(SpaceRefusal::Broken(fault)) => is_fault(&fault, row.code, row.item),
         _ => false,
     }
 }
 
-// Likewise of a text.
-fn is_least_in(
-    alloc: Global,
-    classes: &Classes,
-    types: &mut Types,
-    text: &str,
-    code: &str,
-    item: &str,
-) -> bool
+fn is_least_in(alloc: Global, classes: &Classes, types: &mut Types, row: Row) -> bool
     requires classes { AreClasses classes.now }
     requires typed { AreTyped classes.now types.old }
 {
-    match document_of(alloc, text) {
+    match document_of(alloc, row.text) {
         Err(_) => false,
-        Ok(document) => is_least(alloc, classes, types, &document, code, item),
+        Ok(document) => is_least(alloc, classes, types, &document, row),
     }
 }
 
 fn is_least_among(
     alloc: Global,
-    trees: &[Tree],
-    heads: &Heads,
-    members: &Members,
+    sources: &Sources<'_>,
     types: &mut Types,
-    text: &str,
-    code: &str,
-    item: &str,
+    row: Row,
 ) -> Result<bool, NoMemory>
-    requires few { length trees.now < 65 }
-    requires heads { AreHeads trees.now heads.now }
-    requires members { AreMembers trees.now members.now }
+    requires { AreSources sources.now }
 {
-    let numbers = NodeTypes::read(alloc, trees, heads, types)?;
+    let numbers = NodeTypes::read(alloc, sources.trees, sources.heads, types)?;
     let classes = Classes {
-        trees,
-        heads,
-        members,
+        trees: sources.trees,
+        heads: sources.heads,
+        members: sources.members,
         numbers: &numbers,
     };
-    Ok(is_least_in(alloc, &classes, types, text, code, item))
+    Ok(is_least_in(alloc, &classes, types, row))
 }
 
-// Whether a text breaks that rule at that item first, beside these files.
-fn is_least_beside(
-    alloc: Global,
-    trees: &[Tree],
-    heads: &Heads,
-    members: &Members,
-    text: &str,
-    code: &str,
-    item: &str,
-) -> Result<bool, NoMemory>
-    requires few { length trees.now < 65 }
-    requires heads { AreHeads trees.now heads.now }
-    requires members { AreMembers trees.now members.now }
-{
-    let mut types = Types::new(alloc)?;
-    is_least_among(alloc, trees, heads, members, &mut types, text, code, item)
+impl Check for Row {
+    fn holds(&self, alloc: Global, sources: &Sources<'_>) -> Result<bool, NoMemory> {
+        let mut types = Types::new(alloc)?;
+        is_least_among(alloc, sources, &mut types, *self)
+    }
 }
 
-// The first text that doesn't.
-fn wrong_row(
-    alloc: Global,
-    trees: &[Tree],
-    heads: &Heads,
-    members: &Members,
-) -> Result<Option<&'static str>, NoMemory>
-    requires few { length trees.now < 65 }
-    requires heads { AreHeads trees.now heads.now }
-    requires members { AreMembers trees.now members.now }
-{
+#[test]
+fn least_rules(rt: HostRuntime) -> Result<(), Unread> {
     for (text, code, item) in [
         ("root='M'\nfuel=1", "S1", "root"),
         ("root='N'\nfuel=1\n[objects]\nN=1\nA=1", "S1", "objects.A"),
@@ -152,37 +120,9 @@ fn wrong_row(
             "root",
         ),
     ] {
-        let is_least = is_least_beside(alloc, trees, heads, members, text, code, item)?;
-        if !is_least {
-            return Ok(Some(text));
-        }
+        let row = Row { text, code, item };
+        let is_least = holds_of(rt.alloc(), &row, "class N { }", "")?;
+        assert!(rt; is_least, "{text}");
     }
-    Ok(None)
-}
-
-fn wrong_beside(
-    alloc: Global,
-    trees: &[Tree],
-    heads: &Heads,
-) -> Result<Option<&'static str>, NoMemory>
-    requires few { length trees.now < 65 }
-    requires heads { AreHeads trees.now heads.now }
-{
-    let members = Members::read(alloc, trees, heads)?;
-    wrong_row(alloc, trees, heads, &members)
-}
-
-fn wrong_in(alloc: Global, trees: &[Tree]) -> Result<Option<&'static str>, NoMemory>
-    requires { length trees.now < 65 }
-{
-    let heads = Heads::read(alloc, trees)?;
-    wrong_beside(alloc, trees, &heads)
-}
-
-#[test]
-fn least_rules(rt: HostRuntime) -> Result<(), Unread> {
-    let trees = one_file(rt.alloc(), "class N { }")?;
-    let wrong = wrong_in(rt.alloc(), &trees)?;
-    assert_eq!(rt; wrong, None);
     Ok(())
 }
